@@ -1,0 +1,2 @@
+pub mod Broker
+pub mod Cases

@@ -1,0 +1,208 @@
+-- Refusals come exactly from document 01's table, and a refused call changes and sends nothing: the claims of specs/Refusals. Assumes nothing.
+use Prim.Native.Nat.{ℕ, _≤_}
+use native.Mathlib.Omega.{arith}
+use mathlib.Core.Path.{_≡_, refl, sym, _∙_, ap, subst, subst⁻¹}
+use mathlib.Core.Bool.{Bool, true, false, not, _&&_, _||_, true≢false}
+use mathlib.Core.List.{List, [], _∷_, _++_}
+use mathlib.Core.Option.{Option, none, some}
+use lib.Dec.{leb, ltb, eqb}
+use lib.ListN.{drop}
+use borrow.Author.Tests.{leb-true, eqb-true, eqb-false}
+use Rattle.definition.specs.Base.{if_then_else_, all, is-some}
+use Rattle.definition.specs.Types.{Dest}
+use Rattle.definition.specs.Consumer.{zeroStats}
+use Rattle.definition.specs.Calls.{Lengths, stateShort, short, sound, Call, discarding, missing, argumentsOk, ownRefusal, Result, refused, refusal, call}
+use Rattle.definition.specs.Words.{provided, read, inRange, decode, openWords, openStep, callStep, step}
+use Rattle.definition.specs.Queries.{queryRefusal, queryOk, query, counters, pageMax, Page, page}
+use Rattle.definition.specs.Layout.{Buffers, view, formed, soundBuffers, lengthsOf, bufferStep}
+use Rattle.definition.specs.Refusals.{Place, table, places, bufferPlaces, uncodedPlaces, queryPlaces, passes, Comes, Exact, Refuses, StepRefuses, BufferRefuses, UncodedRefuses, QueryRefuses, CountersRefuse, PageRefuses}
+use Rattle.definition.proofs.Lists.{by-if, by-test, if-true, if-false, none-some, some-inj}
+use Rattle.definition.proofs.Thin.{and-left, and-right, and-both}
+use Rattle.definition.proofs.Made.{inRange-ok, step-call}
+
+-- ---- the first place that refuses
+
+abbrev first : List Place → ℕ
+first [] = 0
+first (p ∷ ps) = if p .test then p .number else first ps
+
+comes : (ps : List Place) (n : ℕ) → 1 ≤ n → first ps ≡ n → Comes n ps
+comes [] n h e = absurd (omega (arith, h, e))
+comes (p ∷ ps) n h e = by-test (p .test)
+    (λ c. record { before = []; here = p; after = ps; split = refl; passed = refl; refuses = c; numbered = sym (if-true (p .number) (first ps) c) ∙ e })
+    (λ c.
+    let r = comes ps n h (sym (if-false (p .number) (first ps) c) ∙ e) in
+    record { before = p ∷ r .before; here = r .here; after = r .after; split = ap (λ (l : List Place). p ∷ l) (r .split); passed = and-both _ _ (ap not c) (r .passed); refuses = r .refuses; numbered = r .numbered })
+
+first-of : (before after : List Place) (here : Place) → all passes before ≡ true → here .test ≡ true → first (before ++ here ∷ after) ≡ here .number
+first-of [] after here h c = if-true (here .number) (first after) c
+first-of (p ∷ before) after here h c = by-test (p .test)
+    (λ d. absurd (true≢false (sym (and-left _ _ h) ∙ ap not d)))
+    (λ d. if-false (p .number) (first (before ++ here ∷ after)) d ∙ first-of before after here (and-right (passes p) _ h) c)
+
+all-pass : (ps : List Place) → all (λ p. leb 1 (p .number)) ps ≡ true → first ps ≡ 0 → all passes ps ≡ true
+all-pass [] h e = refl
+all-pass (p ∷ ps) h e = by-test (p .test)
+    (λ c. absurd (omega (arith, leb-true 1 (p .number) (and-left _ _ h), sym (if-true (p .number) (first ps) c) ∙ e)))
+    (λ c. and-both _ _ (ap not c) (all-pass ps (and-right (leb 1 (p .number)) _ h) (sym (if-false (p .number) (first ps) c) ∙ e)))
+
+none-refuses : (ps : List Place) → all passes ps ≡ true → first ps ≡ 0
+none-refuses [] h = refl
+none-refuses (p ∷ ps) h = by-test (p .test)
+    (λ d. absurd (true≢false (sym (and-left _ _ h) ∙ ap not d)))
+    (λ d. if-false (p .number) (first ps) d ∙ none-refuses ps (and-right (passes p) _ h))
+
+-- a refusal that is the first place's number is exact
+exact : (refusal : ℕ) (ps : List Place) → all (λ p. leb 1 (p .number)) ps ≡ true → refusal ≡ first ps → Exact refusal ps
+exact refusal ps h e = record {
+  number = λ n m. (λ q. comes ps n m (sym e ∙ q), λ r. e ∙ ap first (r .split) ∙ first-of (r .before) (r .after) (r .here) (r .passed) (r .refuses) ∙ r .numbered);
+  accepted = (λ q. all-pass ps h (sym e ∙ q), λ q. e ∙ none-refuses ps q);
+}
+
+-- ---- a call of the call file
+
+-- the table's places after 9
+abbrev own : ℕ → List ℕ → Dest → List Place
+own code ws t = drop 4 (table false true code ws t)
+
+abbrev Own : ℕ → List ℕ → Dest → Option Call → Type 0
+Own code ws t o = (c : Call) → o ≡ some c → ownRefusal t c ≡ first (own code ws t)
+
+provided-own : (code n : ℕ) (ws : List ℕ) (t : Dest) (b : Bool) (d : Call) → eqb code n ≡ true → ownRefusal t d ≡ first (own n ws t) → Own code ws t (provided b d)
+unfolding provided
+provided-own code n ws t true d e h c q = ap (ownRefusal t) (sym (some-inj q)) ∙ h ∙ ap (λ (k : ℕ). first (own k ws t)) (sym (eqb-true code n e))
+provided-own code n ws t false d e h c q = absurd (none-some q)
+
+read-own : (code : ℕ) (ws : List ℕ) (t : Dest) → Own code ws t (read code ws)
+unfolding read ownRefusal
+read-own code ws t =
+    by-if (Own code ws t) (eqb code 1) _ _ (λ e. provided-own code 1 ws t _ _ e refl)
+    (λ e. by-if (Own code ws t) (eqb code 2) _ _ (λ e. provided-own code 2 ws t _ _ e refl)
+    (λ e. by-if (Own code ws t) (eqb code 3) _ _ (λ e. provided-own code 3 ws t _ _ e refl)
+    (λ e. by-if (Own code ws t) (eqb code 4) _ _ (λ e. provided-own code 4 ws t _ _ e refl)
+    (λ e. by-if (Own code ws t) (eqb code 5) _ _ (λ e. provided-own code 5 ws t _ _ e refl)
+    (λ e. by-if (Own code ws t) (eqb code 6) _ _ (λ e. provided-own code 6 ws t _ _ e refl)
+    (λ e. by-if (Own code ws t) (eqb code 7) _ _ (λ e. provided-own code 7 ws t _ _ e refl)
+    (λ e. by-if (Own code ws t) (eqb code 8) _ _ (λ e. provided-own code 8 ws t _ _ e refl)
+    (λ e. by-if (Own code ws t) (eqb code 9) _ _ (λ e. provided-own code 9 ws t _ _ e refl)
+    (λ e. by-if (Own code ws t) (eqb code 10) _ _ (λ e. provided-own code 10 ws t _ _ e refl)
+    (λ e. by-if (Own code ws t) (eqb code 11) _ _ (λ e. provided-own code 11 ws t _ _ e refl)
+    (λ e. by-if (Own code ws t) (eqb code 12) _ _ (λ e. provided-own code 12 ws t _ _ e refl)
+    (λ e. by-if (Own code ws t) (eqb code 13) _ _ (λ e. provided-own code 13 ws t _ _ e refl)
+    (λ e. by-if (Own code ws t) (eqb code 14) _ _ (λ e. provided-own code 14 ws t _ _ e refl)
+    (λ e c q. absurd (none-some q)))))))))))))))
+
+inRange-some : (o : Option Call) (c : Call) → inRange o ≡ some c → o ≡ some c
+unfolding provided
+inRange-some none c = λ q. q
+inRange-some (some d) c = by-test (argumentsOk d) (λ e. rw e (λ q. q)) (λ e. rw e (λ q. absurd (none-some q)))
+
+call-refusal : (lent : Lengths) (c : Call) (t : Dest) → call lent c t .refusal ≡ refusal lent c t
+unfolding call
+call-refusal lent c t = by-if (λ (r : Result). r .refusal ≡ refusal lent c t) (eqb (refusal lent c t) 0) _ _ (λ e. sym (eqb-true (refusal lent c t) 0 e)) (λ e. refl)
+
+coded-first : (lent : Lengths) (t : Dest) (o : Option Call) (rest : ℕ) → ((c : Call) → o ≡ some c → argumentsOk c ≡ true) → ((c : Call) → o ≡ some c → ownRefusal t c ≡ rest) →
+    callStep lent t o .refusal ≡ if short lent then 1 else if not (sound t) then 2 else if not (is-some o) then 3 else if eqb (t .callsUsed) (t .callLimit) then 9 else rest
+unfolding callStep refusal
+coded-first lent t none rest a h = by-test (short lent) (λ c. rw c) (λ c. by-test (sound t) (λ d. rw (c, d)) (λ d. rw (c, d)))
+coded-first lent t (some c) rest a h = call-refusal lent c t ∙ rw (a c refl, h c refl)
+
+open-first : (lent : Lengths) (ws : List ℕ) (t : Dest) → openStep lent ws t .refusal ≡ first (places lent 0 ws t)
+unfolding openStep
+open-first lent ws t = by-test (short lent) (λ c. rw c) (λ c. by-test (openWords ws) (λ d. rw (c, d)) (λ d. rw (c, d)))
+
+step-first : (lent : Lengths) (code : ℕ) (ws : List ℕ) (t : Dest) → step lent code ws t .refusal ≡ first (places lent code ws t)
+unfolding step decode
+step-first lent code ws t = by-test (eqb code 0)
+    (λ e. ap (λ (r : Result). r .refusal) (if-true (openStep lent ws t) (callStep lent t (decode code ws)) e) ∙ open-first lent ws t ∙ ap (λ (k : ℕ). first (places lent k ws t)) (sym (eqb-true code 0 e)))
+    (λ e. rw e (coded-first lent t (decode code ws) (first (own code ws t)) (inRange-ok (read code ws)) (λ c q. read-own code ws t c (inRange-some (read code ws) c q))))
+
+-- a refused call changes nothing
+abbrev Kept : Dest → Result → Type 0
+Kept t r = (r .refusal ≡ 0 → ⊥) → r ≡ refused (r .refusal) t
+
+call-kept : (lent : Lengths) (c : Call) (t : Dest) → Kept t (call lent c t)
+unfolding call
+call-kept lent c t = by-if (Kept t) (eqb (refusal lent c t) 0) _ _ (λ e n. absurd (n refl)) (λ e n. refl)
+
+callStep-kept : (lent : Lengths) (t : Dest) (o : Option Call) → Kept t (callStep lent t o)
+unfolding callStep
+callStep-kept lent t none n = refl
+callStep-kept lent t (some c) n = call-kept lent c t n
+
+step-kept : (lent : Lengths) (code : ℕ) (ws : List ℕ) (t : Dest) → Kept t (step lent code ws t)
+unfolding step openStep
+step-kept lent code ws t = by-if (Kept t) (eqb code 0) _ _
+    (λ e. by-if (Kept t) (short lent) _ _ (λ c n. refl) (λ c. by-if (Kept t) (openWords ws) _ _ (λ d n. absurd (n refl)) (λ d n. refl)))
+    (λ e. callStep-kept lent t (decode code ws))
+
+refuses : (r : Result) (ps : List Place) (t : Dest) → all (λ p. leb 1 (p .number)) ps ≡ true → r .refusal ≡ first ps → Kept t r → Refuses r ps t
+refuses r ps t h e k = record {
+  exact = exact (r .refusal) ps h e;
+  answer = λ n. ap (λ (x : Result). x .answer) (k n);
+  events = λ n. ap (λ (x : Result). x .events) (k n);
+  dest = λ n. ap (λ (x : Result). x .dest) (k n);
+}
+
+pub step-refuses : StepRefuses
+step-refuses lent code ws t = refuses (step lent code ws t) (places lent code ws t) t refl (step-first lent code ws t) (step-kept lent code ws t)
+
+-- ---- on buffers
+
+-- the table looks at soundness only in its second place
+buffer-first : (b : Buffers) (events code : ℕ) (ws : List ℕ) → bufferStep b events code ws .refusal ≡ first (bufferPlaces b events code ws)
+unfolding bufferStep soundBuffers
+buffer-first b events code ws = by-test (short (lengthsOf b events))
+    (λ s. rw s (step-first (lengthsOf b events) code ws (view b) ∙ rw s))
+    (λ s. by-test (eqb code 0)
+    (λ z. rw (s, z) (step-first (lengthsOf b events) code ws (view b) ∙ rw (s, z)))
+    (λ z. by-test (formed b)
+    (λ f. rw (s, z, f) (step-first (lengthsOf b events) code ws (view b) ∙ rw (s, z)))
+    (λ f. rw (s, z, f))))
+
+buffer-kept : (b : Buffers) (events code : ℕ) (ws : List ℕ) → Kept (view b) (bufferStep b events code ws)
+unfolding bufferStep
+buffer-kept b events code ws = by-if (Kept (view b)) (not (short (lengthsOf b events)) && (not (eqb code 0) && not (formed b))) _ _ (λ c n. refl) (λ c. step-kept (lengthsOf b events) code ws (view b))
+
+pub buffer-refuses : BufferRefuses
+buffer-refuses b events code ws = refuses (bufferStep b events code ws) (bufferPlaces b events code ws) (view b) refl (buffer-first b events code ws) (buffer-kept b events code ws)
+
+-- ---- the two calls that have no code
+
+uncoded : (lent : Lengths) (c : Call) (t : Dest) → argumentsOk c ≡ true → ownRefusal t c ≡ 0 → Refuses (call lent c t) (uncodedPlaces lent t) t
+unfolding refusal
+uncoded lent c t a o = refuses (call lent c t) (uncodedPlaces lent t) t refl (call-refusal lent c t ∙ rw (a, o)) (call-kept lent c t)
+
+pub uncoded-refuses : UncodedRefuses
+unfolding argumentsOk ownRefusal
+uncoded-refuses lent t = (uncoded lent discarding t refl refl, uncoded lent missing t refl refl)
+
+-- ---- queries
+
+query-first : (isShort inRange : Bool) (t : Dest) → queryRefusal isShort inRange t ≡ first (queryPlaces isShort inRange t)
+unfolding queryRefusal
+query-first isShort true t = refl
+query-first isShort false t = refl
+
+-- what an answer is beside a refusal
+beside {ℓ} : {A : Type ℓ} (r : ℕ) (x y : A) → (r ≡ 0 → ⊥) → (if leb r 0 then x else y) ≡ y
+beside r x y n = if-false x y (by-test (leb r 0) (λ c. absurd (n (omega (arith, leb-true r 0 c)))) (λ c. c))
+
+pub query-refuses : QueryRefuses
+unfolding query
+query-refuses lent q t = (exact _ _ refl (query-first (stateShort lent) (queryOk q) t), beside (queryRefusal (stateShort lent) (queryOk q) t) _ 0)
+
+pub counters-refuse : CountersRefuse
+unfolding counters
+counters-refuse lent t = (exact _ _ refl (query-first (stateShort lent) true t), beside (queryRefusal (stateShort lent) true t) (t .stats) zeroStats)
+
+page-refusal : (lent : Lengths) (lines offset limit : ℕ) (t : Dest) → page lent lines offset limit t .refusal ≡ queryRefusal (stateShort lent || ltb lines pageMax) true t
+unfolding page
+page-refusal lent lines offset limit t = by-if (λ (r : Page). r .refusal ≡ queryRefusal (stateShort lent || ltb lines pageMax) true t) (leb (queryRefusal (stateShort lent || ltb lines pageMax) true t) 0) _ _ (λ c. sym (omega (arith, leb-true (queryRefusal (stateShort lent || ltb lines pageMax) true t) 0 c))) (λ c. refl)
+
+pub page-refuses : PageRefuses
+unfolding page
+page-refuses lent lines offset limit t = (
+  exact _ _ refl (page-refusal lent lines offset limit t ∙ query-first (stateShort lent || ltb lines pageMax) true t),
+  by-if (λ (r : Page). (r .refusal ≡ 0 → ⊥) → (r .total ≡ 0) × (r .lines ≡ [])) (leb (queryRefusal (stateShort lent || ltb lines pageMax) true t) 0) _ _ (λ c n. absurd (n refl)) (λ c n. (refl, refl)),
+)

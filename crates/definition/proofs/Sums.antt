@@ -1,0 +1,206 @@
+-- Measures of lists of entries: a sum over the entries, whatever their order. Assumes nothing.
+use Prim.Native.Nat.{ℕ, suc, _+_, _≤_}
+use native.Mathlib.Omega.{arith}
+use mathlib.Core.Path.{_≡_, refl, sym, _∙_, ap}
+use mathlib.Core.Bool.{Bool, true, false, not, _||_, true≢false}
+use mathlib.Core.List.{List, [], _∷_, _++_, map}
+use lib.Dec.{ltb, eqb}
+use lib.ListN.{length, drop}
+use borrow.Author.Tests.{eqb-true, eqb-false, eq-eqb, ltb-true, ltb-false, lt-ltb}
+use Rattle.definition.specs.Base.{if_then_else_, keep, tally, all, member, distinct, rising, ascending}
+use Rattle.definition.specs.Types.{Entry}
+use Rattle.definition.specs.Consumer.{redelivered}
+use Rattle.definition.specs.Destination.{insert, insertAll}
+use Rattle.definition.specs.Calls.{entryOk, seqs}
+use Rattle.definition.proofs.Lists.{by-test}
+use Rattle.definition.proofs.Thin.{Thin, done, skip, stay, and-left, and-right, and-both, redelivered-ok}
+
+abbrev pub sum : (Entry → ℕ) → List Entry → ℕ
+sum f [] = 0
+sum f (e ∷ l) = f e + sum f l
+
+-- a measure that does not rise when an entry's other fields change within their ranges
+abbrev pub Tame : (Entry → ℕ) → Type 0
+Tame f = (e g : Entry) → g .seq ≡ e .seq → (entryOk e ≡ true → entryOk g ≡ true) → f g ≤ f e
+
+-- the number of entries, of those with the number x, of those out of range
+abbrev pub one : Entry → ℕ
+one e = 1
+
+unfoldable pub occ : ℕ → Entry → ℕ
+occ x e = if eqb x (e .seq) then 1 else 0
+
+unfoldable pub bad : Entry → ℕ
+bad e = if entryOk e then 0 else 1
+
+pub one-tame : Tame one
+one-tame e g p q = omega arith
+
+pub occ-tame : (x : ℕ) → Tame (occ x)
+unfolding occ
+occ-tame x e g p q = by-test (eqb x (e .seq)) (λ c. rw (p, c) (omega arith)) (λ c. rw (p, c) (omega arith))
+
+pub bad-tame : Tame bad
+unfolding bad
+bad-tame e g p q = by-test (entryOk e) (λ c. rw (c, q c) (omega arith)) (λ c. rw c (by-test (entryOk g) (λ d. rw d (omega arith)) (λ d. rw d (omega arith))))
+
+-- ---- sums of lists
+
+module _ (f : Entry → ℕ) where
+  pub sum-append : (l m : List Entry) → sum f (l ++ m) ≡ sum f l + sum f m
+  sum-append [] m = omega arith
+  sum-append (e ∷ l) m = omega (arith, sum-append l m)
+
+  pub sum-thin : Tame f → (l m : List Entry) → Thin l m → sum f m ≤ sum f l
+  sum-thin h l m done = omega arith
+  sum-thin h l m (skip {e = e} {l = l′} r) = omega (arith, sum-thin h l′ m r)
+  sum-thin h l m (stay {e = e} {f = g} {l = l′} {m = m′} a b r) = omega (arith, h e g a b, sum-thin h l′ m′ r)
+
+  pub sum-insert : (e : Entry) (l : List Entry) → sum f (insert e l) ≤ f e + sum f l
+  sum-insert e [] = omega arith
+  sum-insert e (g ∷ l) = by-test (ltb (e .seq) (g .seq)) (λ c. rw c (omega arith))
+      (λ c. rw c (by-test (eqb (e .seq) (g .seq)) (λ d. rw d (omega arith)) (λ d. rw d (omega (arith, sum-insert e l)))))
+
+  pub sum-insertAll : (l m : List Entry) → sum f (insertAll l m) ≤ sum f l + sum f m
+  sum-insertAll [] m = omega arith
+  sum-insertAll (e ∷ l) m = omega (arith, sum-insertAll l (insert e m), sum-insert e m)
+
+  pub sum-keep : (p : Entry → Bool) (l : List Entry) → sum f (keep p l) ≤ sum f l
+  sum-keep p [] = omega arith
+  sum-keep p (e ∷ l) = by-test (p e) (λ c. rw c (omega (arith, sum-keep p l))) (λ c. rw c (omega (arith, sum-keep p l)))
+
+  pub sum-drop : (n : ℕ) (l : List Entry) → sum f (drop n l) ≤ sum f l
+  sum-drop n [] = nil n
+    where
+      nil : (n : ℕ) → sum f (drop n []) ≤ 0
+      nil ℕ.zero = omega arith
+      nil (ℕ.suc n) = omega arith
+  sum-drop ℕ.zero (e ∷ l) = omega arith
+  sum-drop (ℕ.suc n) (e ∷ l) = omega (arith, sum-drop n l)
+
+pub sum-one : (l : List Entry) → sum one l ≡ length l
+sum-one [] = refl
+sum-one (e ∷ l) = omega (arith, sum-one l)
+
+-- ---- in range
+
+pub bad-ok : (e : Entry) → entryOk e ≡ true → bad e ≡ 0
+unfolding bad
+bad-ok e h = rw h
+
+bad-no : (e : Entry) → entryOk e ≡ false → bad e ≡ 1
+unfolding bad
+bad-no e h = rw h
+
+pub ok-sum : (l : List Entry) → all entryOk l ≡ true → sum bad l ≡ 0
+ok-sum [] h = refl
+ok-sum (e ∷ l) h = omega (arith, bad-ok e (and-left (entryOk e) (all entryOk l) h), ok-sum l (and-right (entryOk e) (all entryOk l) h))
+
+pub sum-ok : (l : List Entry) → sum bad l ≤ 0 → all entryOk l ≡ true
+sum-ok [] h = refl
+sum-ok (e ∷ l) h = by-test (entryOk e) (λ c. and-both (entryOk e) (all entryOk l) c (sum-ok l (omega arith))) (λ c. absurd (omega (arith, bad-no e c)))
+
+-- ---- no number twice
+
+pub occ-yes : (x : ℕ) (e : Entry) → eqb x (e .seq) ≡ true → occ x e ≡ 1
+unfolding occ
+occ-yes x e h = rw h
+
+pub occ-no : (x : ℕ) (e : Entry) → eqb x (e .seq) ≡ false → occ x e ≡ 0
+unfolding occ
+occ-no x e h = rw h
+
+pub occ-member : (x : ℕ) (l : List Entry) → member x (seqs l) ≡ false → sum (occ x) l ≡ 0
+occ-member x [] h = refl
+occ-member x (e ∷ l) h = by-test (eqb x (e .seq))
+    (λ c. absurd (true≢false (sym (ap (λ b. b || member x (seqs l)) c) ∙ h)))
+    (λ c. omega (arith, occ-no x e c, occ-member x l (sym (ap (λ b. b || member x (seqs l)) c) ∙ h)))
+
+occ-no-member : (x : ℕ) (l : List Entry) → sum (occ x) l ≡ 0 → member x (seqs l) ≡ false
+occ-no-member x [] h = refl
+occ-no-member x (e ∷ l) h = by-test (eqb x (e .seq)) (λ c. absurd (omega (arith, occ-yes x e c))) (λ c. rw c (occ-no-member x l (omega arith)))
+
+not-false : (b : Bool) → not b ≡ true → b ≡ false
+not-false true h = sym h
+not-false false h = refl
+
+pub once-sum : (l : List Entry) → distinct (seqs l) ≡ true → (x : ℕ) → sum (occ x) l ≤ 1
+once-sum [] h x = omega arith
+once-sum (e ∷ l) h x = by-test (eqb x (e .seq))
+    (λ c. omega (arith, occ-yes x e c, occ-member x l (ap (λ y. member y (seqs l)) (eqb-true x (e .seq) c) ∙ not-false (member (e .seq) (seqs l)) (and-left (not (member (e .seq) (seqs l))) (distinct (seqs l)) h))))
+    (λ c. omega (arith, occ-no x e c, once-sum l (and-right (not (member (e .seq) (seqs l))) (distinct (seqs l)) h) x))
+
+pub sum-once : (l : List Entry) → ((x : ℕ) → sum (occ x) l ≤ 1) → distinct (seqs l) ≡ true
+sum-once [] h = refl
+sum-once (e ∷ l) h =
+    let m : member (e .seq) (seqs l) ≡ false = occ-no-member (e .seq) l (omega (arith, h (e .seq), occ-yes (e .seq) e (eq-eqb (e .seq) (e .seq) refl))) in
+    rw m (sum-once l (λ x. omega (arith, h x)))
+
+-- ---- rising numbers
+
+thin-rising : (k : ℕ) (l m : List Entry) → Thin l m → rising k (seqs l) ≡ true → rising k (seqs m) ≡ true
+thin-rising k l m done h = h
+thin-rising k l m (skip {e = e} {l = l′} r) h = thin-rising k l′ m r (lower k (e .seq) (seqs l′) (and-left (ltb k (e .seq)) _ h) (and-right (ltb k (e .seq)) _ h))
+  where
+    lower : (j i : ℕ) (n : List ℕ) → ltb j i ≡ true → rising i n ≡ true → rising j n ≡ true
+    lower j i [] a b = refl
+    lower j i (x ∷ n) a b = and-both (ltb j x) (rising x n) (lt-ltb j x (omega (arith, ltb-true j i a, ltb-true i x (and-left (ltb i x) (rising x n) b)))) (and-right (ltb i x) (rising x n) b)
+thin-rising k l m (stay {e = e} {f = g} {l = l′} {m = m′} a b r) h =
+    rw a (and-both (ltb k (e .seq)) (rising (e .seq) (seqs m′)) (and-left (ltb k (e .seq)) _ h) (thin-rising (e .seq) l′ m′ r (and-right (ltb k (e .seq)) _ h)))
+
+pub thin-ascending : (l m : List Entry) → Thin l m → ascending (seqs l) ≡ true → ascending (seqs m) ≡ true
+thin-ascending l m done h = h
+thin-ascending l m (skip {e = e} {l = l′} r) h = thin-ascending l′ m r (from (seqs l′) h)
+  where
+    from : (n : List ℕ) → rising (e .seq) n ≡ true → ascending n ≡ true
+    from [] h = refl
+    from (x ∷ n) h = and-right (ltb (e .seq) x) (rising x n) h
+thin-ascending l m (stay {e = e} {f = g} {l = l′} {m = m′} a b r) h = rw a (thin-rising (e .seq) l′ m′ r h)
+
+-- an insertion
+insert-rising : (k : ℕ) (e : Entry) (l : List Entry) → ltb k (e .seq) ≡ true → rising k (seqs l) ≡ true → rising k (seqs (insert e l)) ≡ true
+insert-rising k e [] a h = and-both (ltb k (e .seq)) true a refl
+insert-rising k e (g ∷ l) a h = by-test (ltb (e .seq) (g .seq))
+    (λ c. rw c (and-both (ltb k (e .seq)) _ a (and-both (ltb (e .seq) (g .seq)) _ c (and-right (ltb k (g .seq)) _ h))))
+    (λ c. rw c (by-test (eqb (e .seq) (g .seq))
+    (λ d. rw d (and-both (ltb k (e .seq)) _ a (ap (λ y. rising y (seqs l)) (eqb-true (e .seq) (g .seq) d) ∙ and-right (ltb k (g .seq)) _ h)))
+    (λ d. rw d (and-both (ltb k (g .seq)) _ (and-left (ltb k (g .seq)) _ h) (insert-rising (g .seq) e l (lt-ltb (g .seq) (e .seq) (above (e .seq) (g .seq) c d)) (and-right (ltb k (g .seq)) _ h))))))
+  where
+    above : (x y : ℕ) → ltb x y ≡ false → eqb x y ≡ false → suc y ≤ x
+    above x y c d = omega (arith, ltb-false x y c, eqb-false x y d)
+
+pub insert-ascending : (e : Entry) (l : List Entry) → ascending (seqs l) ≡ true → ascending (seqs (insert e l)) ≡ true
+insert-ascending e [] h = refl
+insert-ascending e (g ∷ l) h = by-test (ltb (e .seq) (g .seq))
+    (λ c. rw c (and-both (ltb (e .seq) (g .seq)) _ c h))
+    (λ c. rw c (by-test (eqb (e .seq) (g .seq))
+    (λ d. rw d (ap (λ y. rising y (seqs l)) (eqb-true (e .seq) (g .seq) d) ∙ h))
+    (λ d. rw d (insert-rising (g .seq) e l (lt-ltb (g .seq) (e .seq) (omega (arith, ltb-false (e .seq) (g .seq) c, eqb-false (e .seq) (g .seq) d))) h))))
+
+pub insertAll-ascending : (l m : List Entry) → ascending (seqs m) ≡ true → ascending (seqs (insertAll l m)) ≡ true
+insertAll-ascending [] m h = h
+insertAll-ascending (e ∷ l) m h = insertAll-ascending l (insert e m) (insert-ascending e m h)
+
+-- ---- thinner lists
+
+pub thin-keep : (p : Entry → Bool) (l : List Entry) → Thin l (keep p l)
+thin-keep p [] = done
+thin-keep p (e ∷ l) = by-test (p e) (λ c. rw c (stay refl (λ h. h) (thin-keep p l))) (λ c. rw c (skip (thin-keep p l)))
+
+pub thin-drop : (n : ℕ) (l : List Entry) → Thin l (drop n l)
+thin-drop ℕ.zero [] = done
+thin-drop (ℕ.suc n) [] = done
+thin-drop ℕ.zero (e ∷ l) = stay refl (λ h. h) (all-of l)
+  where
+    all-of : (l : List Entry) → Thin l l
+    all-of [] = done
+    all-of (e ∷ l) = stay refl (λ h. h) (all-of l)
+thin-drop (ℕ.suc n) (e ∷ l) = skip (thin-drop n l)
+
+pub thin-redelivered : (l : List Entry) → Thin l (map redelivered l)
+thin-redelivered [] = done
+thin-redelivered (e ∷ l) = stay refl (redelivered-ok e) (thin-redelivered l)
+
+pub keep-tally : (p : Entry → Bool) (l : List Entry) → length (keep (λ e. not (p e)) l) + tally p l ≡ length l
+keep-tally p [] = refl
+keep-tally p (e ∷ l) = by-test (p e) (λ c. rw c (omega (arith, keep-tally p l))) (λ c. rw c (omega (arith, keep-tally p l)))

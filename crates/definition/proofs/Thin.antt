@@ -1,0 +1,171 @@
+-- Entries of which some are gone, and some redelivered: what that keeps of a sound state. Assumes nothing.
+use Prim.Native.Nat.{ℕ, zero, suc, _+_, _≤_, _^_}
+use native.Mathlib.Omega.{arith}
+use mathlib.Core.Path.{_≡_, refl, sym, _∙_, ap}
+use mathlib.Core.Bool.{Bool, true, false, not, _&&_, _||_, true≢false}
+use mathlib.Core.List.{List, [], _∷_, _++_, map}
+use lib.Dec.{leb, ltb, eqb}
+use lib.ListN.{length}
+use lib.IntN.{ℤ, pos, negsuc}
+use borrow.Author.Tests.{ltb-true, lt-ltb}
+use Rattle.definition.specs.Base.{keep, tally, all, every, member, distinct, rising, ascending}
+use Rattle.definition.specs.Types.{Entry}
+use Rattle.definition.specs.Consumer.{oneMore, redelivered}
+use Rattle.definition.specs.Calls.{entryOk, within, seqs}
+use Rattle.definition.proofs.Lists.{by-test, All}
+
+-- ---- tests joined
+
+pub and-left : (a b : Bool) → (a && b) ≡ true → a ≡ true
+and-left true b e = refl
+and-left false b e = e
+
+pub and-right : (a b : Bool) → (a && b) ≡ true → b ≡ true
+and-right true b e = e
+and-right false b e = absurd (true≢false (sym e))
+
+pub and-both : (a b : Bool) → a ≡ true → b ≡ true → (a && b) ≡ true
+and-both a b p q = rw (p, q)
+
+abbrev pub IsTrue : Bool → Type 0
+IsTrue b = b ≡ true
+
+pub every-all : (l : List Bool) → every l ≡ true → All IsTrue l
+every-all [] e = tt
+every-all (b ∷ l) e = (and-left b (every l) e, every-all l (and-right b (every l) e))
+
+pub all-every : (l : List Bool) → All IsTrue l → every l ≡ true
+all-every [] h = refl
+all-every (b ∷ l) h = and-both b (every l) (h .0) (all-every l (h .1))
+
+-- ---- a redelivery more is in range
+
+more-within : (r : ℤ) → within (2 ^ 31) r ≡ true → within (2 ^ 31) (oneMore r) ≡ true
+unfolding oneMore
+more-within (pos k) h = by-test (ltb k 2147483647) (λ c. rw c (lt-ltb (suc k) (2 ^ 31) (omega (arith, ltb-true k 2147483647 c)))) (λ c. rw c h)
+more-within (negsuc zero) h = refl
+more-within (negsuc (suc k)) h = lt-ltb k (2 ^ 31) (omega (arith, ltb-true (suc k) (2 ^ 31) h))
+
+pub redelivered-ok : (e : Entry) → entryOk e ≡ true → entryOk (redelivered e) ≡ true
+redelivered-ok e h =
+    let f = every-all (leb 1 (e .seq) ∷ ltb (e .seq) (2 ^ 63) ∷ within (2 ^ 63) (e .expiration) ∷ ltb (e .producer) (2 ^ 64) ∷ ltb (e .«match_word») (2 ^ 64) ∷ within (2 ^ 31) (e .redelivery) ∷ []) h in
+    all-every (leb 1 (e .seq) ∷ ltb (e .seq) (2 ^ 63) ∷ within (2 ^ 63) (e .expiration) ∷ ltb (e .producer) (2 ^ 64) ∷ ltb (e .«match_word») (2 ^ 64) ∷ within (2 ^ 31) (oneMore (e .redelivery)) ∷ [])
+    (f .0, (f .1 .0, (f .1 .1 .0, (f .1 .1 .1 .0, (f .1 .1 .1 .1 .0, (more-within (e .redelivery) (f .1 .1 .1 .1 .1 .0), tt))))))
+
+-- ---- thinner lists of entries
+
+pub data Thin : List Entry → List Entry → Type 0 where
+  done : Thin [] []
+  skip : {e : Entry} {l m : List Entry} → Thin l m → Thin (e ∷ l) m
+  stay : {e f : Entry} {l m : List Entry} → f .seq ≡ e .seq → (entryOk e ≡ true → entryOk f ≡ true) → Thin l m → Thin (e ∷ l) (f ∷ m)
+
+pub thin-refl : (l : List Entry) → Thin l l
+thin-refl [] = done
+thin-refl (e ∷ l) = stay refl (λ h. h) (thin-refl l)
+
+pub thin-append : {l m : List Entry} (p q : List Entry) → Thin l m → Thin p q → Thin (l ++ p) (m ++ q)
+thin-append p q done t = t
+thin-append p q (skip r) t = skip (thin-append p q r t)
+thin-append p q (stay a b r) t = stay a b (thin-append p q r t)
+
+pub thin-none : (l : List Entry) → Thin l []
+thin-none [] = done
+thin-none (e ∷ l) = skip (thin-none l)
+
+pub thin-trans : (l m k : List Entry) → Thin l m → Thin m k → Thin l k
+thin-trans l m k done t = t
+thin-trans l m k (skip {l = l′} r) t = skip (thin-trans l′ m k r t)
+thin-trans l m k (stay {e = e} {f = f} {l = l′} {m = m′} a b r) t = go k t (λ k′ t′. thin-trans l′ m′ k′ r t′)
+  where
+    go : (k : List Entry) → Thin (f ∷ m′) k → ((k′ : List Entry) → Thin m′ k′ → Thin l′ k′) → Thin (e ∷ l′) k
+    go k (skip u) ih = skip (ih k u)
+    go k (stay {f = g} {m = k′} c d u) ih = stay (c ∙ a) (λ h. d (b h)) (ih k′ u)
+
+pub thin-length : (l m : List Entry) → Thin l m → length m ≤ length l
+thin-length l m done = omega arith
+thin-length l m (skip {l = l′} r) = omega (arith, thin-length l′ m r)
+thin-length l m (stay {l = l′} {m = m′} a b r) = omega (arith, thin-length l′ m′ r)
+
+pub thin-ok : (l m : List Entry) → Thin l m → all entryOk l ≡ true → all entryOk m ≡ true
+thin-ok l m done h = h
+thin-ok l m (skip {e = e} {l = l′} r) h = thin-ok l′ m r (and-right (entryOk e) (all entryOk l′) h)
+thin-ok l m (stay {e = e} {f = f} {l = l′} {m = m′} a b r) h =
+    and-both (entryOk f) (all entryOk m′) (b (and-left (entryOk e) (all entryOk l′) h)) (thin-ok l′ m′ r (and-right (entryOk e) (all entryOk l′) h))
+
+or-no-left : (a b : Bool) → (a || b) ≡ false → a ≡ false
+or-no-left true b e = e
+or-no-left false b e = refl
+
+or-no-right : (a b : Bool) → (a || b) ≡ false → b ≡ false
+or-no-right true b e = absurd (true≢false e)
+or-no-right false b e = e
+
+thin-member : (x : ℕ) (l m : List Entry) → Thin l m → member x (seqs l) ≡ false → member x (seqs m) ≡ false
+thin-member x l m done h = h
+thin-member x l m (skip {e = e} {l = l′} r) h = thin-member x l′ m r (or-no-right (eqb x (e .seq)) (member x (seqs l′)) h)
+thin-member x l m (stay {e = e} {f = f} {l = l′} {m = m′} a b r) h =
+    let p : eqb x (f .seq) ≡ false = ap (λ (y : ℕ). eqb x y) a ∙ or-no-left (eqb x (e .seq)) (member x (seqs l′)) h in
+    rw p (thin-member x l′ m′ r (or-no-right (eqb x (e .seq)) (member x (seqs l′)) h))
+
+not-true : (b : Bool) → not b ≡ true → b ≡ false
+not-true true e = sym e
+not-true false e = refl
+
+pub thin-distinct : (l m : List Entry) → Thin l m → distinct (seqs l) ≡ true → distinct (seqs m) ≡ true
+thin-distinct l m done h = h
+thin-distinct l m (skip {e = e} {l = l′} r) h = thin-distinct l′ m r (and-right (not (member (e .seq) (seqs l′))) (distinct (seqs l′)) h)
+thin-distinct l m (stay {e = e} {f = f} {l = l′} {m = m′} a b r) h =
+    let p : member (f .seq) (seqs m′) ≡ false
+    = ap (λ (y : ℕ). member y (seqs m′)) a ∙ thin-member (e .seq) l′ m′ r (not-true (member (e .seq) (seqs l′)) (and-left (not (member (e .seq) (seqs l′))) (distinct (seqs l′)) h)) in
+    rw p (thin-distinct l′ m′ r (and-right (not (member (e .seq) (seqs l′))) (distinct (seqs l′)) h))
+
+-- ---- rising numbers
+
+pub rising-from : (j k : ℕ) (l : List ℕ) → j ≤ k → rising k l ≡ true → rising j l ≡ true
+rising-from j k [] h r = refl
+rising-from j k (x ∷ l) h r =
+    and-both (ltb j x) (rising x l) (lt-ltb j x (omega (arith, ltb-true k x (and-left (ltb k x) (rising x l) r)))) (and-right (ltb k x) (rising x l) r)
+
+module _ {A : Type 0} (f : A → ℕ) where
+  -- some gone
+  pub rising-keep : (p : A → Bool) (k n : ℕ) (l : List A) → rising k (map f l ++ n ∷ []) ≡ true → rising k (map f (keep p l) ++ n ∷ []) ≡ true
+  rising-keep p k n [] h = h
+  rising-keep p k n (x ∷ l) h = by-test (p x)
+      (λ c. rw c (and-both (ltb k (f x)) _ (and-left (ltb k (f x)) (rising (f x) (map f l ++ n ∷ [])) h) (rising-keep p (f x) n l (and-right (ltb k (f x)) (rising (f x) (map f l ++ n ∷ [])) h))))
+      (λ c. rw c (rising-keep p k n l (rising-from k (f x) (map f l ++ n ∷ []) (omega (arith, ltb-true k (f x) (and-left (ltb k (f x)) (rising (f x) (map f l ++ n ∷ [])) h))) (and-right (ltb k (f x)) (rising (f x) (map f l ++ n ∷ [])) h))))
+
+-- one more at the end
+pub rising-more : (k n : ℕ) (l : List ℕ) → rising k (l ++ n ∷ []) ≡ true → rising k ((l ++ n ∷ []) ++ (n + 1) ∷ []) ≡ true
+rising-more k n [] h = and-both (ltb k n) _ (and-left (ltb k n) true h) (and-both (ltb n (n + 1)) true (lt-ltb n (n + 1) (omega arith)) refl)
+rising-more k n (x ∷ l) h = and-both (ltb k x) _ (and-left (ltb k x) (rising x (l ++ n ∷ [])) h) (rising-more x n l (and-right (ltb k x) (rising x (l ++ n ∷ [])) h))
+
+rising-ascends : (k : ℕ) (l : List ℕ) → rising k l ≡ true → ascending l ≡ true
+rising-ascends k [] h = refl
+rising-ascends k (x ∷ l) h = and-right (ltb k x) (rising x l) h
+
+pub ascending-keep : {A : Type 0} (f : A → ℕ) (p : A → Bool) (n : ℕ) (l : List A) → ascending (map f l ++ n ∷ []) ≡ true → ascending (map f (keep p l) ++ n ∷ []) ≡ true
+ascending-keep f p n [] h = h
+ascending-keep f p n (x ∷ l) h = by-test (p x)
+    (λ c. rw c (rising-keep f p (f x) n l h))
+    (λ c. rw c (rising-ascends (f x) (map f (keep p l) ++ n ∷ []) (rising-keep f p (f x) n l h)))
+
+pub ascending-more : (n : ℕ) (l : List ℕ) → ascending (l ++ n ∷ []) ≡ true → ascending ((l ++ n ∷ []) ++ (n + 1) ∷ []) ≡ true
+ascending-more n [] h = and-both (ltb n (n + 1)) true (lt-ltb n (n + 1) (omega arith)) refl
+ascending-more n (x ∷ l) h = rising-more x n l h
+
+pub ascending-tail : (x : ℕ) (l : List ℕ) → ascending (x ∷ l) ≡ true → ascending l ≡ true
+ascending-tail x l h = rising-ascends x l h
+
+-- ---- lists
+
+pub map-append : {A B : Type 0} (f : A → B) (l m : List A) → map f (l ++ m) ≡ map f l ++ map f m
+map-append f [] m = refl
+map-append f (x ∷ l) m = ap (λ t. f x ∷ t) (map-append f l m)
+
+pub tally-append : {A : Type 0} (p : A → Bool) (l m : List A) → tally p (l ++ m) ≡ tally p l + tally p m
+tally-append p [] m = omega arith
+tally-append p (x ∷ l) m = omega (arith, tally-append p l m)
+
+pub tally-length : {A : Type 0} (p : A → Bool) (l : List A) → tally p l ≤ length l
+tally-length p [] = omega arith
+tally-length p (x ∷ l) = by-test (p x) (λ c. rw c (omega (arith, tally-length p l))) (λ c. rw c (omega (arith, tally-length p l)))

@@ -1,0 +1,13 @@
+pub mod Base
+pub mod Types
+pub mod Consumer
+pub mod Destination
+pub mod Calls
+pub mod Words
+pub mod Queries
+pub mod Layout
+pub mod Cases
+pub mod Refusals
+pub mod Runs
+pub mod Orders
+pub mod Claims

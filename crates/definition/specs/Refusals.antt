@@ -1,0 +1,124 @@
+-- Document 01's table "Refused, by place of checking" as a list of places, and that a refusal's number comes exactly from it. Assumes nothing.
+use Prim.Native.Nat.{ℕ, _≤_}
+use mathlib.Core.Path.{_≡_}
+use mathlib.Core.Bool.{Bool, true, not, _&&_, _||_}
+use mathlib.Core.List.{List, [], _∷_, _++_}
+use mathlib.Core.Logic.{_↔_}
+use lib.Dec.{leb, ltb, eqb}
+use lib.ListN.{length}
+use Rattle.definition.specs.Base.{if_then_else_, all, find, member, is-some}
+use Rattle.definition.specs.Types.{Dest}
+use Rattle.definition.specs.Consumer.{zeroStats}
+use Rattle.definition.specs.Destination.{subOf, isProducer, auditOf}
+use Rattle.definition.specs.Calls.{Lengths, stateShort, short, sound, seqs, allRows, freeRows, rowsFor, snapshotRows, Call, discarding, missing, Result, call}
+use Rattle.definition.specs.Words.{at, idOf, entryOf, specOf, openWords, decode, step}
+use Rattle.definition.specs.Queries.{Query, queryOk, query, counters, page}
+use Rattle.definition.specs.Layout.{Buffers, view, soundBuffers, lengthsOf, bufferStep}
+
+-- a place of checking: its number, and whether it refuses
+pub record Place : Type 0 where
+  pub number : ℕ
+  pub test : Bool
+
+infix 70 _when_
+abbrev pub _when_ : ℕ → Bool → Place
+n when b = record { number = n; test = b }
+
+-- an open's words are an open's; any other call's code is known, its numbers are in their ranges and its unused words 0
+abbrev pub argumentsRight : ℕ → List ℕ → Bool
+argumentsRight code ws = if eqb code 0 then openWords ws else is-some (decode code ws)
+
+-- the table, for a call of the call file: whether a lent buffer is short, whether the state is sound, the code, its words, the state
+abbrev pub table : Bool → Bool → ℕ → List ℕ → Dest → List Place
+table isShort isSound code ws t =
+    -- every call, buffers: a state buffer is short, or an event list holds under 545
+    1 when isShort
+    -- every call but open, state: the state is not sound
+    ∷ 2 when (not (eqb code 0) && not isSound)
+    -- every call, arguments: a number is outside its range, a call code is unknown, or an unused word is not 0
+    ∷ 3 when not (argumentsRight code ws)
+    -- each changing call but open, after 3: calls used equals the call limit
+    ∷ 9 when (not (eqb code 0) && eqb (t .callsUsed) (t .callLimit))
+    -- enqueue: the sequence number is held in any row
+    ∷ 4 when (eqb code 1 && member (at 0 ws) (seqs (allRows t)))
+    -- enqueue: too few free rows
+    ∷ 5 when (eqb code 1 && ltb (freeRows t) (rowsFor (entryOf ws) t (t .kind)))
+    -- join: that consumer is present
+    ∷ 6 when (eqb code 2 && is-some (subOf (idOf ws) t))
+    -- join: 32 consumers are present
+    ∷ 7 when (eqb code 2 && leb 32 (length (t .subs)))
+    -- browser join: too few free rows (a join of another kind needs none)
+    ∷ 5 when (eqb code 2 && ltb (freeRows t) (snapshotRows (at 6 ws) (specOf ws) t))
+    -- add producer: a new producer, and 32 registered
+    ∷ 8 when (eqb code 11 && (not (isProducer (idOf ws) (t .producers)) && leb 32 (length (t .producers))))
+    -- duplicate test: a new producer, and 8 audited (connection 0 is no producer)
+    ∷ 8 when (eqb code 13 && (not (eqb (at 0 ws) 0) && (not (is-some (find (auditOf (idOf ws)) (t .audits))) && leb 8 (length (t .audits)))))
+    ∷ []
+
+abbrev pub places : Lengths → ℕ → List ℕ → Dest → List Place
+places lent code ws t = table (short lent) (sound t) code ws t
+
+-- of a call on buffers: 2 is for words that their places cannot hold, too
+abbrev pub bufferPlaces : Buffers → ℕ → ℕ → List ℕ → List Place
+bufferPlaces b events code ws = table (short (lengthsOf b events)) (soundBuffers b) code ws (view b)
+
+-- of add_discarded and expired_before_storing, which have no code and no arguments
+abbrev pub uncodedPlaces : Lengths → Dest → List Place
+uncodedPlaces lent t = 1 when short lent ∷ 2 when not (sound t) ∷ 9 when eqb (t .callsUsed) (t .callLimit) ∷ []
+
+-- of the queries: whether a lent buffer is short, and whether the arguments are in their ranges
+abbrev pub queryPlaces : Bool → Bool → Dest → List Place
+queryPlaces isShort inRange t = 1 when isShort ∷ 2 when not (sound t) ∷ 3 when not inRange ∷ []
+
+-- ---- exactly
+
+abbrev pub passes : Place → Bool
+passes p = not (p .test)
+
+-- n comes from these places: one of that number refuses, and none before it does
+pub record Comes (n : ℕ) (ps : List Place) : Type 0 where
+  pub before : List Place
+  pub here : Place
+  pub after : List Place
+  pub split : ps ≡ before ++ here ∷ after
+  pub passed : all passes before ≡ true
+  pub refuses : here .test ≡ true
+  pub numbered : here .number ≡ n
+
+-- a refusal has a number exactly if it comes from these places, and there is none exactly if no place refuses
+pub record Exact (refusal : ℕ) (ps : List Place) : Type 0 where
+  pub number : (n : ℕ) → 1 ≤ n → (refusal ≡ n) ↔ Comes n ps
+  pub accepted : (refusal ≡ 0) ↔ (all passes ps ≡ true)
+
+-- a refused call answers 0, sends nothing and changes nothing
+pub record Refuses (r : Result) (ps : List Place) (t : Dest) : Type 0 where
+  pub exact : Exact (r .refusal) ps
+  pub answer : (r .refusal ≡ 0 → ⊥) → r .answer ≡ 0
+  pub events : (r .refusal ≡ 0 → ⊥) → r .events ≡ []
+  pub dest : (r .refusal ≡ 0 → ⊥) → r .dest ≡ t
+
+-- ---- what is claimed
+
+-- of every call of the call file, open too
+abbrev pub StepRefuses : Type 0
+StepRefuses = (lent : Lengths) (code : ℕ) (words : List ℕ) (t : Dest) → Refuses (step lent code words t) (places lent code words t) t
+
+-- of every call of the call file, on buffers
+abbrev pub BufferRefuses : Type 0
+BufferRefuses = (b : Buffers) (events code : ℕ) (words : List ℕ) → Refuses (bufferStep b events code words) (bufferPlaces b events code words) (view b)
+
+-- of the two calls that have no code
+abbrev pub UncodedRefuses : Type 0
+UncodedRefuses = (lent : Lengths) (t : Dest) → Refuses (call lent discarding t) (uncodedPlaces lent t) t × Refuses (call lent missing t) (uncodedPlaces lent t) t
+
+-- of the queries: no event list is lent to them, and to a page a list of lines; beside a refusal the answer is 0
+abbrev pub QueryRefuses : Type 0
+QueryRefuses = (lent : Lengths) (q : Query) (t : Dest) → Exact (query lent q t .refusal) (queryPlaces (stateShort lent) (queryOk q) t) × ((query lent q t .refusal ≡ 0 → ⊥) → query lent q t .answer ≡ 0)
+
+abbrev pub CountersRefuse : Type 0
+CountersRefuse = (lent : Lengths) (t : Dest) → Exact (counters lent t .refusal) (queryPlaces (stateShort lent) true t) × ((counters lent t .refusal ≡ 0 → ⊥) → counters lent t .stats ≡ zeroStats)
+
+abbrev pub PageRefuses : Type 0
+PageRefuses = (lent : Lengths) (lines offset limit : ℕ) (t : Dest) →
+    let r = page lent lines offset limit t in
+    Exact (r .refusal) (queryPlaces (stateShort lent || ltb lines 50) true t) × ((r .refusal ≡ 0 → ⊥) → (r .total ≡ 0) × (r .lines ≡ []))

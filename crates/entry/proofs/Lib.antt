@@ -1,0 +1,2 @@
+pub mod Redelivery
+pub mod Rows

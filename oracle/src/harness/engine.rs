@@ -1,0 +1,415 @@
+//! One destination run call by call: document 01's refusals before the broker's own code.
+
+use std::fmt;
+use std::sync::Arc;
+use std::time::Instant;
+
+use tokio::sync::mpsc;
+
+use super::arguments::{self, ROWS};
+use super::callfile::{ack_bit, code, join_flag, Call};
+use super::host::{self, AckNumbers, EntryNumbers, Id};
+use crate::broker::conn::{ConnHandle, Out};
+use crate::broker::destination::{probe, Dest, Effect, ProducerMeta, Stats, SubSpec};
+use crate::broker::entry::Memory;
+use crate::openwire::model::{Command, DestKind, Destination, MessageDispatch};
+use crate::selector::Selector;
+
+/// Refusal numbers of document 01. 1 is about lent buffers, which a call file has none of.
+pub mod refusal {
+    pub const NONE: u8 = 0;
+    pub const NOT_SOUND: u8 = 2;
+    pub const ARGUMENTS: u8 = 3;
+    pub const SEQUENCE_HELD: u8 = 4;
+    pub const NO_ROWS: u8 = 5;
+    pub const PRESENT: u8 = 6;
+    pub const CONSUMERS: u8 = 7;
+    pub const PRODUCERS: u8 = 8;
+    pub const CALL_LIMIT: u8 = 9;
+}
+
+const CONSUMERS_MAX: usize = 32;
+const PRODUCERS_MAX: usize = 32;
+const AUDITS_MAX: usize = 8;
+
+/// What a call sends.
+pub enum Event {
+    /// A dead letter.
+    Dead {
+        sequence: u64,
+        redelivery: i32,
+        cause: bool,
+    },
+    /// An entry to a consumer.
+    Message { id: Id, sequence: u64, redelivery: i32 },
+    /// A null to a consumer.
+    Null { id: Id },
+}
+
+impl fmt::Display for Event {
+    fn fmt(&self, f: &mut fmt::Formatter<'_>) -> fmt::Result {
+        match self {
+            Event::Dead {
+                sequence,
+                redelivery,
+                cause,
+            } => {
+                write!(f, "x {sequence} {redelivery} {}", u8::from(*cause))
+            }
+            Event::Message {
+                id,
+                sequence,
+                redelivery,
+            } => {
+                write!(
+                    f,
+                    "d {} {} {} {sequence} {redelivery}",
+                    id[0], id[1] as i64, id[2] as i64
+                )
+            }
+            Event::Null { id } => write!(f, "n {} {} {}", id[0], id[1] as i64, id[2] as i64),
+        }
+    }
+}
+
+/// What a call returns.
+pub struct Reply {
+    pub refusal: u8,
+    pub answer: u64,
+    pub events: Vec<Event>,
+}
+
+impl Reply {
+    fn refused(refusal: u8) -> Reply {
+        Reply {
+            refusal,
+            answer: 0,
+            events: Vec::new(),
+        }
+    }
+}
+
+/// An opened destination and what document 01 adds to it.
+pub struct Opened {
+    pub dest: Dest,
+    pub topic_limit: u64,
+    pub call_limit: u64,
+    pub calls_used: u64,
+    /// The broker's idle mark, and the clock of the call that set it.
+    idle: Option<(Instant, u64)>,
+}
+
+impl Opened {
+    /// The idle mark as a clock.
+    pub fn idle_clock(&self) -> Option<u64> {
+        self.idle.map(|(_, clock)| clock)
+    }
+
+    /// Reads the broker's idle mark; a new one was set at the call's clock.
+    fn follow_idle(&mut self, call: &Call) {
+        let mark = probe::idle_mark(&self.dest);
+        if mark != self.idle.map(|(at, _)| at) {
+            self.idle = mark.map(|at| {
+                let place =
+                    arguments::clock_place(call.code).expect("a call that marks idleness has a clock");
+                (at, call.args[place])
+            });
+        }
+    }
+}
+
+pub struct Engine {
+    opened: Option<Opened>,
+    /// One connection for all consumers keeps the sends in order.
+    conn: Arc<ConnHandle>,
+    sends: mpsc::UnboundedReceiver<Out>,
+    memory: Arc<Memory>,
+    selectors: Vec<Option<Arc<Selector>>>,
+}
+
+impl Default for Engine {
+    fn default() -> Engine {
+        Engine::new()
+    }
+}
+
+impl Engine {
+    pub fn new() -> Engine {
+        let (tx, sends) = mpsc::unbounded_channel();
+        let address = ([127, 0, 0, 1], 0).into();
+        Engine {
+            opened: None,
+            conn: Arc::new(ConnHandle::new(1, address, tx)),
+            sends,
+            memory: Arc::new(Memory::new(0)),
+            selectors: (0..=host::NO_SELECTOR).map(host::selector).collect(),
+        }
+    }
+
+    pub fn opened(&self) -> Option<&Opened> {
+        self.opened.as_ref()
+    }
+
+    pub fn stats(&self) -> Stats {
+        self.opened
+            .as_ref()
+            .map_or_else(Stats::default, |o| probe::stats(&o.dest))
+    }
+
+    pub fn call(&mut self, call: &Call) -> Reply {
+        let refusal = self.refusal(call);
+        if refusal != refusal::NONE {
+            return Reply::refused(refusal);
+        }
+        if call.code == code::OPEN {
+            self.open(call);
+            return Reply::refused(refusal::NONE);
+        }
+        let (answer, effects) = self.perform(call);
+        let mut events: Vec<Event> = effects.into_iter().map(dead_letter).collect();
+        while let Ok(out) = self.sends.try_recv() {
+            events.push(sent(out));
+        }
+        let opened = self.opened.as_mut().expect("an accepted call has a destination");
+        opened.calls_used += 1;
+        opened.follow_idle(call);
+        Reply {
+            refusal,
+            answer,
+            events,
+        }
+    }
+
+    fn open(&mut self, call: &Call) {
+        let [kind, topic_limit, call_limit, clock, ..] = call.args;
+        let kind = if kind == 0 {
+            DestKind::Queue
+        } else {
+            DestKind::Topic
+        };
+        let dest = Dest::new(Destination::new(kind, "oracle"), None, topic_limit as usize);
+        let idle = probe::idle_mark(&dest).map(|at| (at, clock));
+        self.opened = Some(Opened {
+            dest,
+            topic_limit,
+            call_limit,
+            calls_used: 0,
+            idle,
+        });
+    }
+
+    // -- refusals -----------------------------------------------------------------
+
+    fn refusal(&self, call: &Call) -> u8 {
+        if call.code == code::OPEN {
+            return if arguments::in_range(call) {
+                refusal::NONE
+            } else {
+                refusal::ARGUMENTS
+            };
+        }
+        let Some(opened) = &self.opened else {
+            return refusal::NOT_SOUND;
+        };
+        if !arguments::in_range(call) {
+            return refusal::ARGUMENTS;
+        }
+        if opened.calls_used == opened.call_limit {
+            return refusal::CALL_LIMIT;
+        }
+        let dest = &opened.dest;
+        match call.code {
+            code::ENQUEUE => self.refuse_enqueue(dest, call),
+            code::JOIN => self.refuse_join(dest, call),
+            code::ADD_PRODUCER => {
+                let id = host::producer_id(id_of(call));
+                let full = probe::producer_count(dest) >= PRODUCERS_MAX;
+                refuse_if(full && !probe::has_producer(dest, &id), refusal::PRODUCERS)
+            }
+            code::DUPLICATE => {
+                let id = host::producer_id(id_of(call));
+                let full = call.args[0] != 0 && probe::audit_count(dest) >= AUDITS_MAX;
+                refuse_if(full && !probe::has_audit(dest, &id), refusal::PRODUCERS)
+            }
+            _ => refusal::NONE,
+        }
+    }
+
+    fn refuse_enqueue(&self, dest: &Dest, call: &Call) -> u8 {
+        if probe::holds(dest, call.args[0]) {
+            return refusal::SEQUENCE_HELD;
+        }
+        let needed = if dest.is_queue() {
+            1
+        } else {
+            probe::accepting(dest, &host::entry(entry_of(call), &self.memory))
+        };
+        refuse_if(needed > free_rows(dest), refusal::NO_ROWS)
+    }
+
+    fn refuse_join(&self, dest: &Dest, call: &Call) -> u8 {
+        if probe::has_sub(dest, &host::consumer_id(id_of(call))) {
+            return refusal::PRESENT;
+        }
+        if probe::sub_count(dest) >= CONSUMERS_MAX {
+            return refusal::CONSUMERS;
+        }
+        let [_, _, _, _, selector, flags, clock, _] = call.args;
+        if flags & join_flag::BROWSER == 0 {
+            return refusal::NONE;
+        }
+        let selector = self.selectors[selector as usize].as_deref();
+        let needed = probe::snapshot_rows(dest, selector, clock as i64);
+        refuse_if(needed > free_rows(dest), refusal::NO_ROWS)
+    }
+
+    // -- the broker's own code ------------------------------------------------------
+
+    /// Runs an accepted call; returns its answer and its dead letters.
+    fn perform(&self, call: &Call) -> (u64, Vec<Effect>) {
+        let dest = &self
+            .opened
+            .as_ref()
+            .expect("an accepted call has a destination")
+            .dest;
+        let a = &call.args;
+        let now = |place: usize| a[place] as i64;
+        let consumer = || host::consumer_id(id_of(call));
+        let producer = || host::producer_id(id_of(call));
+        match call.code {
+            code::ENQUEUE => {
+                let effects = dest.enqueue(host::entry(entry_of(call), &self.memory), now(6));
+                return (0, effects);
+            }
+            code::JOIN => {
+                let spec = SubSpec {
+                    id: consumer(),
+                    conn: self.conn.clone(),
+                    prefetch: a[3] as i32,
+                    selector: self.selectors[a[4] as usize].clone(),
+                    no_local: a[5] & join_flag::NO_LOCAL != 0,
+                    browser: a[5] & join_flag::BROWSER != 0,
+                };
+                dest.add_sub(spec, now(6));
+            }
+            code::LEAVE => {
+                let left = dest.remove_sub(&consumer(), a[3] as i64, now(4));
+                return (u64::from(left), Vec::new());
+            }
+            code::ACK => {
+                let transacted = a[3] & ack_bit::TRANSACTED != 0;
+                let effects = dest.ack(&host::ack(ack_of(call)), transacted, now(6));
+                return (0, effects);
+            }
+            code::PULL => {
+                let generation = dest.pull(&consumer(), a[3] as i64, now(4));
+                return (generation.unwrap_or(0), Vec::new());
+            }
+            code::TIMEOUT => dest.pull_timeout(&consumer(), a[3]),
+            code::PREFETCH => dest.set_prefetch(&consumer(), a[3] as i32, now(4)),
+            code::RELEASE => dest.release_reserved(&consumer(), now(3)),
+            code::SWEEP => {
+                let removed = dest.sweep_expired(now(0), a[1] as usize);
+                return (removed as u64, Vec::new());
+            }
+            code::CLEAR => return (dest.clear() as u64, Vec::new()),
+            code::ADD_PRODUCER => dest.add_producer(producer(), meta_of(a[0])),
+            code::REMOVE_PRODUCER => dest.remove_producer(&producer()),
+            code::DUPLICATE => {
+                let duplicate = dest.is_duplicate(&host::audited_message(id_of(call), a[3] as i64));
+                return (u64::from(duplicate), Vec::new());
+            }
+            code::RELEASE_AUDITS => dest.release_audits(&host::connection_text(a[0])),
+            other => unreachable!("code {other} was accepted"),
+        }
+        (0, Vec::new())
+    }
+}
+
+fn refuse_if(test: bool, number: u8) -> u8 {
+    if test {
+        number
+    } else {
+        refusal::NONE
+    }
+}
+
+fn free_rows(dest: &Dest) -> usize {
+    let used = probe::rows_used(dest);
+    (ROWS as usize)
+        .checked_sub(used)
+        .expect("at most 512 rows are used")
+}
+
+fn id_of(call: &Call) -> Id {
+    [call.args[0], call.args[1], call.args[2]]
+}
+
+fn entry_of(call: &Call) -> EntryNumbers {
+    let [sequence, expiration, persistent, connection, match_word, redelivery, ..] = call.args;
+    EntryNumbers {
+        sequence,
+        expiration: expiration as i64,
+        persistent: persistent == 1,
+        connection,
+        match_word,
+        redelivery: redelivery as i32,
+    }
+}
+
+fn ack_of(call: &Call) -> AckNumbers {
+    let [_, _, _, word, first, last, ..] = call.args;
+    AckNumbers {
+        id: id_of(call),
+        ack_type: (word & 255) as u8,
+        first: (word & ack_bit::FIRST != 0).then_some(first),
+        last: (word & ack_bit::LAST != 0).then_some(last),
+        cause: word & ack_bit::CAUSE != 0,
+    }
+}
+
+/// Console texts of a producer, which nothing reads here.
+fn meta_of(connection: u64) -> ProducerMeta {
+    ProducerMeta {
+        conn_id: connection,
+        remote: String::new(),
+        connection_id: connection.to_string(),
+    }
+}
+
+fn dead_letter(effect: Effect) -> Event {
+    let Effect::ToDlq { entry, cause } = effect;
+    Event::Dead {
+        sequence: entry.seq,
+        redelivery: entry.redelivery,
+        cause: cause == host::CLIENT_CAUSE,
+    }
+}
+
+fn sent(out: Out) -> Event {
+    let Out::Cmd(Command::MessageDispatch(md)) = out else {
+        unreachable!("a destination sends only dispatches");
+    };
+    let MessageDispatch {
+        consumer_id,
+        message,
+        redelivery_counter,
+        ..
+    } = md;
+    let id = host::consumer_number(&consumer_id.expect("a dispatch names its consumer"));
+    match message {
+        None => Event::Null { id },
+        Some(message) => {
+            assert_eq!(
+                message.redelivery_counter, redelivery_counter,
+                "the message carries its count"
+            );
+            let message_id = message.message_id.as_ref().expect("every entry here has an id");
+            Event::Message {
+                id,
+                sequence: message_id.broker_sequence_id as u64,
+                redelivery: redelivery_counter,
+            }
+        }
+    }
+}
