@@ -1,10 +1,12 @@
 -- destination.rs, Audit: the numbers that one producer sent last, oldest first, and the ring of words that holds them. Assumes nothing.
+use mathlib.Core.Path.{_≡_}
 use Prim.Native.Nat.{ℕ, _+_}
 use mathlib.Core.Bool.{Bool, true, false, cond, _||_}
 use mathlib.Core.List.{List, [], _∷_, _++_}
-use lib.Dec.{eqb, leb, ltb}
-use lib.ListN.{length, take, drop}
+use lib.Dec.{eqb, ltb}
+use lib.ListN.{length, take, drop, set}
 use Rattle.audit.specs.declared.Audit.{Audit}
+use Rattle.audit.specs.declared.Checked.{Checked}
 
 -- AUDIT_WINDOW
 abbrev pub window : ℕ
@@ -37,3 +39,47 @@ orderOf a w = take (a .count) (drop (a .start) (take window w) ++ take (a .start
 -- whether these are a ring's numbers: until the window is full the oldest stands at 0
 unfoldable pub auditOk : Audit → Bool
 auditOk a = cond (ltb (a .count) window) (eqb (a .start) 0) (cond (eqb (a .count) window) (ltb (a .start) window) false)
+
+-- the ring of a producer that has sent nothing
+abbrev pub newAudit : Audit
+newAudit = record { start = 0; count = 0 }
+
+-- where a ring's next number goes: after the others, or over the oldest where the window is full
+unfoldable pub place : Audit → ℕ
+place a = cond (ltb (a .count) window) (a .count) (a .start)
+
+-- the ring with one number more, or where the window is full with the next one as the oldest
+unfoldable pub ringNext : Audit → Audit
+ringNext a =
+    cond (ltb (a .count) window)
+    (record { start = a .start; count = a .count + 1 })
+    (record { start = cond (ltb (a .start + 1) window) (a .start + 1) 0; count = a .count })
+
+-- the refusals: 1 a window that is short, 2 a ring out of range, 0 none
+unfoldable pub refusalOf : Audit → List ℕ → ℕ
+refusalOf a w = cond (ltb (length w) window) 1 (cond (auditOk a) 0 2)
+
+-- what check_and_record leaves: its result, and the words of the window that it was lent
+pub record Left : Type 0 where
+  pub checked : Checked
+  pub words : List ℕ
+
+abbrev pub left : ℕ → Audit → Bool → List ℕ → Left
+left n a d w = record { checked = record { refusal = n; audit = a; duplicate = d }; words = w }
+
+-- check_and_record on the ring, result and words exactly: refused, or a duplicate, nothing changes; else one word is written
+unfoldable pub ringStep : ℕ → Audit → List ℕ → Left
+ringStep q a w =
+    cond (eqb (refusalOf a w) 0)
+    (cond (seen q (orderOf a w)) (left 0 a true w) (left 0 (ringNext a) false (set w (place a) q)))
+    (left (refusalOf a w) a false w)
+
+-- what check_and_record promises of its result r and of the words v that it leaves, given the number, the ring and the words w.
+-- `exact` says all of it; the other fields say what follows, for callers that go by the order
+pub record CheckedAndRecorded (q : ℕ) (a : Audit) (w : List ℕ) (r : Checked) (v : List ℕ) : Type 0 where
+  pub exact : _≡_ {A = Left} (record { checked = r; words = v }) (ringStep q a w)
+  pub refusal : r .refusal ≡ refusalOf a w
+  pub order : refusalOf a w ≡ 0 → _≡_ {A = Tested} (record { duplicate = r .duplicate; order = orderOf (r .audit) v }) (checkAndRecord q (orderOf a w))
+  pub ok : auditOk (r .audit) ≡ auditOk a
+  pub beyond : drop window v ≡ drop window w
+  pub long : length v ≡ length w
