@@ -14,7 +14,8 @@ use Rattle.definition.specs.Types.{Kind, queue, topic, Id, Entry, Inflig
 use Rattle.definition.specs.Consumer.{expired, addExpired, isBrowser, snapshot, hasCredit, send, sendNull, redelivered, ackSub, atRest, dispatchBrowser}
 use Rattle.definition.specs.Destination.{ackAt, pullAt, removeAt, sweepAt, testAt, timeoutAt, visitAt, Out, Look, look, given, visit, scan, turns, rounds, Browsed, browsers, dispatchQueue, serveAll, dispatchTopic, dispatchBy, dispatch, touchIdle, count, isId, subOf, putSub, room, setPrefetch, ack, pulled, pull, pullTimeout, fired, resumed, fanOutAll, stored, fannedOut, enqueueBy, Spec, addSub, holdBackAll, reinsert, heldBy, reservedOf, ackReserved, returning, dropSub, removeSub, noTx, unmarked, releaseReserved, Swept, sweepList, SweptSubs, sweepSubs, sweepExpired, cleared, clear, auditOf, isDuplicate}
 use Rattle.audit.specs.Audit.{seen}
-use Rattle.definition.proofs.Lists.{by-if, by-test, All, all-put, all-find}
+use Rattle.definition.proofs.Tests.{or-no-left, by-if, by-test}
+use Rattle.definition.proofs.Lists.{All, all-put, all-find, length-map}
 use Rattle.definition.specs.Calls.{Lengths, Request, acknowledge, pulling, timedOut, prefetching, ask, Call, enqueuing, joining, leaving, asking, releasing, sweeping, clearing, adding, removing, testing, forgetting, discarding, missing, perform, refusal, call}
 use Rattle.definition.proofs.Local.{Rests, RestsTopic, RestsQueue, drained-rests, browsed-rests, alone}
 use Rattle.definition.specs.Orders.{Reached}
@@ -98,10 +99,6 @@ given-kept i s l t (some e) b = record {
   same = record { kind = refl; idle = refl; subs = set-empty (t .subs) i (send e (withCursor (l .cursor) s)) };
 }
 
-or-false : (a b : Bool) → a || b ≡ false → a ≡ false
-or-false true b e = e
-or-false false b e = refl
-
 visit-kept : (now i : ℕ) (t : Dest) → Kept t (visit now i t .dest)
 unfolding visit visitAt
 visit-kept now i t = go (nth i (t .subs)) refl
@@ -109,7 +106,7 @@ visit-kept now i t = go (nth i (t .subs)) refl
     go : (o : Option Sub) → nth i (t .subs) ≡ o → Kept t (visit now i t .dest)
     go none e = rw e (kept-refl t)
     go (some s) e = rw e (by-test (isBrowser s || not (hasCredit s)) (λ c. rw c (kept-refl t))
-        (λ c. rw c (given-kept i s (look now s (s .cursor) (t .pending)) t (look now s (s .cursor) (t .pending) .chosen) (or-false (isBrowser s) (not (hasCredit s)) c))))
+        (λ c. rw c (given-kept i s (look now s (s .cursor) (t .pending)) t (look now s (s .cursor) (t .pending) .chosen) (or-no-left (isBrowser s) (not (hasCredit s)) c))))
 
 scan-kept : (now : ℕ) (is : List ℕ) (t : Dest) → Kept t (scan now is t .dest)
 unfolding scan
@@ -274,14 +271,10 @@ module _ (b : Bool) where
       same-empty [] = refl
       same-empty (s ∷ l) = refl
 
-  length-map : (f : Inflight → Inflight) (l : List Inflight) → length (map f l) ≡ length l
-  length-map f [] = refl
-  length-map f (i ∷ l) = ap suc (length-map f l)
-
   -- release
   noTx-credit : (s : Sub) → hasCredit (noTx s) ≡ hasCredit s
   unfolding hasCredit
-  noTx-credit s = rw (length-map (λ i. record { dseq = i .dseq; entry = i .entry; freed = i .freed; tx = false }) (s .inflight))
+  noTx-credit s = rw (length-map {B = Inflight} (λ i. record { dseq = i .dseq; entry = i .entry; freed = i .freed; tx = false }) (s .inflight))
 
   noTx-rests : (k : Kind) (s : Sub) → Rests k s → Rests k (noTx s)
   unfolding isBrowser

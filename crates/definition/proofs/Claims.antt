@@ -1,18 +1,17 @@
 -- The claims of specs/Claims: accepted calls leave a sound state, and no call sends more than 545 events. Assumes nothing.
-use Prim.Native.Nat.{ℕ, _≤_}
+use Prim.Native.Nat.{ℕ}
 use native.Mathlib.Omega.{arith}
 use mathlib.Core.Path.{_≡_, sym, _∙_, ap, subst⁻¹}
 use mathlib.Core.Bool.{true}
-use mathlib.Core.List.{List}
 use mathlib.Core.Option.{Option, none, some}
 use lib.Dec.{eqb}
 use borrow.Author.Tests.{eqb-true, eqb-false}
 use Rattle.definition.specs.Types.{Dest}
 use Rattle.definition.specs.Calls.{Lengths, Call, Result, sound}
 use Rattle.definition.specs.Words.{decode, callStep, step}
-use Rattle.definition.specs.Orders.{Reached, opening}
+use Rattle.definition.specs.Orders.{opening}
 use Rattle.definition.specs.Claims.{StepLeavesSound, CallLeavesSound, ReachedSound, StepSends, CallSends}
-use Rattle.definition.proofs.Lists.{by-test}
+use Rattle.definition.proofs.Tests.{by-test}
 use Rattle.definition.proofs.Made.{call-accepted, none-refused, step-call}
 use Rattle.definition.proofs.Kept as Kept
 use Rattle.definition.proofs.Sends as Sends

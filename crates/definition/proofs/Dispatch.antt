@@ -3,7 +3,7 @@ use Prim.Native.Nat.{ℕ, zero, suc, _+_, _-_, _%_, _≤_, _^_}
 use native.Mathlib.Omega.{arith}
 use native.Mathlib.Nat.{mod-lt}
 use mathlib.Core.Path.{_≡_, refl, sym, _∙_, ap, subst}
-use mathlib.Core.Bool.{Bool, true, false, not, _||_, true≢false}
+use mathlib.Core.Bool.{true, false, not, _||_, true≢false}
 use mathlib.Core.List.{List, [], _∷_, _++_, map}
 use mathlib.Core.Option.{Option, none, some}
 use lib.Dec.{leb, ltb, eqb}
@@ -15,8 +15,9 @@ use Rattle.definition.specs.Types.{Kind, queue, topic, Entry, Sub, Stats
 use Rattle.definition.specs.Consumer.{expired, accepts, zeroStats, _⊕_, addExpired, addDispatched, isBrowser, shown, snapshot, hasCredit, send, inflightOf, atRest, serveTopic, Browse, drainBrowser, dispatchBrowser, meetBrowser, closeBrowser}
 use Rattle.definition.specs.Destination.{visitAt, count, Look, look, given, visit, scan, turns, rounds, Browsed, browsers, dispatchQueue, serveAll, dispatchTopic, dispatchBy}
 use Rattle.definition.specs.Calls.{entryOk, seqs, flying, rowsOf}
-use Rattle.definition.proofs.Lists.{by-test, by-if, none-some, some-inj, All}
-use Rattle.definition.proofs.Thin.{Thin, done, skip, stay, thin-refl, thin-trans, and-left, and-right, map-append, tally-append, ascending-more}
+use Rattle.definition.proofs.Tests.{or-no-left, by-if, by-test, and-left, and-right}
+use Rattle.definition.proofs.Lists.{none-some, some-inj, All, empty-nil}
+use Rattle.definition.proofs.Thin.{Thin, done, skip, stay, thin-refl, thin-trans, map-append, tally-append, ascending-more}
 use Rattle.definition.proofs.Sums.{sum, Tame, one, occ, bad, sum-append, sum-thin, sum-one, ok-sum, sum-ok, sum-once, thin-ascending, thin-keep, bad-ok}
 use Rattle.definition.proofs.Fit.{Fit, Little, total, met, dseqs, drain-little, browses-little}
 use Rattle.definition.proofs.Grown.{counted}
@@ -199,10 +200,6 @@ no-snapshot s c = go (s .browser) c
     go none h = refl
     go (some l) h = absurd (true≢false h)
 
-empty-nil : (l : List Entry) → empty l ≡ true → l ≡ []
-empty-nil [] h = refl
-empty-nil (e ∷ l) h = absurd (true≢false (sym h))
-
 pub plain-rows : (f : Entry → ℕ) (s : Sub) → Fit queue s → isBrowser s ≡ false → rowsM f s ≡ sum f (flying s)
 unfolding rowsM
 plain-rows f s h c = omega (arith, sum-append f (flying s) (s .tpending ++ snapshot s), sum-append f (s .tpending) (snapshot s), ap (sum f) (empty-nil (s .tpending) (h .stands)), ap (sum f) (no-snapshot s c))
@@ -320,10 +317,6 @@ module _ (L U : ℕ) where
   unfolding Bounded
   bounded-more M P t h b = (b .0, b .1, omega (arith, b .2))
 
-  or-false : (a b : Bool) → a || b ≡ false → a ≡ false
-  or-false true b e = e
-  or-false false b e = refl
-
   visit-fine : (M now i : ℕ) (t : Dest) → Bounded M t → Bounded M (visit now i t .dest)
   unfolding visit visitAt Bounded
   visit-fine M now i t b = go (nth i (t .subs)) refl
@@ -331,7 +324,7 @@ module _ (L U : ℕ) where
       go : (o : Option Sub) → nth i (t .subs) ≡ o → Bounded M (visit now i t .dest)
       go none e = rw e b
       go (some s) e = rw e (by-test (isBrowser s || not (hasCredit s)) (λ c. rw c b)
-          (λ c. rw c (bounded-more (b .0 + length (t .pending)) M _ (b .2) (given-fine (b .0) i s (look now s (s .cursor) (t .pending)) t (look now s (s .cursor) (t .pending) .chosen) (b .1) e (or-false (isBrowser s) _ c) refl (looks now s (s .cursor) (t .pending))))))
+          (λ c. rw c (bounded-more (b .0 + length (t .pending)) M _ (b .2) (given-fine (b .0) i s (look now s (s .cursor) (t .pending)) t (look now s (s .cursor) (t .pending) .chosen) (b .1) e (or-no-left (isBrowser s) _ c) refl (looks now s (s .cursor) (t .pending))))))
 
   scan-fine : (M now : ℕ) (is : List ℕ) (t : Dest) → Bounded M t → Bounded M (scan now is t .dest)
   unfolding scan

@@ -1,5 +1,5 @@
 -- Consumers changed one by one, with no row more: what that keeps of a sound state. Assumes nothing.
-use Prim.Native.Nat.{ℕ, suc, _+_, _≤_}
+use Prim.Native.Nat.{ℕ, _+_, _≤_}
 use native.Mathlib.Omega.{arith}
 use mathlib.Core.Path.{_≡_, refl, sym, _∙_, ap, subst⁻¹}
 use mathlib.Core.Bool.{Bool, true, not, _&&_, _||_}
@@ -11,7 +11,8 @@ use Rattle.definition.specs.Base.{all, find, put, ascending}
 use Rattle.definition.specs.Types.{Kind, queue, topic, Id, Entry, Sub, Stats, Held, Dest, withPending, withSubs, withRr, withStats, withIdle, withReserved}
 use Rattle.definition.specs.Consumer.{sameId}
 use Rattle.definition.specs.Calls.{distinctIds, seqs, held, idOk, optional, clockOk}
-use Rattle.definition.proofs.Lists.{by-test, if-true, if-false, some-inj, All}
+use Rattle.definition.proofs.Tests.{if-true, if-false, by-test}
+use Rattle.definition.proofs.Lists.{some-inj, All, length-map}
 use Rattle.definition.proofs.Sums.{sum, Tame, one, occ, bad, one-tame, occ-tame, bad-tame}
 use Rattle.definition.proofs.Whole.{sums, rowsM, countM, queueSum, Sane, sane-more, Under, Once, Frame, Fine}
 
@@ -35,10 +36,6 @@ ids-list (s ∷ l) = ap (λ b. all (λ r. not (sameId (r .id) (s .id))) l && b) 
 
 pub ids-same : (l m : List Sub) → idsOf m ≡ idsOf l → distinctIds m ≡ distinctIds l
 ids-same l m h = ids-list m ∙ ap idsDistinct h ∙ sym (ids-list l)
-
-length-ids : (l : List Sub) → length (idsOf l) ≡ length l
-length-ids [] = refl
-length-ids (s ∷ l) = ap suc (length-ids l)
 
 -- ---- one consumer
 
@@ -86,7 +83,7 @@ each-map k x N g [] e h = each-nil k x N
 each-map k x N g (s ∷ l) e h = each-cons x N l (map g l) (omega arith) (h .0) (e s) (each-map k x N g l e (h .1))
 
 pub each-length : (k : Kind) (x N : ℕ) (l m : List Sub) → Each k x N l m → length m ≡ length l
-each-length k x N l m e = sym (length-ids m) ∙ ap length (e .ids) ∙ length-ids l
+each-length k x N l m e = sym (length-map (λ s. s .id) m) ∙ ap length (e .ids) ∙ length-map (λ s. s .id) l
 
 -- ---- the destination
 

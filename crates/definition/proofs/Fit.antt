@@ -2,22 +2,23 @@
 use Prim.Native.Nat.{ℕ, suc, _+_, _≤_, _^_}
 use native.Mathlib.Omega.{arith}
 use mathlib.Core.Path.{_≡_, refl, sym, _∙_, ap, subst, subst⁻¹}
-use mathlib.Core.Bool.{Bool, true, false, not, _&&_, true≢false}
+use mathlib.Core.Bool.{Bool, true, false, not, _&&_}
 use mathlib.Core.List.{List, [], _∷_, _++_, map, append-assoc}
 use lib.Dec.{leb, ltb}
 use lib.ListN.{length, length-append}
 use borrow.Author.Tests.{leb-true, le-leb, eqb-true, eq-eqb}
 use lib.IntN.{pos}
-use Rattle.definition.specs.Base.{is-some, keep, tally, all, empty, distinct, ascending}
+use Rattle.definition.specs.Base.{is-some, keep, tally, all, distinct, ascending}
 use Rattle.definition.specs.Types.{Kind, queue, topic, Entry, Inflight, Sub, Stats, withTpending, withInflight, withFreed}
 use Rattle.definition.specs.Consumer.{expired, Step, isBrowser, shown, snapshot, withSnapshot, hasCredit, send, sendNull, inflightOf, Ack, AckType, Delivered, Poison, Standard, Redelivered, Individual, Unmatched, Expired, Other, ackType, ackRange, ackLast, marked, free, removeInflight, bumped, redeliver, ackTransacted, ackPlain, ackSub, meetTopic, drainTopic, atRest, Browse, meetBrowser, closeBrowser, drainBrowser, dispatchBrowser, sameSeq}
 use Rattle.definition.specs.Destination.{room}
 use Rattle.definition.specs.Calls.{idOk, optional, entryOk, bound, seqs, flying, rowsOf, subPlaced, subTests, subSound}
-use Rattle.definition.proofs.Lists.{by-test, by-if}
+use Rattle.definition.proofs.Tests.{by-if, by-test}
+use Rattle.definition.proofs.Lists.{empty-nil}
 use mathlib.Core.Option.{Option, none, some}
 use Rattle.definition.proofs.Reorder.{nil-cons}
 use Rattle.definition.proofs.Sums.{keep-tally}
-use Rattle.definition.proofs.Local.{serve, alone}
+use Rattle.definition.proofs.Local.{serve, alone, meet-tpending}
 use Rattle.definition.proofs.Thin.{every-all, all-every, Thin, done, skip, stay, thin-refl, thin-append, thin-trans, thin-ok, thin-distinct, redelivered-ok, ascending-keep, ascending-more, ascending-tail, map-append, tally-append}
 
 -- the pull that waits is at most m
@@ -332,10 +333,6 @@ meet-little now e es t q f =
       counts = by-test (expired (pos now) e) (λ c. rw c (omega arith)) (λ c. rw c (omega arith));
     }
 
-meet-rest : (now : ℕ) (e : Entry) (es : List Entry) (t : Step) → meetTopic now e es t .sub .tpending ≡ es
-unfolding meetTopic
-meet-rest now e es t = by-test (expired (pos now) e) (λ c. rw c) (λ c. rw c)
-
 pub drain-little : (now : ℕ) (l : List Entry) (t : Step) → t .sub .tpending ≡ l → Fit topic (t .sub) →
     Little topic (length l) (total (t .counts)) (t .sub) (drainTopic now l t .sub) (total (drainTopic now l t .counts))
 unfolding drainTopic
@@ -343,13 +340,9 @@ drain-little now [] t q f = little-refl topic 0 (total (t .counts)) (t .sub) f
 drain-little now (e ∷ es) t q f = by-test (hasCredit (t .sub))
     (λ c. rw c
     (let m = meet-little now e es t q f in
-    let r = little-trans m (drain-little now es (meetTopic now e es t) (meet-rest now e es t) (m .less .still)) in
+    let r = little-trans m (drain-little now es (meetTopic now e es t) (meet-tpending now e es t) (m .less .still)) in
     record { less = r .less; next = omega (arith, r .next); generation = r .generation; pulls = r .pulls; browser = r .browser; counts = omega (arith, r .counts) }))
     (λ c. rw c (little-refl topic (suc (length es)) (total (t .counts)) (t .sub) f))
-
-empty-nil : (l : List Entry) → empty l ≡ true → l ≡ []
-empty-nil [] h = refl
-empty-nil (e ∷ l) h = absurd (true≢false (sym h))
 
 thin-path : {l m : List Entry} → l ≡ m → Thin l m
 thin-path {l} p = subst (λ (x : List Entry). Thin l x) p (thin-refl l)

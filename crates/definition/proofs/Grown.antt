@@ -1,9 +1,9 @@
 -- What a consumer's own call makes of a sound consumer. Assumes nothing.
-use Prim.Native.Nat.{ℕ, suc, _+_, _≤_, _^_}
+use Prim.Native.Nat.{ℕ, _+_, _≤_, _^_}
 use native.Mathlib.Omega.{arith}
 use mathlib.Core.Path.{_≡_, refl, _∙_, ap, subst, subst⁻¹}
 use mathlib.Core.Bool.{Bool, true, false, not, _&&_}
-use mathlib.Core.List.{List, [], _∷_, _++_, map}
+use mathlib.Core.List.{List, [], _++_, map}
 use mathlib.Core.Option.{Option, none, some}
 use lib.Dec.{leb, ltb, eqb}
 use lib.ListN.{length, length-append}
@@ -15,10 +15,11 @@ use Rattle.definition.specs.Types.{Kind, queue, topic, Entry, Inflight, 
 use Rattle.definition.specs.Consumer.{_⊕_, addExpired, Step, isBrowser, snapshot, sendNull, Ack, AckType, Delivered, Poison, Standard, Redelivered, Individual, Unmatched, Expired, Other, ackType, ackRange, ackLast, unlessBrowser, ackPlain, ackSub, atRest, addDequeued, addDiscarded}
 use Rattle.definition.specs.Destination.{room}
 use Rattle.definition.specs.Calls.{optional, within, flying, rowsOf, Request, acknowledge, pulling, timedOut, prefetching, requestOk}
-use Rattle.definition.proofs.Lists.{by-test, by-if, if-true, if-false}
+use Rattle.definition.proofs.Tests.{if-true, if-false, by-if, by-test, and-left}
+use Rattle.definition.proofs.Lists.{length-map}
 use Rattle.definition.proofs.Local.{serve}
 use Rattle.definition.proofs.Own.{own, ownPulled, ownFired, pulling-sub}
-use Rattle.definition.proofs.Thin.{Thin, done, thin-refl, thin-none, thin-trans, thin-length, tally-length, and-left}
+use Rattle.definition.proofs.Thin.{Thin, done, thin-refl, thin-none, thin-trans, thin-length, tally-length}
 use Rattle.definition.proofs.Fit.{Waits, Fit, Less, less-refl, less-trans, Acked, ack-acked, null-fit, total, serve-little}
 
 -- what counts of a queue's consumer among the queue's entries
@@ -56,10 +57,6 @@ plain-total Other a s = omega arith
 pub ack-total : (a : Ack) (s : Sub) → total (ackSub a s .counts) ≤ length (s .inflight)
 unfolding ackSub
 ack-total a s = by-if (λ (t : Step). total (t .counts) ≤ length (s .inflight)) (a .transacted) _ _ (λ q. omega arith) (λ q. plain-total (ackType (a .type)) a s)
-
-length-map : {A B : Type 0} (f : A → B) (l : List A) → length (map f l) ≡ length l
-length-map f [] = refl
-length-map f (x ∷ l) = ap suc (length-map f l)
 
 inflight-rows : (s : Sub) → length (s .inflight) ≤ length (rowsOf s)
 inflight-rows s = omega (arith, length-append (flying s) (s .tpending ++ snapshot s), length-map (λ i. i .entry) (s .inflight))

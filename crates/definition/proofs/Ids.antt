@@ -1,7 +1,7 @@
 -- Identifiers that are the same. Assumes nothing.
 use mathlib.Core.Path.{_≡_, refl, sym, _∙_, ap}
-use mathlib.Core.Bool.{Bool, true, false, true≢false}
-use Prim.Native.Nat.{ℕ, _≤_}
+use mathlib.Core.Bool.{true, false, true≢false}
+use Prim.Native.Nat.{ℕ}
 use native.Mathlib.Omega.{arith}
 use lib.Dec.{eqb, leb}
 use lib.IntN.{ℤ, pos, negsuc}
@@ -9,8 +9,7 @@ use borrow.Author.Tests.{eqb-true, eq-eqb, leb-true, le-leb}
 use Rattle.model.specs.Model.{sameSigned}
 use Rattle.definition.specs.Types.{Id}
 use Rattle.definition.specs.Consumer.{sameId}
-use Rattle.definition.proofs.Lists.{by-test}
-use Rattle.definition.proofs.Thin.{and-left, and-right, and-both}
+use Rattle.definition.proofs.Tests.{by-test, and-left, and-right, and-both}
 
 same-number : (a b : ℕ) → leb a b ≡ true → leb b a ≡ true → a ≡ b
 same-number a b h k = omega (arith, leb-true a b h, leb-true b a k)

@@ -2,7 +2,7 @@
 use Prim.Native.Nat.{ℕ, _+_, _≤_, _^_}
 use native.Mathlib.Omega.{arith}
 use mathlib.Core.Path.{_≡_, refl, sym, _∙_, ap}
-use mathlib.Core.Bool.{Bool, true, false, not, _&&_, _||_, true≢false}
+use mathlib.Core.Bool.{Bool, true, false, not, _&&_, _||_, true≢false, or-true}
 use mathlib.Core.List.{List, [], _∷_, _++_}
 use mathlib.Core.Option.{Option, none, some}
 use lib.Dec.{ltb, eqb}
@@ -14,8 +14,9 @@ use Rattle.definition.specs.Types.{Kind, queue, topic, Entry, Sub, Dest,
 use Rattle.definition.specs.Consumer.{sameId, expired, selects, _⊕_, addExpired, isBrowser, shown}
 use Rattle.definition.specs.Destination.{count, isId, subOf, Spec, room, newSub, joined, addSub}
 use Rattle.definition.specs.Calls.{idOk, specOk, within, rowsOf, distinctIds, snapshotRows}
-use Rattle.definition.proofs.Lists.{by-test, by-if, if-true, if-false, All}
-use Rattle.definition.proofs.Thin.{and-left, and-right, and-both, tally-length}
+use Rattle.definition.proofs.Tests.{if-true, if-false, by-if, by-test, and-left, and-right, and-both}
+use Rattle.definition.proofs.Lists.{All}
+use Rattle.definition.proofs.Thin.{tally-length}
 use Rattle.definition.proofs.Ids.{same-sym}
 use Rattle.definition.proofs.Sums.{sum, one, occ, bad, sum-one, sum-keep, thin-ascending, thin-keep, ok-sum, sum-ok, sum-once}
 use Rattle.definition.proofs.Grown.{room-within}
@@ -51,10 +52,6 @@ ids-more (s ∷ l) v h n = by-test (isId (v .id) s)
 
 turn-more : (r m n : ℕ) → m ≤ n → (ltb r m || eqb r 0) ≡ true → (ltb r n || eqb r 0) ≡ true
 turn-more r m n h = by-test (ltb r m) (λ c. rw (c, lt-ltb r n (omega (arith, ltb-true r m c))) (λ e. e)) (λ c. rw c (λ e. rw e (or-true (ltb r n))))
-  where
-    or-true : (b : Bool) → (b || true) ≡ true
-    or-true true = refl
-    or-true false = refl
 
 new-rows : (f : Entry → ℕ) (p : Spec) (o : Option (List Entry)) → rowsM f (newSub p o) ≡ sum f (shown o)
 unfolding rowsM

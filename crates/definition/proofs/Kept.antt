@@ -1,12 +1,11 @@
 -- Every destination that accepted calls leave is sound. Assumes nothing.
 use Prim.Native.Nat.{ℕ, suc, _+_, _-_, _≤_, _^_}
 use native.Mathlib.Omega.{arith}
-use mathlib.Core.Path.{_≡_, refl, sym, _∙_, ap, subst⁻¹}
-use mathlib.Core.Bool.{Bool, true, false, not, _&&_, true≢false}
+use mathlib.Core.Path.{_≡_, refl, _∙_, ap, subst⁻¹}
+use mathlib.Core.Bool.{Bool, true, false, not, _&&_}
 use mathlib.Core.List.{List, [], _∷_, _++_}
 use mathlib.Core.Option.{Option, none, some}
 use lib.Dec.{leb, ltb, eqb}
-use lib.IntN.{ℤ}
 use lib.ListN.{length, length-append, drop}
 use borrow.Author.Tests.{leb-true, leb-false, le-leb, ltb-false, eqb-false}
 use Rattle.definition.specs.Base.{if_then_else_, keep, all, find, put, is-some, member}
@@ -16,12 +15,13 @@ use Rattle.audit.specs.Audit.{seen, recorded}
 use Rattle.definition.specs.Destination.{Answer, Spec, joined, subOf, enqueueBy, isProducer, addProducer, auditOf, removeProducer, testAt, isDuplicate, releaseAudits}
 use Rattle.definition.specs.Calls.{Lengths, short, entryOk, idOk, word, within, optional, clockOk, bound, seqs, allRows, freeRows, rowsFor, snapshotRows, auditOk, placed, sound, Call, enqueuing, joining, leaving, asking, releasing, sweeping, clearing, adding, removing, testing, forgetting, discarding, missing, specOk, argumentsOk, ownRefusal, perform, refusal, used, call, openOk, opened}
 use Rattle.definition.specs.Orders.{Reached}
-use Rattle.definition.proofs.Lists.{by-test, by-if}
-use Rattle.definition.proofs.Thin.{and-left, and-right, and-both, every-all, all-every}
+use Rattle.definition.proofs.Tests.{and-false, by-if, by-test, and-left, and-right}
+use Rattle.definition.proofs.Lists.{keep-length, all-end, all-drop, all-keep, length-put}
+use Rattle.definition.proofs.Thin.{every-all, all-every}
 use Rattle.definition.proofs.Sums.{one, occ, sum-one, occ-member}
-use Rattle.definition.proofs.Sound.{facts, from-facts, length-put, all-put-bool, find-all}
+use Rattle.definition.proofs.Sound.{facts, from-facts, all-put-bool, find-all}
 use Rattle.definition.proofs.Whole.{rowsSum, Fine, fine, unfine, fine-more, rows-length}
-use Rattle.definition.proofs.Ops.{once-topic, fine-from, touch-fine, count-fine, ask-fine, all-keep}
+use Rattle.definition.proofs.Ops.{once-topic, fine-from, touch-fine, count-fine, ask-fine}
 use Rattle.definition.proofs.Reach.{enqueue-fine}
 use Rattle.definition.proofs.Join.{joined-fine, join-fine}
 use Rattle.definition.proofs.Leave.{leave-fine, release-fine, sweep-fine, clear-fine}
@@ -64,24 +64,8 @@ tables-fine L U k N t p a i g b c d e m = fine-from L U k N N t (tables p a i t)
     (record { limit = g .frame .limit; used = g .frame .used; topic-limit = g .frame .topic-limit; few-producers = b; producers = c; few-audits = d; audits = e; holders = g .frame .holders; mark = m })
     (g .few-subs) (g .subs) (g .ids) (λ f w. omega arith) (λ q f w. omega arith) (once-topic k t (g .once)) (g .sorted) (g .turn) (g .counters)
 
-all-end : {A : Type 0} (p : A → Bool) (l : List A) (a : A) → all p l ≡ true → p a ≡ true → all p (l ++ a ∷ []) ≡ true
-all-end p [] a h g = rw g
-all-end p (x ∷ l) a h g = and-both (p x) _ (and-left (p x) (all p l) h) (all-end p l a (and-right (p x) (all p l) h) g)
-
-all-drop : {A : Type 0} (p : A → Bool) (l : List A) → all p l ≡ true → all p (drop 1 l) ≡ true
-all-drop p [] h = h
-all-drop p (x ∷ l) h = and-right (p x) (all p l) h
-
-keep-length : {A : Type 0} (p : A → Bool) (l : List A) → length (keep p l) ≤ length l
-keep-length p [] = omega arith
-keep-length p (a ∷ l) = by-test (p a) (λ c. rw c (omega (arith, keep-length p l))) (λ c. rw c (omega (arith, keep-length p l)))
-
 fewer : {A : Type 0} (p : A → Bool) (l : List A) (n : ℕ) → leb (length l) n ≡ true → leb (length (keep p l)) n ≡ true
 fewer p l n h = le-leb (length (keep p l)) n (omega (arith, keep-length p l, leb-true (length l) n h))
-
-and-false : (a b : Bool) → (a && b) ≡ false → a ≡ true → b ≡ false
-and-false true b h e = h
-and-false false b h e = absurd (true≢false (sym e))
 
 add-fine : (L U : ℕ) (k : Kind) (N : ℕ) (i : Id) (t : Dest) → Fine L U k N t → idOk i ≡ true → (not (isProducer i (t .producers)) && leb 32 (length (t .producers))) ≡ false → Fine L U k N (addProducer i t)
 add-fine L U k N i t g h r = by-if (λ (p : List Id). Fine L U k N (withIdle none (withProducers p t))) (isProducer i (t .producers)) (t .producers) (t .producers ++ i ∷ [])
@@ -92,12 +76,12 @@ add-fine L U k N i t g h r = by-if (λ (p : List Id). Fine L U k N (withIdle non
 
 remove-fine : (L U : ℕ) (k : Kind) (N now : ℕ) (i : Id) (t : Dest) → Fine L U k N t → clockOk now ≡ true → Fine L U k (N + 1) (removeProducer now i t)
 remove-fine L U k N now i t g h = touch-fine L U k N now _ h (tables-fine L U k N t (keep (λ j. not (sameId j i)) (t .producers)) (keep (λ a. not (auditOf i a)) (t .audits)) (t .idle) g
-    (fewer (λ j. not (sameId j i)) (t .producers) 32 (g .frame .few-producers)) (all-keep L U k idOk (λ j. not (sameId j i)) (t .producers) (g .frame .producers))
-    (fewer (λ a. not (auditOf i a)) (t .audits) 8 (g .frame .few-audits)) (all-keep L U k auditOk (λ a. not (auditOf i a)) (t .audits) (g .frame .audits)) (g .frame .mark))
+    (fewer (λ j. not (sameId j i)) (t .producers) 32 (g .frame .few-producers)) (all-keep idOk (λ j. not (sameId j i)) (t .producers) (g .frame .producers))
+    (fewer (λ a. not (auditOf i a)) (t .audits) 8 (g .frame .few-audits)) (all-keep auditOk (λ a. not (auditOf i a)) (t .audits) (g .frame .audits)) (g .frame .mark))
 
 forget-fine : (L U : ℕ) (k : Kind) (N conn : ℕ) (t : Dest) → Fine L U k N t → Fine L U k N (releaseAudits conn t)
 forget-fine L U k N conn t g = tables-fine L U k N t (t .producers) (keep (λ a. not (eqb (Audit.producer a .conn) conn)) (t .audits)) (t .idle) g (g .frame .few-producers) (g .frame .producers)
-    (fewer (λ a. not (eqb (Audit.producer a .conn) conn)) (t .audits) 8 (g .frame .few-audits)) (all-keep L U k auditOk (λ a. not (eqb (Audit.producer a .conn) conn)) (t .audits) (g .frame .audits)) (g .frame .mark)
+    (fewer (λ a. not (eqb (Audit.producer a .conn) conn)) (t .audits) 8 (g .frame .few-audits)) (all-keep auditOk (λ a. not (eqb (Audit.producer a .conn) conn)) (t .audits) (g .frame .audits)) (g .frame .mark)
 
 -- ---- audits
 

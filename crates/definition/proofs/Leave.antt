@@ -2,7 +2,7 @@
 use Prim.Native.Nat.{ℕ, zero, suc, _+_, _-_, _≤_}
 use native.Mathlib.Omega.{arith}
 use mathlib.Core.Path.{_≡_, refl, sym, _∙_, ap, subst, subst⁻¹}
-use mathlib.Core.Bool.{Bool, true, false, not, _||_, true≢false}
+use mathlib.Core.Bool.{Bool, true, false, not, _||_, true≢false, or-true}
 use mathlib.Core.List.{List, [], _∷_, _++_, map}
 use mathlib.Core.Option.{Option, none, some}
 use lib.Dec.{leb, ltb, eqb}
@@ -14,14 +14,15 @@ use Rattle.definition.specs.Types.{Kind, queue, topic, Id, Entry, Inflig
 use Rattle.definition.specs.Consumer.{sameId, expired, _⊕_, addExpired, isBrowser, shown, snapshot, redelivered}
 use Rattle.definition.specs.Destination.{count, isId, subOf, insertAll, holdBackAll, room, wasDelivered, returnedFrom, reservedFrom, without, dropSub, returning, removeAt, removeSub, reinsert, heldBy, reservedOf, noTx, unmarked, releaseReserved, Swept, sweepAt, sweepList, soonest, SweptSubs, sweepSubs, sweepExpired, emptied, cleared, clear}
 use Rattle.definition.specs.Calls.{entryOk, idOk, clockOk, seqs, flying, rowsOf, held, distinctIds}
-use Rattle.definition.proofs.Lists.{by-test, by-if, if-true, if-false, none-some, some-inj, All}
-use Rattle.definition.proofs.Thin.{Thin, done, thin-refl, thin-trans, thin-append, thin-ok, thin-distinct, redelivered-ok, and-left, and-right, and-both, map-append, tally-length}
+use Rattle.definition.proofs.Tests.{if-true, if-false, by-if, by-test, and-left, and-right, and-both}
+use Rattle.definition.proofs.Lists.{none-some, some-inj, All, empty-nil, all-append, all-keep}
+use Rattle.definition.proofs.Thin.{Thin, done, thin-refl, thin-trans, thin-append, thin-ok, thin-distinct, redelivered-ok, map-append, tally-length}
 use Rattle.definition.proofs.Sums.{sum, Tame, one, one-tame, sum-append, sum-thin, sum-one, sum-keep, sum-insertAll, insertAll-ascending, thin-ascending, thin-keep, thin-redelivered}
 use Rattle.definition.proofs.Fit.{Fit, Acked, refit}
 use Rattle.definition.proofs.Whole.{sums, rowsM, countM, rowsSum, queueSum, Sane, sane-more, Under, all-map, Frame, Fine, fine-more}
 use Rattle.definition.proofs.Each.{Eased, Each, each-nil, each-cons, each-map, each-length, each-fine, ids-same, renewed, frame-renewed}
 use Rattle.definition.proofs.Dispatch.{not-topic, under-plus, count-browser, count-plain, plain-rows}
-use Rattle.definition.proofs.Ops.{once-topic, fine-from, subs-fine, touch-fine, kind-fine, under-same, acked-eased, all-keep}
+use Rattle.definition.proofs.Ops.{once-topic, fine-from, subs-fine, touch-fine, kind-fine, under-same, acked-eased}
 use Rattle.definition.proofs.Reach.{back-all-eased}
 use Rattle.definition.proofs.Join.{by-bool}
 
@@ -60,10 +61,6 @@ module _ (p : Sub → Bool) where
 
 turn-less : (r n : ℕ) → (ltb (if leb n r then 0 else r) n || eqb (if leb n r then 0 else r) 0) ≡ true
 turn-less r n = by-test (leb n r) (λ c. rw c (or-true (ltb 0 n))) (λ c. rw (c, lt-ltb r n (leb-false n r c)))
-  where
-    or-true : (b : Bool) → (b || true) ≡ true
-    or-true true = refl
-    or-true false = refl
 
 -- ---- what returns, and what stays reserved
 
@@ -83,10 +80,6 @@ holders-from : (j : Id) (l : List Inflight) → idOk j ≡ true → all (λ h. i
 holders-from j [] h = refl
 holders-from j (i ∷ l) h = by-bool (λ b. all (λ h. idOk (h .holder)) (if b then record { holder = j; entry = i .entry } ∷ reservedFrom j l else reservedFrom j l) ≡ true)
     (and-both (idOk j) _ h (holders-from j l h)) (holders-from j l h) (i .tx)
-
-all-append : {A : Type 0} (p : A → Bool) (l m : List A) → all p l ≡ true → all p m ≡ true → all p (l ++ m) ≡ true
-all-append p [] m h g = g
-all-append p (e ∷ l) m h g = and-both (p e) _ (and-left (p e) (all p l) h) (all-append p l m (and-right (p e) (all p l) h) g)
 
 -- the destination, before entries return
 record Before (L U N K : ℕ) (t d : Dest) (es : List Entry) : Type 0 where
@@ -210,7 +203,7 @@ module _ (L U : ℕ) where
       record {
         was = g;
         kind = g .kind;
-        frame = frame-renewed L U (t .rr) (t .stats) (unmarked i t .subs) (t .pending) (keep (λ h. not (heldBy i h)) (t .reserved)) (t .idle) t (g .frame) (all-keep L U queue (λ h. idOk (h .holder)) (λ h. not (heldBy i h)) (t .reserved) (g .frame .holders)) (g .frame .mark);
+        frame = frame-renewed L U (t .rr) (t .stats) (unmarked i t .subs) (t .pending) (keep (λ h. not (heldBy i h)) (t .reserved)) (t .idle) t (g .frame) (all-keep (λ h. idOk (h .holder)) (λ h. not (heldBy i h)) (t .reserved) (g .frame .holders)) (g .frame .mark);
         few-subs = omega (arith, g .few-subs, each-length queue 1 N (t .subs) (unmarked i t .subs) e);
         subs = e .sane;
         ids = ids-same (t .subs) (unmarked i t .subs) (e .ids) ∙ g .ids;
@@ -251,10 +244,6 @@ module _ (L U : ℕ) where
 
   thin-nil : (l : List Entry) → Thin [] l → l ≡ []
   thin-nil l done = refl
-
-  empty-nil : (l : List Entry) → empty l ≡ true → l ≡ []
-  empty-nil [] h = refl
-  empty-nil (e ∷ l) h = absurd (true≢false (sym h))
 
   list-thin : (s : Sub) (l : List Entry) → Thin (s .tpending) l → Thin (rowsOf s) (rowsOf (withTpending l s))
   list-thin s l h = thin-append _ _ (thin-refl (flying s)) (thin-append _ _ h (thin-refl (snapshot s)))

@@ -1,29 +1,13 @@
 -- Laws of the definitions' list functions. Assumes nothing.
-use Prim.Native.Nat.{ℕ, zero, suc}
+use Prim.Native.Nat.{ℕ, zero, suc, _≤_}
 use mathlib.Core.Path.{_≡_, refl, sym, _∙_, ap, subst}
-use mathlib.Core.Bool.{Bool, true, false}
-use mathlib.Core.List.{List, [], _∷_, _++_}
+use mathlib.Core.Bool.{Bool, true, false, true≢false}
+use mathlib.Core.List.{List, [], _∷_, _++_, map}
 use mathlib.Core.Option.{Option, none, some}
-use lib.ListN.{set}
+use lib.ListN.{length, set, drop}
 use native.Mathlib.Omega.{arith}
-use Rattle.definition.specs.Base.{if_then_else_, find, put, nth, empty}
-
-module _ {ℓ} {A : Type ℓ} where
-  pub if-true : {b : Bool} (x y : A) → b ≡ true → if_then_else_ b x y ≡ x
-  if-true x y e = rw e
-
-  pub if-false : {b : Bool} (x y : A) → b ≡ false → if_then_else_ b x y ≡ y
-  if-false x y e = rw e
-
--- a property of an if by its two cases, with what the test came to. (`rw` by a test that is a field of a record puts its value into the record everywhere.)
-pub by-if {ℓ κ} : {A : Type ℓ} (P : A → Type κ) (b : Bool) (x y : A) → (b ≡ true → P x) → (b ≡ false → P y) → P (if_then_else_ b x y)
-by-if P true x y f g = f refl
-by-if P false x y f g = g refl
-
--- by cases on a test, with what it came to
-pub by-test {ℓ} : {P : Type ℓ} (b : Bool) → (b ≡ true → P) → (b ≡ false → P) → P
-by-test true f g = f refl
-by-test false f g = g refl
+use Rattle.definition.specs.Base.{keep, all, find, put, nth, empty}
+use Rattle.definition.proofs.Tests.{by-test, if-true, if-false, and-left, and-right, and-both}
 
 module _ {ℓ} {A : Type ℓ} where
   pub none-some : {a : A} → _≡_ {A = Option A} none (some a) → ⊥
@@ -31,10 +15,6 @@ module _ {ℓ} {A : Type ℓ} where
 
   pub some-inj : {a b : A} → _≡_ {A = Option A} (some a) (some b) → a ≡ b
   some-inj e = cc
-
-  pub append-nil : (l : List A) → l ++ [] ≡ l
-  append-nil [] = refl
-  append-nil (a ∷ l) = ap (λ (t : List A). a ∷ t) (append-nil l)
 
   -- what stands at a place, put there again
   pub set-nth : (i : ℕ) (l : List A) (a : A) → nth i l ≡ some a → set l i a ≡ l
@@ -126,3 +106,41 @@ module _ {A : Type 0} (P : A → Type 0) where
       go : (x : Bool) → p c ≡ x → (find p l ≡ some a → P a) → P a
       go true f ih = subst P (some-inj (sym (if-true (some c) (find p l) f) ∙ e)) (h .0)
       go false f ih = ih (sym (if-false (some c) (find p l) f) ∙ e)
+
+-- ---- lengths
+
+pub length-map : {A B : Type 0} (f : A → B) (l : List A) → length (map f l) ≡ length l
+length-map f [] = refl
+length-map f (x ∷ l) = ap suc (length-map f l)
+
+module _ {A : Type 0} where
+  pub length-put : (p : A → Bool) (l : List A) (v : A) → length (put p v l) ≡ length l
+  length-put p [] v = refl
+  length-put p (c ∷ l) v = by-test (p c) (λ e. rw e) (λ e. rw e (ap suc (length-put p l v)))
+
+  pub keep-length : (p : A → Bool) (l : List A) → length (keep p l) ≤ length l
+  keep-length p [] = omega arith
+  keep-length p (a ∷ l) = by-test (p a) (λ c. rw c (omega (arith, keep-length p l))) (λ c. rw c (omega (arith, keep-length p l)))
+
+  pub empty-nil : (l : List A) → empty l ≡ true → l ≡ []
+  empty-nil [] h = refl
+  empty-nil (a ∷ l) h = absurd (true≢false (sym h))
+
+  -- ---- a test of every element
+
+  pub all-append : (p : A → Bool) (l m : List A) → all p l ≡ true → all p m ≡ true → all p (l ++ m) ≡ true
+  all-append p [] m h g = g
+  all-append p (e ∷ l) m h g = and-both (p e) _ (and-left (p e) (all p l) h) (all-append p l m (and-right (p e) (all p l) h) g)
+
+  pub all-end : (p : A → Bool) (l : List A) (a : A) → all p l ≡ true → p a ≡ true → all p (l ++ a ∷ []) ≡ true
+  all-end p l a h g = all-append p l (a ∷ []) h (rw g)
+
+  pub all-drop : (p : A → Bool) (l : List A) → all p l ≡ true → all p (drop 1 l) ≡ true
+  all-drop p [] h = h
+  all-drop p (x ∷ l) h = and-right (p x) (all p l) h
+
+  pub all-keep : (q p : A → Bool) (l : List A) → all q l ≡ true → all q (keep p l) ≡ true
+  all-keep q p [] h = refl
+  all-keep q p (a ∷ l) h = by-test (p a)
+      (λ c. rw c (and-both (q a) _ (and-left (q a) (all q l) h) (all-keep q p l (and-right (q a) (all q l) h))))
+      (λ c. rw c (all-keep q p l (and-right (q a) (all q l) h)))

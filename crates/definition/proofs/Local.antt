@@ -3,7 +3,7 @@ use Prim.Native.Nat.{ℕ, zero, suc}
 use native.Mathlib.Nat.{add-zero, zero-add, add-assoc, add-comm}
 use mathlib.Core.Path.{_≡_, refl, sym, _∙_, ap}
 use mathlib.Core.Bool.{true, false, not, _||_, true≢false}
-use mathlib.Core.List.{List, [], _∷_}
+use mathlib.Core.List.{List, [], _∷_, append-nil}
 use mathlib.Core.Option.{Option, none, some}
 use lib.ListN.{set}
 use lib.IntN.{pos}
@@ -11,8 +11,9 @@ use Rattle.definition.specs.Base.{if_then_else_, find, put, nth}
 use Rattle.definition.specs.Types.{Kind, queue, topic, Id, Entry, Sub, Stats, Dest, withPending, withSubs, withStats}
 use Rattle.definition.specs.Consumer.{expired, zeroStats, _⊕_, Step, isBrowser, snapshot, hasCredit, meetTopic, drainTopic, atRest, serveTopic, Browse, meetBrowser, closeBrowser, drainBrowser, dispatchBrowser}
 use Rattle.definition.specs.Destination.{visitAt, look, Turn, given, visit, scan, turns, rounds, browsers, dispatchQueue, serveAll, dispatchTopic, dispatchBy, dispatch, isId}
+use Rattle.definition.proofs.Tests.{if-false, by-if, by-test}
 use Rattle.definition.proofs.Reorder.{nil-cons}
-use Rattle.definition.proofs.Lists.{by-if, by-test, if-false, none-some, append-nil, set-nth, put-not-empty, All}
+use Rattle.definition.proofs.Lists.{none-some, set-nth, put-not-empty, All}
 
 -- ---- counters
 
@@ -46,7 +47,7 @@ rest-topic now s h = go (s .tpending) refl
     go [] q = refl
     go (e ∷ es) q = by-test (hasCredit s) (λ c. absurd (nil-cons (sym (h c) ∙ q))) (λ c. rw c)
 
-meet-tpending : (now : ℕ) (e : Entry) (es : List Entry) (t : Step) → meetTopic now e es t .sub .tpending ≡ es
+pub meet-tpending : (now : ℕ) (e : Entry) (es : List Entry) (t : Step) → meetTopic now e es t .sub .tpending ≡ es
 unfolding meetTopic
 meet-tpending now e es t = by-test (expired (pos now) e) (λ c. rw c) (λ c. rw c)
 

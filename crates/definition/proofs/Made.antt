@@ -5,14 +5,14 @@ use mathlib.Core.Path.{_≡_, refl, sym, _∙_, ap, subst, subst⁻¹}
 use mathlib.Core.Bool.{Bool, true, false, _||_}
 use mathlib.Core.List.{List}
 use mathlib.Core.Option.{Option, none, some}
-use lib.Dec.{leb, ltb, eqb}
+use lib.Dec.{leb, eqb}
 use borrow.Author.Tests.{eqb-true, eqb-false, eq-eqb, ne-eqb}
 use Rattle.definition.specs.Types.{Kind, Id, Dest}
 use Rattle.definition.specs.Calls.{Lengths, short, Request, Call, enqueuing, joining, leaving, asking, releasing, sweeping, clearing, adding, removing, testing, forgetting, discarding, missing, argumentsOk, sound, Result, refused, refusal, call, openOk, opened}
 use Rattle.definition.specs.Words.{idOf, provided, read, inRange, decode, kindOf, at, openWords, unusedFrom, openStep, callStep, step}
 use Rattle.definition.specs.Orders.{Reached, opening, calling, discards, misses}
-use Rattle.definition.proofs.Lists.{by-if, by-test, if-false, none-some, some-inj}
-use Rattle.definition.proofs.Thin.{and-left, and-right}
+use Rattle.definition.proofs.Tests.{if-false, by-if, by-test, and-left, and-right}
+use Rattle.definition.proofs.Lists.{none-some, some-inj}
 
 abbrev pub isClear : Call → Bool
 isClear clearing = true

@@ -1,5 +1,5 @@
 -- The parts of each call keep a sound state. Assumes nothing.
-use Prim.Native.Nat.{ℕ, suc, _+_, _≤_, _^_}
+use Prim.Native.Nat.{ℕ, _+_, _≤_, _^_}
 use native.Mathlib.Omega.{arith}
 use mathlib.Core.Path.{_≡_, refl, sym, _∙_, ap, subst⁻¹}
 use mathlib.Core.Bool.{Bool, true, not, _&&_, _||_}
@@ -15,8 +15,9 @@ use Rattle.definition.specs.Types.{Kind, queue, topic, Id, Entry, Sub, S
 use Rattle.definition.specs.Consumer.{_⊕_, isBrowser, sendNull, Ack, AckType, Delivered, Poison, Standard, Redelivered, Individual, Unmatched, Expired, Other, ackType, ackSub}
 use Rattle.definition.specs.Destination.{Out, count, isId, subOf, putSub, room, marked, touchIdle, dispatch, dispatchBy, ack, ackAt, ackReserved, reservedHit, reservedCounts, heldBy, reservedOf, pull, pullAt, pulled, resumed, fired, timeoutAt, pullTimeout, setPrefetch, prefetchAt}
 use Rattle.definition.specs.Calls.{idOk, within, optional, clockOk, seqs, flying, held, distinctIds, Request, acknowledge, pulling, timedOut, prefetching, requestOk, ackOk, ask}
-use Rattle.definition.proofs.Lists.{by-test, by-if, if-true, if-false, none-some, some-inj, All}
-use Rattle.definition.proofs.Thin.{Thin, and-left, and-right, and-both, tally-length}
+use Rattle.definition.proofs.Tests.{if-true, if-false, by-if, by-test, and-left, and-right}
+use Rattle.definition.proofs.Lists.{none-some, some-inj, All, length-map, keep-length, all-keep}
+use Rattle.definition.proofs.Thin.{Thin, tally-length}
 use Rattle.definition.proofs.Sums.{sum, Tame, one, bad, one-tame, bad-tame, sum-thin, sum-one}
 use Rattle.definition.proofs.Fit.{Waits, Fit, Acked, ack-acked, null-fit, total}
 use Rattle.definition.proofs.Own.{ack-id, pulling-sub}
@@ -96,10 +97,6 @@ ack-eased k a s = acked-eased k s (ackSub a s .sub) (ack-id a s) (λ f. ack-acke
 pub under-same : (N x : ℕ) (c : Stats) → Under N c → Under (N + x) c
 under-same N x c u = under-more N (N + x) c (omega arith) u
 
-length-map : {A B : Type 0} (f : A → B) (l : List A) → length (map f l) ≡ length l
-length-map f [] = refl
-length-map f (x ∷ l) = ap suc (length-map f l)
-
 marked-ok : (now : ℕ) (o : Option ℕ) → clockOk now ≡ true → optional clockOk o ≡ true → optional clockOk (marked now o) ≡ true
 marked-ok now none h g = h
 marked-ok now (some k) h g = g
@@ -140,16 +137,6 @@ module _ (L U : ℕ) (k : Kind) where
   held-keep : (f : Entry → ℕ) (p : Held → Bool) (l : List Held) → sum f (map (λ h. h .entry) (keep p l)) ≤ sum f (map (λ h. h .entry) l)
   held-keep f p [] = omega arith
   held-keep f p (h ∷ l) = by-test (p h) (λ c. rw c (omega (arith, held-keep f p l))) (λ c. rw c (omega (arith, held-keep f p l)))
-
-  pub all-keep : {A : Type 0} (q p : A → Bool) (l : List A) → all q l ≡ true → all q (keep p l) ≡ true
-  all-keep q p [] h = refl
-  all-keep q p (a ∷ l) h = by-test (p a)
-      (λ c. rw c (and-both (q a) _ (and-left (q a) (all q l) h) (all-keep q p l (and-right (q a) (all q l) h))))
-      (λ c. rw c (all-keep q p l (and-right (q a) (all q l) h)))
-
-  keep-length : {A : Type 0} (p : A → Bool) (l : List A) → length (keep p l) ≤ length l
-  keep-length p [] = omega arith
-  keep-length p (a ∷ l) = by-test (p a) (λ c. rw c (omega (arith, keep-length p l))) (λ c. rw c (omega (arith, keep-length p l)))
 
   reserved-total : (y : AckType) (l : List Entry) → total (reservedCounts l y) ≤ length l
   unfolding reservedCounts

@@ -5,7 +5,7 @@ use mathlib.Core.Path.{_≡_, refl, sym, _∙_, ap, subst, subst⁻¹}
 use mathlib.Core.Bool.{Bool, true, false, true≢false}
 use mathlib.Core.List.{List, [], _∷_}
 use mathlib.Core.Option.{Option, none, some}
-use lib.Dec.{ltb, eqb}
+use lib.Dec.{eqb}
 use lib.ListN.{length}
 use borrow.Author.Tests.{ne-eqb}
 use Rattle.definition.specs.Base.{if_then_else_, find, put, empty, is-some}
@@ -15,7 +15,8 @@ use Rattle.definition.specs.Destination.{isId, subOf}
 use Rattle.definition.specs.Calls.{Lengths, short, Request, asking, Result, refused, used, sound, argumentsOk, ownRefusal, perform, refusal, call}
 use Rattle.definition.specs.Words.{callStep}
 use Rattle.definition.specs.Orders.{Lent, caller, Reply, result, reply, left, callsOf, AllPresent, SameRuns, Reordering}
-use Rattle.definition.proofs.Lists.{by-test, if-true, if-false, find-passes, find-put-same, find-put-other, put-put, All, all-put, all-find}
+use Rattle.definition.proofs.Tests.{if-true, if-false, by-test}
+use Rattle.definition.proofs.Lists.{find-passes, find-put-same, find-put-other, put-put, All, all-put, all-find}
 use Rattle.definition.proofs.Local.{⊕-assoc, ⊕-comm, Rests, changed, Resting}
 use Rattle.definition.proofs.Own.{Own, same, own, own-id, own-rests, ask-own}
 use Rattle.definition.proofs.Calm.{Calm, reached-calm}

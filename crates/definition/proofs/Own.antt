@@ -11,7 +11,8 @@ use Rattle.definition.specs.Base.{if_then_else_, put, empty}
 use Rattle.definition.specs.Types.{Kind, queue, topic, Id, Sub, Stats, Dest, Event, null, withPrefetch, withPull, withGeneration, withSubs, withStats, withIdle}
 use Rattle.definition.specs.Consumer.{ackTransacted, ackPlain, ackType, Delivered, Poison, Standard, Redelivered, Individual, Unmatched, Expired, Other, sameId, zeroStats, _⊕_, Step, isBrowser, hasCredit, sendNull, Ack, AckType, ackSub}
 use Rattle.definition.specs.Destination.{ackAt, pullAt, timeoutAt, Answer, dispatch, touchIdle, isId, subOf, putSub, room, setPrefetch, ack, pulled, pull, pullTimeout, fired, resumed}
-use Rattle.definition.proofs.Lists.{by-if, by-test, find-passes, find-put-same, put-put-same, put-found, put-not-empty}
+use Rattle.definition.proofs.Tests.{by-if, by-test}
+use Rattle.definition.proofs.Lists.{find-passes, find-put-same, put-put-same, put-found, put-not-empty}
 use Rattle.definition.specs.Calls.{Request, acknowledge, pulling, timedOut, prefetching, ask}
 use Rattle.definition.proofs.Local.{⊕-zero, zero-⊕, Rests, serve, serve-rests, serve-id, changed, dispatch-one, Resting}
 

@@ -1,5 +1,5 @@
 -- Every accepted call leaves a sound state sound. Assumes nothing.
-use Prim.Native.Nat.{ℕ, suc, _+_, _-_, _≤_, _^_}
+use Prim.Native.Nat.{ℕ, _+_, _-_, _≤_, _^_}
 use native.Mathlib.Omega.{arith}
 use mathlib.Core.Path.{_≡_, refl, sym, _∙_, ap, subst⁻¹}
 use mathlib.Core.Bool.{Bool, true, _||_}
@@ -13,7 +13,8 @@ use Rattle.definition.specs.Types.{Kind, queue, topic, Entry, Sub, Stats
 use Rattle.definition.specs.Consumer.{accepts, _⊕_, addEnqueued, isBrowser, snapshot}
 use Rattle.definition.specs.Destination.{insert, holdBack, holdBackAll, stored, fanOut, fanOutAll, fannedOut, enqueueBy, dispatchBy}
 use Rattle.definition.specs.Calls.{entryOk, flying, rowsOf, rowsFor}
-use Rattle.definition.proofs.Lists.{by-test, All}
+use Rattle.definition.proofs.Tests.{by-test}
+use Rattle.definition.proofs.Lists.{All, length-map}
 use Rattle.definition.proofs.Sums.{sum, one, occ, bad, one-tame, occ-tame, sum-append, sum-one, sum-insert, sum-drop, insert-ascending, thin-ascending, thin-drop, occ-yes, occ-no, ok-sum, sum-ok, sum-once, once-sum, bad-ok}
 use Rattle.definition.proofs.Fit.{total}
 use Rattle.definition.proofs.Grown.{counted}
@@ -172,14 +173,10 @@ module _ (L U : ℕ) where
         counts = omega (arith, p .counts, r .counts);
       }
 
-  length-ids : (l : List Sub) → length (map (λ s. s .id) l) ≡ length l
-  length-ids [] = refl
-  length-ids (s ∷ l) = ap suc (length-ids l)
-
   pub fanned-fine : (N : ℕ) (e : Entry) (t : Dest) → Fine L U topic N t → entryOk e ≡ true → rowsSum one t + tally (λ s. accepts s e) (t .subs) ≤ 512 → rowsSum (occ (e .seq)) t ≤ 0 → Fine L U topic (N + 1024) (fannedOut e t)
   fanned-fine N e t g k r o =
       let p = fan-all N (t .topicLimit) e (t .subs) (g .subs) k (omega (arith, o)) in
-      let n : length (fanOutAll (t .topicLimit) e (t .subs) .subs) ≡ length (t .subs) = sym (length-ids (fanOutAll (t .topicLimit) e (t .subs) .subs)) ∙ ap length (p .ids) ∙ length-ids (t .subs) in
+      let n : length (fanOutAll (t .topicLimit) e (t .subs) .subs) ≡ length (t .subs) = sym (length-map (λ s. s .id) (fanOutAll (t .topicLimit) e (t .subs) .subs)) ∙ ap length (p .ids) ∙ length-map (λ s. s .id) (t .subs) in
       record {
         kind = g .kind;
         frame = record { limit = g .frame .limit; used = g .frame .used; topic-limit = g .frame .topic-limit; few-producers = g .frame .few-producers; producers = g .frame .producers; few-audits = g .frame .few-audits; audits = g .frame .audits; holders = g .frame .holders; mark = g .frame .mark };

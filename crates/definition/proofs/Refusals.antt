@@ -1,13 +1,13 @@
 -- Refusals come exactly from document 01's table, and a refused call changes and sends nothing: the claims of specs/Refusals. Assumes nothing.
 use Prim.Native.Nat.{ℕ, _≤_}
 use native.Mathlib.Omega.{arith}
-use mathlib.Core.Path.{_≡_, refl, sym, _∙_, ap, subst, subst⁻¹}
+use mathlib.Core.Path.{_≡_, refl, sym, _∙_, ap}
 use mathlib.Core.Bool.{Bool, true, false, not, _&&_, _||_, true≢false}
 use mathlib.Core.List.{List, [], _∷_, _++_}
 use mathlib.Core.Option.{Option, none, some}
 use lib.Dec.{leb, ltb, eqb}
 use lib.ListN.{drop}
-use borrow.Author.Tests.{leb-true, eqb-true, eqb-false}
+use borrow.Author.Tests.{leb-true, eqb-true}
 use Rattle.definition.specs.Base.{if_then_else_, all, is-some}
 use Rattle.definition.specs.Types.{Dest}
 use Rattle.definition.specs.Consumer.{zeroStats}
@@ -16,9 +16,9 @@ use Rattle.definition.specs.Words.{provided, read, inRange, decode, open
 use Rattle.definition.specs.Queries.{queryRefusal, queryOk, query, counters, pageMax, Page, page}
 use Rattle.definition.specs.Layout.{Buffers, view, formed, soundBuffers, lengthsOf, bufferStep}
 use Rattle.definition.specs.Refusals.{Place, table, places, bufferPlaces, uncodedPlaces, queryPlaces, passes, Comes, Exact, Refuses, StepRefuses, BufferRefuses, UncodedRefuses, QueryRefuses, CountersRefuse, PageRefuses}
-use Rattle.definition.proofs.Lists.{by-if, by-test, if-true, if-false, none-some, some-inj}
-use Rattle.definition.proofs.Thin.{and-left, and-right, and-both}
-use Rattle.definition.proofs.Made.{inRange-ok, step-call}
+use Rattle.definition.proofs.Tests.{if-true, if-false, by-if, by-test, and-left, and-right, and-both}
+use Rattle.definition.proofs.Lists.{none-some, some-inj}
+use Rattle.definition.proofs.Made.{inRange-ok}
 
 -- ---- the first place that refuses
 

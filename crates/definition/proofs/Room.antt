@@ -3,7 +3,7 @@ use Prim.Native.Nat.{ℕ, zero, suc, _+_, _≤_}
 use native.Mathlib.Omega.{arith}
 use mathlib.Core.Path.{_≡_, refl, sym, _∙_, ap, subst}
 use mathlib.Core.Bool.{Bool, true, false, not, _||_, _&&_}
-use mathlib.Core.List.{List, [], _∷_, _++_, map}
+use mathlib.Core.List.{List, [], _∷_, _++_}
 use mathlib.Core.Option.{Option, none, some}
 use lib.Dec.{leb, ltb, eqb}
 use lib.ListN.{length, length-append}
@@ -15,7 +15,8 @@ use Rattle.definition.specs.Types.{Kind, queue, topic, Id, Entry, Inflig
 use Rattle.definition.specs.Consumer.{zeroStats, expired, accepts, isBrowser, snapshot, hasCredit, Step, meetTopic, drainTopic, serveTopic, atRest, Browse, meetBrowser, closeBrowser, drainBrowser, dispatchBrowser, AckType, Delivered, Poison, Standard, Redelivered, Individual, Unmatched, Expired, Other, ackType, Ack, ackRange, deadLetters, ackPlain, ackSub}
 use Rattle.definition.specs.Destination.{ackAt, pullAt, timeoutAt, visitAt, Look, look, given, visit, scan, turns, rounds, Browsed, browsers, dispatchQueue, serveAll, dispatchTopic, dispatchBy, count, Out, dispatch, touchIdle, isId, subOf, putSub, room, setPrefetch, ack, pulled, resumed, pull, fired, pullTimeout}
 use Rattle.definition.specs.Calls.{flying, rowsOf, consumerRows, held, allRows, sound, Request, acknowledge, pulling, timedOut, prefetching, ask, subSound}
-use Rattle.definition.proofs.Lists.{if-true, if-false, none-some, some-inj, by-test, by-if}
+use Rattle.definition.proofs.Tests.{if-true, if-false, by-if, by-test}
+use Rattle.definition.proofs.Lists.{none-some, some-inj, length-map, keep-length, length-put}
 use Rattle.definition.proofs.Own.{pulling-sub}
 use Rattle.definition.proofs.Fit.{fit, ack-acked}
 use Rattle.definition.proofs.Sound.{facts, find-all}
@@ -24,10 +25,6 @@ use Rattle.definition.proofs.Sound.{facts, find-all}
 abbrev pub waitingRows : List Sub → ℕ
 waitingRows [] = 0
 waitingRows (s ∷ ss) = length (s .tpending) + length (snapshot s) + waitingRows ss
-
-pub keep-length : {A : Type 0} (p : A → Bool) (l : List A) → length (keep p l) ≤ length l
-keep-length p [] = omega arith
-keep-length p (x ∷ l) = by-test (p x) (λ c. rw c (omega (arith, keep-length p l))) (λ c. rw c (omega (arith, keep-length p l)))
 
 -- ---- a topic
 
@@ -173,10 +170,6 @@ abbrev flights : List Sub → ℕ
 flights [] = 0
 flights (s ∷ ss) = length (s .inflight) + flights ss
 
-length-map : {A B : Type 0} (f : A → B) (l : List A) → length (map f l) ≡ length l
-length-map f [] = refl
-length-map f (x ∷ l) = ap suc (length-map f l)
-
 rows-split : (l : List Sub) → length (consumerRows l) ≡ flights l + waitingRows l
 rows-split [] = refl
 rows-split (s ∷ l) = omega (arith, length-append (rowsOf s) (consumerRows l), length-append (flying s) (s .tpending ++ snapshot s), length-append (s .tpending) (snapshot s), length-map (λ i. i .entry) (s .inflight), rows-split l)
@@ -207,10 +200,6 @@ put-waiting p (c ∷ l) s v f a b = by-test (p c)
     let q : c ≡ s = some-inj (sym (if-true (some c) (find p l) e) ∙ f) in
     rw e (omega (arith, ap length a, ap length b, ap (λ (x : Sub). length (x .tpending)) q, ap (λ (x : Sub). length (snapshot x)) q)))
     (λ e. rw e (omega (arith, put-waiting p l s v (sym (if-false (some c) (find p l) e) ∙ f) a b)))
-
-put-length : (p : Sub → Bool) (v : Sub) (l : List Sub) → length (put p v l) ≡ length l
-put-length p v [] = refl
-put-length p v (c ∷ l) = by-test (p c) (λ e. rw e) (λ e. rw e (ap suc (put-length p v l)))
 
 pub touch-pending : (now : ℕ) (t : Dest) → touchIdle now t .pending ≡ t .pending
 unfolding touchIdle
@@ -245,7 +234,7 @@ ack-events a s = by-if (λ (t : Step). length (t .events) ≤ length (s .infligh
 
 put-sends : (now : ℕ) (i : Id) (s v : Sub) (t : Dest) → subOf i t ≡ some s → v .tpending ≡ s .tpending → snapshot v ≡ snapshot s →
     length (dispatch now (putSub i v t) .events) ≤ length (t .pending) + waitingRows (t .subs) + length (t .subs)
-put-sends now i s v t f a b = omega (arith, dispatch-sends (t .kind) now (putSub i v t), put-waiting (isId i) (t .subs) s v f a b, put-length (isId i) v (t .subs))
+put-sends now i s v t f a b = omega (arith, dispatch-sends (t .kind) now (putSub i v t), put-waiting (isId i) (t .subs) s v f a b, length-put (isId i) (t .subs) v)
 
 pulled-sends : (i : Id) (timeout : ℤ) (s : Sub) (r : Out) (o : Option ℕ) → length (pulled i timeout s r o .events) ≤ length (r .events) + 1
 unfolding pulled
@@ -282,7 +271,7 @@ ask-sends i (acknowledge a now) s t e f =
       ap waitingRows (touch-subs now u),
       ap length (touch-subs now u),
       put-waiting (isId i) (t .subs) s (ackSub a s .sub) f (p .list) (p .shown),
-      put-length (isId i) (ackSub a s .sub) (t .subs),
+      length-put (isId i) (t .subs) (ackSub a s .sub),
     )))
 ask-sends i (pulling timeout now) s t e f = let c = counted t e in rw f (by-test (ltb 0 (s .prefetch))
     (λ x. rw x (omega arith))

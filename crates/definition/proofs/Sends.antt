@@ -3,7 +3,7 @@ use Prim.Native.Nat.{ℕ, _+_, _-_, _≤_, _^_}
 use native.Mathlib.Omega.{arith}
 use mathlib.Core.Path.{_≡_, refl, _∙_, ap, subst⁻¹}
 use mathlib.Core.Bool.{true, _||_}
-use mathlib.Core.List.{List, [], _∷_, map}
+use mathlib.Core.List.{List, [], _∷_}
 use mathlib.Core.Option.{Option, none, some}
 use lib.Dec.{ltb, eqb}
 use lib.IntN.{ℤ}
@@ -16,8 +16,8 @@ use Rattle.audit.specs.Audit.{seen}
 use Rattle.definition.specs.Destination.{Out, Answer, subOf, dispatchBy, touchIdle, stored, fannedOut, enqueueBy, addSub, returning, dropSub, removeAt, removeSub, reservedOf, heldBy, releaseReserved, reservedHit, letters, reservedEvents, ackReserved, ackAt, ack, pullAt, pull, timeoutAt, pullTimeout, setPrefetch, sweepList, sweepSubs, sweepExpired, clear, testAt, isDuplicate}
 use Rattle.definition.specs.Calls.{Lengths, short, bound, idOk, clockOk, within, sound, Request, acknowledge, pulling, timedOut, prefetching, ask, Call, enqueuing, joining, leaving, asking, releasing, sweeping, clearing, adding, removing, testing, forgetting, discarding, missing, argumentsOk, ownRefusal, perform, refusal, Result, call}
 use Rattle.definition.specs.Words.{decode, openWords, openStep, callStep, step}
-use Rattle.definition.proofs.Lists.{by-test, by-if}
-use Rattle.definition.proofs.Thin.{and-right}
+use Rattle.definition.proofs.Tests.{by-if, by-test, and-right}
+use Rattle.definition.proofs.Lists.{length-map, keep-length}
 use Rattle.definition.proofs.Sums.{one, sum-one}
 use Rattle.definition.proofs.Whole.{sums, rowsM, Fine, fine}
 use Rattle.definition.proofs.Dispatch.{rows-parts}
@@ -25,15 +25,11 @@ use Rattle.definition.proofs.Ops.{touch-fine}
 use Rattle.definition.proofs.Reach.{stored-fine, fanned-fine}
 use Rattle.definition.proofs.Leave.{returning-fine, release-some}
 use Rattle.definition.proofs.Kept.{accepted, joins, Stores, stores}
-use Rattle.definition.proofs.Room.{waitingRows, dispatch-sends, ask-sends, touch-pending, touch-subs, keep-length}
+use Rattle.definition.proofs.Room.{waitingRows, dispatch-sends, ask-sends, touch-pending, touch-subs}
 
 waiting-rows : (l : List Sub) → waitingRows l ≤ sums (rowsM one) l
 waiting-rows [] = omega arith
 waiting-rows (s ∷ l) = omega (arith, rows-parts s, waiting-rows l)
-
-length-map : {A B : Type 0} (f : A → B) (l : List A) → length (map f l) ≡ length l
-length-map f [] = refl
-length-map f (x ∷ l) = omega (arith, length-map f l)
 
 module _ (L U : ℕ) (k : Kind) (N : ℕ) where
   fine-sends : (j : Kind) (now : ℕ) (t : Dest) → Fine L U k N t → length (dispatchBy now t j .events) ≤ 545

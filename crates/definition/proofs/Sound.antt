@@ -13,8 +13,9 @@ use Rattle.definition.specs.Types.{Kind, queue, topic, Id, Sub, Stats, D
 use Rattle.definition.specs.Consumer.{sameId, _⊕_}
 use Rattle.definition.specs.Destination.{isId, subOf}
 use Rattle.definition.specs.Calls.{Request, asking, argumentsOk, requestOk, used, bound, seqs, rowsOf, subSound, consumerRows, taken, held, allRows, distinctIds, countersOk, placed, soundTests, sound, idOk, entryOk, optional, clockOk, auditOk}
-use Rattle.definition.proofs.Lists.{by-test, if-true, if-false, none-some, some-inj}
-use Rattle.definition.proofs.Thin.{every-all, all-every, Thin, done, thin-refl, thin-append, thin-length, thin-distinct, and-left, and-right, and-both}
+use Rattle.definition.proofs.Tests.{if-true, if-false, by-test, and-left, and-right, and-both}
+use Rattle.definition.proofs.Lists.{none-some, some-inj, length-put}
+use Rattle.definition.proofs.Thin.{every-all, all-every, Thin, done, thin-refl, thin-append, thin-length, thin-distinct}
 use Rattle.definition.proofs.Local.{changed}
 use Rattle.definition.proofs.Own.{own, own-id}
 use Rattle.definition.proofs.Fit.{Waits, Fit, fit, unfit, total}
@@ -23,10 +24,6 @@ use Rattle.definition.proofs.Grown.{Grown, own-grown, counted, Flight}
 -- ---- one consumer in the list of consumers
 
 module _ {A : Type 0} (p : A → Bool) where
-  pub length-put : (l : List A) (v : A) → length (put p v l) ≡ length l
-  length-put [] v = refl
-  length-put (c ∷ l) v = by-test (p c) (λ e. rw e) (λ e. rw e (ap suc (length-put l v)))
-
   pub find-all : (q : A → Bool) (l : List A) (s : A) → find p l ≡ some s → all q l ≡ true → q s ≡ true
   find-all q [] s f h = absurd (none-some f)
   find-all q (c ∷ l) s f h = by-test (p c)
@@ -111,7 +108,7 @@ from-facts t f = all-every (soundTests t) (f .limit-low, (f .limit-high, (f .cal
 
 -- ---- bounds that rise with the calls used
 
-waits-more : (o : Option ℕ) (m n : ℕ) → m ≤ n → optional (λ g. leb g m) o ≡ true → optional (λ g. leb g n) o ≡ true
+pub waits-more : (o : Option ℕ) (m n : ℕ) → m ≤ n → optional (λ g. leb g m) o ≡ true → optional (λ g. leb g n) o ≡ true
 waits-more none m n h w = refl
 waits-more (some g) m n h w = le-leb g n (omega (arith, leb-true g m w))
 

@@ -6,14 +6,14 @@ use mathlib.Core.Bool.{Bool, true, false, not, _||_, true≢false}
 use mathlib.Core.List.{List, [], _∷_, _++_, map}
 use lib.Dec.{ltb, eqb}
 use lib.ListN.{length, drop}
-use borrow.Author.Tests.{eqb-true, eqb-false, eq-eqb, ltb-true, ltb-false, lt-ltb}
+use borrow.Author.Tests.{eqb-true, eqb-false, eq-eqb, ltb-true, ltb-false, lt-ltb, not-true}
 use Rattle.definition.specs.Base.{if_then_else_, keep, tally, all, member, distinct, rising, ascending}
 use Rattle.definition.specs.Types.{Entry}
 use Rattle.definition.specs.Consumer.{redelivered}
 use Rattle.definition.specs.Destination.{insert, insertAll}
 use Rattle.definition.specs.Calls.{entryOk, seqs}
-use Rattle.definition.proofs.Lists.{by-test}
-use Rattle.definition.proofs.Thin.{Thin, done, skip, stay, and-left, and-right, and-both, redelivered-ok}
+use Rattle.definition.proofs.Tests.{by-test, and-left, and-right, and-both}
+use Rattle.definition.proofs.Thin.{Thin, done, skip, stay, redelivered-ok, thin-refl}
 
 abbrev pub sum : (Entry → ℕ) → List Entry → ℕ
 sum f [] = 0
@@ -120,14 +120,10 @@ occ-no-member : (x : ℕ) (l : List Entry) → sum (occ x) l ≡ 0 → member x 
 occ-no-member x [] h = refl
 occ-no-member x (e ∷ l) h = by-test (eqb x (e .seq)) (λ c. absurd (omega (arith, occ-yes x e c))) (λ c. rw c (occ-no-member x l (omega arith)))
 
-not-false : (b : Bool) → not b ≡ true → b ≡ false
-not-false true h = sym h
-not-false false h = refl
-
 pub once-sum : (l : List Entry) → distinct (seqs l) ≡ true → (x : ℕ) → sum (occ x) l ≤ 1
 once-sum [] h x = omega arith
 once-sum (e ∷ l) h x = by-test (eqb x (e .seq))
-    (λ c. omega (arith, occ-yes x e c, occ-member x l (ap (λ y. member y (seqs l)) (eqb-true x (e .seq) c) ∙ not-false (member (e .seq) (seqs l)) (and-left (not (member (e .seq) (seqs l))) (distinct (seqs l)) h))))
+    (λ c. omega (arith, occ-yes x e c, occ-member x l (ap (λ y. member y (seqs l)) (eqb-true x (e .seq) c) ∙ not-true (member (e .seq) (seqs l)) (and-left (not (member (e .seq) (seqs l))) (distinct (seqs l)) h))))
     (λ c. omega (arith, occ-no x e c, once-sum l (and-right (not (member (e .seq) (seqs l))) (distinct (seqs l)) h) x))
 
 pub sum-once : (l : List Entry) → ((x : ℕ) → sum (occ x) l ≤ 1) → distinct (seqs l) ≡ true
@@ -190,11 +186,7 @@ thin-keep p (e ∷ l) = by-test (p e) (λ c. rw c (stay refl (λ h. h) (thin-kee
 pub thin-drop : (n : ℕ) (l : List Entry) → Thin l (drop n l)
 thin-drop ℕ.zero [] = done
 thin-drop (ℕ.suc n) [] = done
-thin-drop ℕ.zero (e ∷ l) = stay refl (λ h. h) (all-of l)
-  where
-    all-of : (l : List Entry) → Thin l l
-    all-of [] = done
-    all-of (e ∷ l) = stay refl (λ h. h) (all-of l)
+thin-drop ℕ.zero (e ∷ l) = stay refl (λ h. h) (thin-refl l)
 thin-drop (ℕ.suc n) (e ∷ l) = skip (thin-drop n l)
 
 pub thin-redelivered : (l : List Entry) → Thin l (map redelivered l)

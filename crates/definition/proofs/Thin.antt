@@ -1,31 +1,21 @@
 -- Entries of which some are gone, and some redelivered: what that keeps of a sound state. Assumes nothing.
 use Prim.Native.Nat.{ℕ, zero, suc, _+_, _≤_, _^_}
 use native.Mathlib.Omega.{arith}
-use mathlib.Core.Path.{_≡_, refl, sym, _∙_, ap}
-use mathlib.Core.Bool.{Bool, true, false, not, _&&_, _||_, true≢false}
+use mathlib.Core.Path.{_≡_, refl, _∙_, ap}
+use mathlib.Core.Bool.{Bool, true, false, not}
 use mathlib.Core.List.{List, [], _∷_, _++_, map}
 use lib.Dec.{leb, ltb, eqb}
 use lib.ListN.{length}
 use lib.IntN.{ℤ, pos, negsuc}
-use borrow.Author.Tests.{ltb-true, lt-ltb}
+use borrow.Author.Tests.{ltb-true, lt-ltb, not-true}
 use Rattle.definition.specs.Base.{keep, tally, all, every, member, distinct, rising, ascending}
 use Rattle.definition.specs.Types.{Entry}
 use Rattle.definition.specs.Consumer.{oneMore, redelivered}
 use Rattle.definition.specs.Calls.{entryOk, within, seqs}
-use Rattle.definition.proofs.Lists.{by-test, All}
+use Rattle.definition.proofs.Tests.{or-no-left, or-no-right, and-left, and-right, and-both, by-test}
+use Rattle.definition.proofs.Lists.{All}
 
 -- ---- tests joined
-
-pub and-left : (a b : Bool) → (a && b) ≡ true → a ≡ true
-and-left true b e = refl
-and-left false b e = e
-
-pub and-right : (a b : Bool) → (a && b) ≡ true → b ≡ true
-and-right true b e = e
-and-right false b e = absurd (true≢false (sym e))
-
-pub and-both : (a b : Bool) → a ≡ true → b ≡ true → (a && b) ≡ true
-and-both a b p q = rw (p, q)
 
 abbrev pub IsTrue : Bool → Type 0
 IsTrue b = b ≡ true
@@ -92,24 +82,12 @@ thin-ok l m (skip {e = e} {l = l′} r) h = thin-ok l′ m r (and-right (entryOk
 thin-ok l m (stay {e = e} {f = f} {l = l′} {m = m′} a b r) h =
     and-both (entryOk f) (all entryOk m′) (b (and-left (entryOk e) (all entryOk l′) h)) (thin-ok l′ m′ r (and-right (entryOk e) (all entryOk l′) h))
 
-or-no-left : (a b : Bool) → (a || b) ≡ false → a ≡ false
-or-no-left true b e = e
-or-no-left false b e = refl
-
-or-no-right : (a b : Bool) → (a || b) ≡ false → b ≡ false
-or-no-right true b e = absurd (true≢false e)
-or-no-right false b e = e
-
 thin-member : (x : ℕ) (l m : List Entry) → Thin l m → member x (seqs l) ≡ false → member x (seqs m) ≡ false
 thin-member x l m done h = h
 thin-member x l m (skip {e = e} {l = l′} r) h = thin-member x l′ m r (or-no-right (eqb x (e .seq)) (member x (seqs l′)) h)
 thin-member x l m (stay {e = e} {f = f} {l = l′} {m = m′} a b r) h =
     let p : eqb x (f .seq) ≡ false = ap (λ (y : ℕ). eqb x y) a ∙ or-no-left (eqb x (e .seq)) (member x (seqs l′)) h in
     rw p (thin-member x l′ m′ r (or-no-right (eqb x (e .seq)) (member x (seqs l′)) h))
-
-not-true : (b : Bool) → not b ≡ true → b ≡ false
-not-true true e = sym e
-not-true false e = refl
 
 pub thin-distinct : (l m : List Entry) → Thin l m → distinct (seqs l) ≡ true → distinct (seqs m) ≡ true
 thin-distinct l m done h = h

@@ -1,10 +1,9 @@
 -- A sound state by measures, whatever its calls used, and that a dispatch keeps it. Assumes nothing.
 use Prim.Native.Nat.{ℕ, _+_, _≤_, _^_}
 use native.Mathlib.Omega.{arith}
-use mathlib.Core.Path.{_≡_, refl, sym, _∙_, ap}
-use mathlib.Core.Bool.{Bool, true, _||_, true≢false}
+use mathlib.Core.Path.{_≡_, refl, _∙_, ap}
+use mathlib.Core.Bool.{true, _||_}
 use mathlib.Core.List.{List, [], _∷_, _++_}
-use mathlib.Core.Option.{Option, none, some}
 use lib.Dec.{leb, ltb, eqb}
 use lib.ListN.{length}
 use borrow.Author.Tests.{leb-true, le-leb}
@@ -12,12 +11,13 @@ use Rattle.definition.specs.Base.{all, empty, ascending}
 use Rattle.definition.specs.Types.{Kind, queue, topic, Entry, Sub, Stats, Dest}
 use Rattle.definition.specs.Consumer.{expired}
 use Rattle.definition.specs.Calls.{used, bound, idOk, optional, clockOk, auditOk, seqs, rowsOf, subSound, consumerRows, taken, held, allRows, distinctIds, countersOk, placed, sound}
-use Rattle.definition.proofs.Lists.{All}
-use Rattle.definition.proofs.Thin.{and-left, and-right, and-both, every-all, all-every}
+use Rattle.definition.proofs.Tests.{and-left, and-right, and-both}
+use Rattle.definition.proofs.Lists.{All, empty-nil}
+use Rattle.definition.proofs.Thin.{every-all, all-every}
 use Rattle.definition.proofs.Sums.{sum, one, occ, bad, sum-append, sum-one, ok-sum, sum-ok, once-sum, sum-once}
 use Rattle.definition.proofs.Fit.{Waits, Fit, fit, unfit}
 use Rattle.definition.proofs.Grown.{counted}
-use Rattle.definition.proofs.Sound.{facts, from-facts}
+use Rattle.definition.proofs.Sound.{facts, from-facts, waits-more}
 
 -- ---- sums over consumers
 
@@ -95,10 +95,6 @@ pub record Fine (L U : ℕ) (k : Kind) (N : ℕ) (t : Dest) : Type 0 where
 
 -- ---- and back
 
-waits-more : (o : Option ℕ) (m n : ℕ) → m ≤ n → optional (λ g. leb g m) o ≡ true → optional (λ g. leb g n) o ≡ true
-waits-more none m n h w = refl
-waits-more (some g) m n h w = le-leb g n (omega (arith, leb-true g m w))
-
 pub sane-more : (k : Kind) (M N : ℕ) (s : Sub) → M ≤ N → Sane k M s → Sane k N s
 sane-more k M N s h q = record { fits = q .fits; next = omega (arith, q .next); generation = omega (arith, q .generation); pulls = waits-more (s .pull) M N h (q .pulls) }
 
@@ -139,19 +135,11 @@ unfolding rowsM
 rows-bad k N [] p = refl
 rows-bad k N (s ∷ l) p = omega (arith, ok-sum (rowsOf s) (p .0 .fits .ok), rows-bad k N l (p .1))
 
-all-append : (p : Entry → Bool) (l m : List Entry) → all p l ≡ true → all p m ≡ true → all p (l ++ m) ≡ true
-all-append p [] m h g = g
-all-append p (e ∷ l) m h g = and-both (p e) _ (and-left (p e) (all p l) h) (all-append p l m (and-right (p e) (all p l) h) g)
-
 pub rows-length : (f : Entry → ℕ) (t : Dest) → sum f (allRows t) ≡ rowsSum f t
 rows-length f t = omega (arith, sum-append f (t .pending) (held t ++ consumerRows (t .subs)), sum-append f (held t) (consumerRows (t .subs)), sums-rows f (t .subs))
 
 queue-length : (f : Entry → ℕ) (t : Dest) → sum f (t .pending ++ (held t ++ taken (t .subs))) ≡ queueSum f t
 queue-length f t = omega (arith, sum-append f (t .pending) (held t ++ taken (t .subs)), sum-append f (held t) (taken (t .subs)), sums-taken f (t .subs))
-
-empty-nil : {A : Type 0} (l : List A) → empty l ≡ true → l ≡ []
-empty-nil [] h = refl
-empty-nil (a ∷ l) h = absurd (true≢false (sym h))
 
 nil-empty : {A : Type 0} (l : List A) → l ≡ [] → empty l ≡ true
 nil-empty l h = ap empty h

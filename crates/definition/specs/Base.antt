@@ -4,7 +4,7 @@ use mathlib.Core.Bool.{Bool, true, false, not, _&&_, _||_}
 use mathlib.Core.List.{List, [], _∷_}
 use mathlib.Core.Option.{Option, none, some}
 use lib.Dec.{ltb, eqb}
-pub use Rattle.words.specs.Pick.{if_then_else_}
+pub use Rattle.words.specs.Pick.{if_then_else_, every}
 
 module _ {ℓ} {A : Type ℓ} where
   -- the elements that pass a test (`retain`, `filter`)
@@ -43,11 +43,6 @@ module _ {ℓ} {A : Type ℓ} where
   abbrev pub is-some : Option A → Bool
   is-some none = false
   is-some (some a) = true
-
--- every test of a list
-abbrev pub every : List Bool → Bool
-every [] = true
-every (b ∷ bs) = b && every bs
 
 abbrev pub member : ℕ → List ℕ → Bool
 member k [] = false

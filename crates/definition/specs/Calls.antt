@@ -185,9 +185,6 @@ refused k t = record { refusal = k; answer = 0; events = []; dest = t }
 abbrev pub used : Dest → Dest
 used t = withCallsUsed (t .callsUsed + 1) t
 
-abbrev pub accepted : ℕ → Out → Result
-accepted a r = record { refusal = 0; answer = a; events = r .events; dest = used (r .dest) }
-
 abbrev pub ackOk : Ack → Bool
 ackOk a = ltb (a .type) 256 && (optional word (a .first) && optional word (a .last))
 

@@ -1,19 +1,24 @@
--- Document 01's starred cases of the destination, and its call file's example, as one table that antt computes. Assumes nothing.
+-- Document 01's cases of the destination, the starred ones and more, as one table that antt computes. A line's comment has the paper's words.
+-- Assumes nothing.
 use Prim.Native.Nat.{ℕ, _-_}
 use mathlib.Core.Bool.{Bool, true, false, not, _&&_}
 use mathlib.Core.List.{List, [], _∷_, _++_, map}
 use mathlib.Core.Option.{Option, none, some}
 use lib.Dec.{eqb, T}
 use lib.IntN.{ℤ, pos, negsuc}
-use lib.ListN.{getD}
-use Rattle.definition.specs.Base.{keep, every, upFrom}
-use Rattle.definition.specs.Types.{queue, topic, Id, Entry, Sub, Audit, Dest, Event, letter, message, null, withPull, withSubs, withRr, withProducers, withAudits, withIdle}
+use lib.ListN.{length, getD}
+use Rattle.definition.specs.Base.{keep, is-some, every, upFrom}
+use Rattle.definition.specs.Types.{queue, topic, Id, Entry, Sub, Audit, Dest, Event, letter, message, null, withPull, withPending, withSubs, withRr, withProducers, withAudits, withIdle}
 use Rattle.definition.specs.Consumer.{expired, Ack, ackRange, ackSub, send, oneMore, consumerOpen}
-use Rattle.definition.specs.Destination.{Spec, newSub, returnedFrom, destinationOpen}
+use Rattle.definition.specs.Destination.{Spec, newSub, destinationOpen}
 use Rattle.audit.specs.Audit.{seen, recorded}
 use Rattle.model.specs.Model.{sameSigned}
-use Rattle.definition.specs.Calls.{Lengths, acknowledge, pulling, timedOut, prefetching, Call, enqueuing, joining, asking, call, opened, sound, callsOpen, leaving}
+use Rattle.definition.specs.Calls.{Lengths, acknowledge, pulling, timedOut, prefetching, Call, enqueuing, joining, asking, releasing, sweeping, clearing, adding, testing, discarding, missing, ownRefusal, call, opened, sound, callsOpen, leaving}
 use Rattle.definition.specs.Words.{step, wordsOpen}
+use Rattle.definition.specs.Queries.{Asked, Page, ofKind, consumers, expirations, messages, idle, sequence, query, page, queriesOpen}
+use Rattle.entry.specs.Entry as Rows
+use Rattle.audit.specs.Audit as Ring
+use Rattle.definition.specs.Layout.{Buffers, view, soundBuffers, bufferStep, layoutOpen}
 
 abbrev sameNumbers : List ℕ → List ℕ → Bool
 sameNumbers [] [] = true
@@ -157,8 +162,110 @@ auditOf2 k z = record { producer = consumer k; order = z ∷ z ∷ [] }
 abbrev withAudit : List Audit → Bool
 withAudit l = sound (withAudits l one)
 
-abbrev wordCases : List Bool
-wordCases =
+-- ---- runs for the corners
+
+-- enqueued with a redelivery counter
+abbrev returned : ℕ → ℤ → Entry
+returned s r = record { seq = s; expiration = pos 0; persistent = true; producer = 7; «match_word» = 0; redelivery = r }
+
+abbrev sent : List ℕ → List Call
+sent l = map (λ k. enqueuing (entry k (pos 0)) 1) l
+
+-- three in flight with these redelivery counters, and the consumer leaves
+abbrev leftWith : ℤ → ℤ → List Entry
+leftWith r last = ran (joining (plain 9 (pos 3)) 1 ∷ (map (λ k. enqueuing (returned k r) 1) (10 ∷ 20 ∷ 30 ∷ []) ++ leaving (consumer 9) last 3 ∷ [])) (opened queue 0 100 0) .dest .pending
+
+abbrev browsing : ℕ → ℤ → Spec
+browsing k p = record { id = consumer k; prefetch = p; selector = 64; noLocal = false; browser = true }
+
+-- 10, 20 and 30 wait; the browser 9 and the consumer 8 have 10 in flight each; then a clear
+abbrev emptied : Ran
+emptied = ran (sent (10 ∷ 20 ∷ 30 ∷ []) ++ (joining (browsing 9 (pos 1)) 2 ∷ joining (plain 8 (pos 1)) 2 ∷ clearing ∷ [])) (opened queue 0 100 0)
+
+-- and what one more call gets
+abbrev then : Call → List ℕ
+then c = ran (c ∷ []) (emptied .dest) .seen
+
+abbrev onTopic : Ran
+onTopic = ran (joining (browsing 9 (pos 5)) 1 ∷ (sent (10 ∷ 20 ∷ 30 ∷ []) ++ (asking (consumer 9) (acknowledge (acks 2 false none (some 10)) 2) ∷ asking (consumer 9) (acknowledge (acks 6 false none (some 20)) 2)
+    ∷ asking (consumer 9) (acknowledge (acks 1 false none (some 30)) 2) ∷ []))) (opened topic 0 100 0)
+
+-- 20 expires first, then 10
+abbrev sweeps : Ran
+sweeps = ran (enqueuing (entry 10 (pos 50)) 1 ∷ enqueuing (entry 20 (pos 40)) 1 ∷ enqueuing (entry 30 (pos 0)) 1 ∷ enqueuing (entry 40 (pos 60)) 1
+    ∷ sweeping 55 1 ∷ sweeping 55 512 ∷ sweeping 55 512 ∷ []) (opened queue 0 100 0)
+
+-- a producer's audit of 0 to 1,023, and what three tests answer
+abbrev audited : Ran
+audited = ran (testing (consumer 7) 1024 ∷ testing (consumer 7) 1024 ∷ testing (consumer 7) 0 ∷ []) (withAudits (record { producer = consumer 7; order = window } ∷ []) (opened queue 0 100 0))
+
+-- two consumers of prefetch 0, nothing waiting
+abbrev bothPull : Ran
+bothPull = ran (joining (plain 8 (pos 0)) 1 ∷ joining (plain 9 (pos 0)) 1 ∷ asking (consumer 8) (pulling (pos 5) 2) ∷ asking (consumer 9) (pulling (pos 5) 2) ∷ []) (opened queue 0 100 0)
+
+-- a browser of an empty queue, and one more dispatch
+abbrev browsed : Ran
+browsed = ran (joining (browsing 9 (pos 1)) 1 ∷ asking (consumer 5) (prefetching (pos 1) 2) ∷ []) (opened queue 0 100 0)
+
+abbrev seqsOf : List Entry → List ℕ
+seqsOf es = map (λ e. e .seq) es
+
+-- ---- refusals of one call, on tables that are nearly full
+
+abbrev filled : ℕ → Dest
+filled k = withPending (map (λ n. entry n (pos 0)) (upFrom 1 k)) (opened queue 0 100 0)
+
+abbrev crowd : ℕ → Dest
+crowd k = withSubs (map (λ n. newSub (plain n (pos 1)) none) (upFrom 1 k)) (opened topic 0 100 0)
+
+abbrev known : ℕ → Dest
+known k = withProducers (map consumer (upFrom 1 k)) (opened queue 0 100 0)
+
+abbrev windows : ℕ → Dest
+windows k = withAudits (map (λ n. record { producer = consumer n; order = [] }) (upFrom 1 k)) (opened queue 0 100 0)
+
+abbrev refusing : ℕ → Dest → Call → Bool
+refusing n t c = eqb (ownRefusal t c) n
+
+-- ---- queries
+
+abbrev waiting : Dest
+waiting = ran (sent (10 ∷ 20 ∷ 30 ∷ [])) (opened queue 0 100 0) .dest
+
+abbrev answers : ℕ → ℕ → Asked → Bool
+answers refusal answer a = eqb (a .refusal) refusal && eqb (a .answer) answer
+
+abbrev pages : ℕ → ℕ → List ℕ → Page → Bool
+pages refusal total seqs p = eqb (p .refusal) refusal && (eqb (p .total) total && sameNumbers (map (λ l. l .seq) (p .lines)) seqs)
+
+-- ---- buffers
+
+abbrev zeroes : ℕ → List ℕ
+zeroes n = map (λ k. 0) (upFrom 0 n)
+
+-- a queue with one consumer, which has 5 in flight; 6 waits, with redelivery -1
+abbrev lentHead : ℕ → List ℕ
+lentHead waits = 0 ∷ 0 ∷ 100 ∷ 3 ∷ 0 ∷ 0 ∷ 0 ∷ 2 ∷ 0 ∷ 0 ∷ 0 ∷ 1 ∷ 1 ∷ 0 ∷ 0 ∷ 0 ∷ waits ∷ zeroes 8328
+
+abbrev lentSub : List ℕ
+lentSub = 9 ∷ 1 ∷ 1 ∷ 1 ∷ 64 ∷ 0 ∷ 0 ∷ 0 ∷ 2 ∷ 5 ∷ 0 ∷ 0 ∷ 0 ∷ 0 ∷ 1 ∷ 0 ∷ []
+
+abbrev lentRow : ℕ → ℕ → ℕ → List ℕ
+lentRow seq redelivery dseq = seq ∷ 0 ∷ 1 ∷ 7 ∷ 0 ∷ redelivery ∷ dseq ∷ 0 ∷ 0 ∷ []
+
+-- with this count of waiting rows, and so many rows in all
+abbrev lentWith : ℕ → ℕ → Buffers
+lentWith waits rows = record { head = lentHead waits; subs = lentSub ∷ map (λ k. []) (upFrom 0 31); rows = lentRow 5 0 1 ∷ lentRow 6 (minus 1) 0 ∷ map (λ k. []) (upFrom 2 (rows - 2)) }
+
+abbrev acksFive : List ℕ
+acksFive = 9 ∷ 1 ∷ 1 ∷ 1028 ∷ 0 ∷ 5 ∷ 31 ∷ 0 ∷ []
+
+abbrev onBuffers : Buffers → ℕ → ℕ → List ℕ → List ℕ
+onBuffers b events code ws = let r = bufferStep b events code ws in r .refusal ∷ r .answer ∷ numbers (r .events)
+
+abbrev words : List Bool
+words =
+    -- document 01's example, as words
     sameNumbers (wordExample .seen) (0 ∷ 0 ∷ 0 ∷ 0 ∷ 0 ∷ 0 ∷ 0 ∷ 0 ∷ 1 ∷ 9 ∷ 5 ∷ 0 ∷ 0 ∷ [])
     ∷ sameNumbers (counters (wordExample .dest)) (2 ∷ 1 ∷ 1 ∷ 0 ∷ 1 ∷ [])
     ∷ sound one
@@ -202,43 +309,169 @@ wordCases =
     ∷ not (sound (withSubs (one .subs ++ one .subs) one))
     ∷ []
 
-cases : List Bool
-cases =
+-- ---- the table
+
+-- the cases marked * of destination.rs and entry.rs
+abbrev starred : List Bool
+starred =
+    -- Last 20, first unknown: 1 and 2 (no first, and a first that is not in flight)
     range false none (some 20) (1 ∷ 2 ∷ [])
     ∷ range false (some 99) (some 20) (1 ∷ 2 ∷ [])
+    -- First 30, last 20, not cumulative: only 2
     ∷ range false (some 30) (some 20) (2 ∷ [])
+    -- Last unknown: none
     ∷ range false none (some 25) []
+    ∷ range true none none []
+    -- First 20, last 30: cumulative gives 1, 2, 3, otherwise 2, 3
     ∷ range true (some 20) (some 30) (1 ∷ 2 ∷ 3 ∷ [])
     ∷ range false (some 20) (some 30) (2 ∷ 3 ∷ [])
+    -- Transacted INDIVIDUAL, first 10, last 30, marks all three
     ∷ sameNumbers (marks (acks 4 true (some 10) (some 30))) (1 ∷ 2 ∷ 3 ∷ [])
+    -- Untransacted, it removes only 30
     ∷ sameNumbers (leaves (acks 4 false (some 10) (some 30))) (1 ∷ 2 ∷ [])
+    -- Leave with last delivered 20: those of 10 and 20 only
+    ∷ sameNumbers (counts (leftWith (pos 0) (pos 20))) (1 ∷ 1 ∷ 0 ∷ [])
+    -- 2,147,483,647 stays
+    ∷ sameNumbers (counts (leftWith (pos 2147483647) (negsuc 0))) (2147483647 ∷ 2147483647 ∷ 2147483647 ∷ [])
+    ∷ sameSigned (oneMore (pos 2147483647)) (pos 2147483647)
+    -- Reserved entries: STANDARD with last -1 takes all, as the number is read as unsigned
+    ∷ sameNumbers (counters (afterwards 2 none .dest)) (3 ∷ 1 ∷ 0 ∷ 0 ∷ 3 ∷ [])
+    ∷ sameNumbers (map (λ h. h .entry .seq) (afterwards 2 none .dest .reserved)) []
+    -- POISON with first and last -1 takes none
+    ∷ sameNumbers (map (λ h. h .entry .seq) (afterwards 1 (some 18446744073709551615) .dest .reserved)) (30 ∷ [])
+    -- Expiration 0 or -1 never expires; equal to the clock is expired; clock + 1 is not
     ∷ not (expired (pos 50) (entry 1 (pos 0)))
     ∷ not (expired (pos 50) (entry 1 (negsuc 0)))
     ∷ expired (pos 50) (entry 1 (pos 50))
     ∷ not (expired (pos 50) (entry 1 (pos 51)))
-    ∷ sameNumbers (example .seen) (0 ∷ 0 ∷ 0 ∷ 0 ∷ 0 ∷ 0 ∷ 1 ∷ 9 ∷ 5 ∷ 0 ∷ 0 ∷ [])
-    ∷ sameNumbers (counters (example .dest)) (2 ∷ 1 ∷ 1 ∷ 0 ∷ 1 ∷ [])
-    ∷ sound (example .dest)
-    ∷ sameNumbers (pulls .seen) (0 ∷ 0 ∷ 0 ∷ 1 ∷ 0 ∷ 2 ∷ 0 ∷ 0 ∷ 0 ∷ 0 ∷ 2 ∷ 9 ∷ 0 ∷ 0 ∷ 2 ∷ 9 ∷ 0 ∷ 0 ∷ [])
-    ∷ sameNumbers (limited .seen) (0 ∷ 0 ∷ 0 ∷ 0 ∷ 0 ∷ 0 ∷ 0 ∷ 0 ∷ 0 ∷ 0 ∷ 1 ∷ 9 ∷ 5 ∷ 1 ∷ 9 ∷ 6 ∷ [])
-    ∷ sameNumbers (counts (left (negsuc 0) .dest .pending)) (1 ∷ 1 ∷ [])
-    ∷ sameNumbers (counts (left (pos 10) .dest .pending)) (1 ∷ 0 ∷ [])
-    ∷ sameNumbers (counts (returnedFrom (negsuc 0) (three .inflight))) (1 ∷ 1 ∷ 1 ∷ [])
-    ∷ sameNumbers (counts (returnedFrom (pos 20) (three .inflight))) (1 ∷ 1 ∷ 0 ∷ [])
-    ∷ sameSigned (oneMore (pos 2147483647)) (pos 2147483647)
-    ∷ sameNumbers (map (λ h. h .entry .seq) (left (negsuc 0) .dest .reserved)) (30 ∷ [])
-    ∷ sameNumbers (counters (afterwards 2 none .dest)) (3 ∷ 1 ∷ 0 ∷ 0 ∷ 3 ∷ [])
-    ∷ sameNumbers (map (λ h. h .entry .seq) (afterwards 2 none .dest .reserved)) []
-    ∷ sameNumbers (map (λ h. h .entry .seq) (afterwards 1 (some 18446744073709551615) .dest .reserved)) (30 ∷ [])
-    ∷ eqb (turned (10 ∷ 20 ∷ []) 3) 0
-    ∷ eqb (turned (10 ∷ []) 1) 1
-    ∷ not (seen 1024 window)
-    ∷ eqb (firstOf (recorded 1024 window)) 1
-    ∷ seen 1024 (recorded 1024 window)
-    ∷ not (seen 0 (recorded 1024 window))
-    ∷ eqb (firstOf (recorded 0 (recorded 1024 window))) 2
     ∷ []
 
-all-right : T (every cases && every wordCases)
-unfolding cases consumerOpen destinationOpen callsOpen wordsOpen
+abbrev corners : List Bool
+corners =
+    -- the call file's example
+    sameNumbers (example .seen) (0 ∷ 0 ∷ 0 ∷ 0 ∷ 0 ∷ 0 ∷ 1 ∷ 9 ∷ 5 ∷ 0 ∷ 0 ∷ [])
+    ∷ sameNumbers (counters (example .dest)) (2 ∷ 1 ∷ 1 ∷ 0 ∷ 1 ∷ [])
+    ∷ sound (example .dest)
+    -- From a present consumer, DELIVERED is never transacted in effect
+    ∷ sameNumbers (marks (acks 0 true (some 10) (some 30))) []
+    ∷ eqb (ackSub (acks 0 true (some 10) (some 30)) three .sub .freed) 3
+    -- Leave with last delivered -1: every returned entry's redelivery rises by 1 (30, in a transaction, stays reserved)
+    ∷ sameNumbers (counts (leftWith (pos 0) (negsuc 0))) (1 ∷ 1 ∷ 1 ∷ [])
+    ∷ sameNumbers (counts (left (negsuc 0) .dest .pending)) (1 ∷ 1 ∷ [])
+    ∷ sameNumbers (counts (left (pos 10) .dest .pending)) (1 ∷ 0 ∷ [])
+    ∷ sameNumbers (map (λ h. h .entry .seq) (left (negsuc 0) .dest .reserved)) (30 ∷ [])
+    -- a release returns it, redelivered once more
+    ∷ sameNumbers (counts (ran (releasing (consumer 9) 5 ∷ []) (left (negsuc 0) .dest) .dest .pending)) (1 ∷ 1 ∷ 1 ∷ [])
+    -- Pull at prefetch 0 with nothing waiting: 5 answers the generation, 1 for the first pull; a second pull makes it 2, and a timeout for 1 then
+    -- does nothing; timeout -1 sends a null and answers 0; 0 answers 0 and waits
+    ∷ sameNumbers (pulls .seen) (0 ∷ 0 ∷ 0 ∷ 1 ∷ 0 ∷ 2 ∷ 0 ∷ 0 ∷ 0 ∷ 0 ∷ 2 ∷ 9 ∷ 0 ∷ 0 ∷ 2 ∷ 9 ∷ 0 ∷ 0 ∷ [])
+    -- Generations are each consumer's own
+    ∷ sameNumbers (bothPull .seen) (0 ∷ 0 ∷ 0 ∷ 0 ∷ 0 ∷ 1 ∷ 0 ∷ 1 ∷ [])
+    -- Topic limit 2, no credit, arrivals 5, 6, 4: the copy of 4 is discarded
+    ∷ sameNumbers (limited .seen) (0 ∷ 0 ∷ 0 ∷ 0 ∷ 0 ∷ 0 ∷ 0 ∷ 0 ∷ 0 ∷ 0 ∷ 1 ∷ 9 ∷ 5 ∷ 1 ∷ 9 ∷ 6 ∷ [])
+    -- Turn at 2, the third leaves: turn 0. Turn at 1, the first leaves: turn stays 1
+    ∷ eqb (turned (10 ∷ 20 ∷ []) 3) 0
+    ∷ eqb (turned (10 ∷ []) 1) 1
+    -- Audit: 1,024 is new and evicts 0; again it is a duplicate; 0 is then new and evicts 1
+    ∷ sameNumbers (audited .seen) (0 ∷ 0 ∷ 0 ∷ 1 ∷ 0 ∷ 0 ∷ [])
+    ∷ sameNumbers (map (λ a. firstOf (a .order)) (audited .dest .audits)) (2 ∷ [])
+    ∷ not (seen 1024 window)
+    ∷ eqb (firstOf (recorded 1024 window)) 1
+    -- a duplicate test for connection 0 answers 0 and records nothing
+    ∷ sameNumbers (ran (testing (consumer 0) 5 ∷ testing (consumer 0) 5 ∷ []) (opened queue 0 100 0) .seen) (0 ∷ 0 ∷ 0 ∷ 0 ∷ [])
+    -- A clear empties browser snapshots without counting them, counts browser entries in flight, and dispatches nothing
+    ∷ sameNumbers (emptied .seen) (0 ∷ 0 ∷ 0 ∷ 0 ∷ 0 ∷ 0 ∷ 0 ∷ 0 ∷ 1 ∷ 9 ∷ 10 ∷ 0 ∷ 0 ∷ 1 ∷ 8 ∷ 10 ∷ 0 ∷ 4 ∷ [])
+    -- An unfinished browser gets its closing null at a later dispatch; a prefetch change of an absent consumer dispatches
+    ∷ sameNumbers (then (asking (consumer 5) (prefetching (pos 1) 3))) (0 ∷ 0 ∷ 2 ∷ 9 ∷ [])
+    -- Prefetch above 0: answer 0, no dispatch
+    ∷ sameNumbers (then (asking (consumer 8) (pulling (pos 5) 3))) (0 ∷ 0 ∷ [])
+    -- Ack type 7, consumer present: untransacted, nothing is acknowledged, yet dispatch runs
+    ∷ sameNumbers (then (asking (consumer 8) (acknowledge (acks 7 false (some 20) (some 30)) 3))) (0 ∷ 0 ∷ 2 ∷ 9 ∷ [])
+    ∷ sameNumbers (leaves (acks 7 false (some 20) (some 30))) (1 ∷ 2 ∷ 3 ∷ [])
+    -- transacted, the non-cumulative range is marked
+    ∷ sameNumbers (marks (acks 255 true (some 20) (some 30))) (2 ∷ 3 ∷ [])
+    -- a browser's closing null comes once; a join takes the idle mark away
+    ∷ sameNumbers (browsed .seen) (0 ∷ 0 ∷ 2 ∷ 9 ∷ 0 ∷ 0 ∷ [])
+    ∷ not (is-some (browsed .dest .idle))
+    -- A browser on a topic receives like any consumer, but its acknowledgements are not counted as dequeued or expired
+    ∷ sameNumbers (onTopic .seen) (0 ∷ 0 ∷ 0 ∷ 0 ∷ 1 ∷ 9 ∷ 10 ∷ 0 ∷ 0 ∷ 1 ∷ 9 ∷ 20 ∷ 0 ∷ 0 ∷ 1 ∷ 9 ∷ 30 ∷ 0 ∷ 0 ∷ 0 ∷ 0 ∷ 0 ∷ 0 ∷ [])
+    ∷ sameNumbers (counters (onTopic .dest)) (3 ∷ 0 ∷ 0 ∷ 0 ∷ 3 ∷ [])
+    -- a sweep's total, the soonest first
+    ∷ sameNumbers (sweeps .seen) (0 ∷ 0 ∷ 0 ∷ 0 ∷ 0 ∷ 0 ∷ 0 ∷ 0 ∷ 0 ∷ 1 ∷ 0 ∷ 1 ∷ 0 ∷ 0 ∷ [])
+    ∷ sameNumbers (seqsOf (sweeps .dest .pending)) (30 ∷ 40 ∷ [])
+    ∷ []
+
+-- 4 to 9, each on both sides of its condition
+abbrev refusals : List Bool
+refusals =
+    refusing 4 (filled 511) (enqueuing (entry 511 (pos 0)) 1)
+    ∷ refusing 0 (filled 511) (enqueuing (entry 600 (pos 0)) 1)
+    ∷ refusing 5 (filled 512) (enqueuing (entry 600 (pos 0)) 1)
+    -- 4 comes before 5
+    ∷ refusing 4 (filled 512) (enqueuing (entry 1 (pos 0)) 1)
+    -- an empty table has rows
+    ∷ refusing 0 (filled 0) (enqueuing (entry 1 (pos 0)) 1)
+    -- a browser's join needs a row for each entry of its snapshot
+    ∷ refusing 0 (filled 256) (joining (browsing 9 (pos 1)) 1)
+    ∷ refusing 5 (filled 257) (joining (browsing 9 (pos 1)) 1)
+    ∷ refusing 0 (filled 512) (joining (plain 9 (pos 1)) 1)
+    ∷ refusing 0 (crowd 31) (joining (plain 99 (pos 1)) 1)
+    ∷ refusing 7 (crowd 32) (joining (plain 99 (pos 1)) 1)
+    -- 6 comes before 7
+    ∷ refusing 6 (crowd 32) (joining (plain 32 (pos 1)) 1)
+    ∷ refusing 0 (known 31) (adding (consumer 99))
+    ∷ refusing 8 (known 32) (adding (consumer 99))
+    ∷ refusing 0 (known 32) (adding (consumer 32))
+    ∷ refusing 0 (windows 7) (testing (consumer 99) 5)
+    ∷ refusing 8 (windows 8) (testing (consumer 99) 5)
+    ∷ refusing 0 (windows 8) (testing (consumer 8) 5)
+    ∷ refusing 0 (windows 8) (testing (consumer 0) 5)
+    -- 9: calls used equals the call limit
+    ∷ sameNumbers (ran (discarding ∷ missing ∷ []) (opened queue 0 1 0) .seen) (0 ∷ 0 ∷ 9 ∷ 0 ∷ [])
+    ∷ []
+
+abbrev queries : List Bool
+queries =
+    answers 0 1 (query (whole 0) ofKind waiting)
+    ∷ answers 0 0 (query (whole 0) consumers waiting)
+    ∷ answers 0 3 (query (whole 0) messages waiting)
+    -- in flight counts, a browser's snapshot and reserved entries do not
+    ∷ answers 0 2 (query (whole 0) messages (left (negsuc 0) .dest))
+    ∷ answers 0 0 (query (whole 0) expirations waiting)
+    ∷ answers 0 1 (query (whole 0) expirations (sweeps .dest))
+    -- seq_at is the entry there
+    ∷ answers 0 30 (query (whole 0) (sequence 2) waiting)
+    ∷ answers 0 0 (query (whole 0) (sequence 3) waiting)
+    -- idle time is the clock less the mark, in whole seconds, 0 if the clock went back
+    ∷ answers 0 1 (query (whole 0) (idle 6000 5) (opened queue 0 1 1000))
+    ∷ answers 0 0 (query (whole 0) (idle 5999 5) (opened queue 0 1 1000))
+    ∷ answers 0 1 (query (whole 0) (idle 0 0) (opened queue 0 1 1000))
+    ∷ answers 0 0 (query (whole 0) (idle 6000 0) waiting)
+    ∷ answers 3 0 (query (whole 0) (idle 4611686018427387905 0) waiting)
+    ∷ answers 2 0 (query (whole 0) messages zeros)
+    ∷ answers 1 0 (query (record { head = 8344; subs = 32; rows = 512; events = 0 }) messages waiting)
+    ∷ pages 0 3 (20 ∷ 30 ∷ []) (page (whole 0) 50 1 60 waiting)
+    ∷ pages 0 3 (10 ∷ []) (page (whole 0) 50 0 1 waiting)
+    ∷ pages 0 3 [] (page (whole 0) 50 3 50 waiting)
+    ∷ pages 1 0 [] (page (whole 0) 49 0 1 waiting)
+    ∷ []
+
+abbrev buffers : List Bool
+buffers =
+    sameNumbers (seqsOf (view (lentWith 1 512) .pending)) (6 ∷ [])
+    ∷ sameNumbers (map (λ s. length (Sub.inflight s)) (view (lentWith 1 512) .subs)) (1 ∷ [])
+    ∷ soundBuffers (lentWith 1 512)
+    ∷ sameNumbers (onBuffers (lentWith 1 512) 545 4 acksFive) (0 ∷ 0 ∷ 1 ∷ 9 ∷ 6 ∷ [])
+    ∷ sameNumbers (onBuffers (lentWith 1 512) 544 4 acksFive) (1 ∷ 0 ∷ [])
+    ∷ sameNumbers (onBuffers (lentWith 1 511) 545 4 acksFive) (1 ∷ 0 ∷ [])
+    -- more rows in use than there are: no call but an open takes them
+    ∷ sameNumbers (onBuffers (lentWith 512 512) 545 4 acksFive) (2 ∷ 0 ∷ [])
+    ∷ sameNumbers (onBuffers (lentWith 512 512) 545 0 (0 ∷ 0 ∷ 1 ∷ 0 ∷ 0 ∷ 0 ∷ 0 ∷ 0 ∷ [])) (0 ∷ 0 ∷ [])
+    ∷ []
+
+cases : List Bool
+cases = starred ++ (corners ++ (refusals ++ (words ++ (queries ++ buffers))))
+
+all-right : T (every cases)
+unfolding cases consumerOpen destinationOpen callsOpen wordsOpen queriesOpen layoutOpen Rows.entryOf Ring.orderOf Ring.auditOk
 all-right = tt

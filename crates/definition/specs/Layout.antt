@@ -2,10 +2,10 @@
 -- tables. A mark is 0 for no and any other word for yes; a redelivery counter is the lower half of its word; words that are not in use are not
 -- looked at. Assumes nothing.
 use Prim.Native.Nat.{ℕ, zero, suc, _+_}
-use mathlib.Core.Bool.{Bool, true, false, not, _&&_}
+use mathlib.Core.Bool.{Bool, true, false, not, _&&_, _||_}
 use mathlib.Core.List.{List, [], _∷_, map}
 use mathlib.Core.Option.{Option, none, some}
-use lib.Dec.{leb, eqb}
+use lib.Dec.{leb, ltb, eqb}
 use lib.ListN.{length, take, drop}
 use mir.Val.{boolByte}
 use Rattle.words.specs.Words.{unsigned}
@@ -15,7 +15,9 @@ use Rattle.entry.specs.Entry.{entryOf}
 use Rattle.model.specs.Model.{idOf}
 use Rattle.definition.specs.Base.{if_then_else_, every}
 use Rattle.definition.specs.Types.{Kind, queue, topic, Id, Entry, Inflight, Sub, Stats, Held, Audit, Dest, Event, letter, message, null}
-use Rattle.definition.specs.Calls.{Lengths, short, sound, Result, refused}
+use Rattle.definition.specs.Consumer.{zeroStats}
+use Rattle.definition.specs.Calls.{Lengths, short, stateShort, sound, Call, Result, refused, call}
+use Rattle.definition.specs.Queries.{Query, Asked, asked, query, Counted, counters, Page, page, pageMax}
 use Rattle.definition.specs.Words.{at, kindOf, step}
 
 abbrev pub Row : Type 0
@@ -177,7 +179,30 @@ bufferStep b events code ws =
     if not (short (lengthsOf b events)) && (not (eqb code 0) && not (formed b)) then refused 2 (view b)
     else step (lengthsOf b events) code ws (view b)
 
+-- what one of the two calls without a code gets
+unfoldable pub bufferCall : Buffers → ℕ → Call → Result
+bufferCall b events c =
+    if not (short (lengthsOf b events)) && not (formed b) then refused 2 (view b)
+    else call (lengthsOf b events) c (view b)
+
+-- what a query gets: it is lent no event list
+unfoldable pub bufferQuery : Buffers → Query → Asked
+bufferQuery b q =
+    if not (stateShort (lengthsOf b 0)) && not (formed b) then asked 2 0
+    else query (lengthsOf b 0) q (view b)
+
+unfoldable pub bufferCounters : Buffers → Counted
+bufferCounters b =
+    if not (stateShort (lengthsOf b 0)) && not (formed b) then record { refusal = 2; stats = zeroStats }
+    else counters (lengthsOf b 0) (view b)
+
+-- a page, into a lent list of so many lines
+unfoldable pub bufferPage : Buffers → ℕ → ℕ → ℕ → Page
+bufferPage b lines offset limit =
+    if not (stateShort (lengthsOf b 0) || ltb lines pageMax) && not (formed b) then record { refusal = 2; total = 0; lines = [] }
+    else page (lengthsOf b 0) lines offset limit (view b)
+
 -- opens the definitions of this file
 unfoldable pub layoutOpen : Unit {0}
-unfolding subAt subsAt subRows idsAt auditsAt view ringsFormed formed eventWords soundBuffers bufferStep
+unfolding subAt subsAt subRows idsAt auditsAt view ringsFormed formed eventWords soundBuffers bufferStep bufferCall bufferQuery bufferCounters bufferPage
 layoutOpen = tt

@@ -72,6 +72,20 @@ pub record SameRuns (l m : List Lent) (t : Dest) : Type 0 where
   pub replies : (i : Id) → repliesOf i (run reply left l t) ≡ repliesOf i (run reply left m t)
   pub states : end left l t ≡ end left m t
 
+-- demand 3, "a single claim about the whole list and its orders"
 abbrev pub Reordering : Type 0
-Reordering = (cleared : Bool) (t : Dest) → Reached cleared t → Qualifies cleared t → (l m : List Lent) → AllPresent l t → length l ≤ t .callLimit - t .callsUsed
-    → ((i : Id) → callsOf i l ≡ callsOf i m) → SameRuns l m t
+Reordering =
+    (cleared : Bool) (t : Dest)
+    -- "as accepted calls left it"
+    → Reached cleared t
+    -- "on any topic, or any never-cleared queue with nothing waiting"
+    → Qualifies cleared t
+    → (l m : List Lent)
+    -- "its calls are codes 4 to 7, each with a present ID and otherwise any arguments"
+    → AllPresent l t
+    -- "calls left: call limit less calls used"
+    → length l ≤ t .callLimit - t .callsUsed
+    -- "as long as each consumer's own calls keep their order"
+    → ((i : Id) → callsOf i l ≡ callsOf i m)
+    -- "same refusals, answers, sends and final state"
+    → SameRuns l m t

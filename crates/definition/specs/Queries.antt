@@ -9,6 +9,7 @@ use lib.IntN.{ℤ, pos}
 use lib.Signed.{ltZ}
 use Rattle.definition.specs.Base.{if_then_else_, all, empty, nth}
 use Rattle.definition.specs.Types.{Kind, queue, topic, Entry, Sub, Stats, Dest}
+use Rattle.definition.specs.Consumer.{zeroStats}
 use Rattle.definition.specs.Destination.{heldRows}
 use Rattle.definition.specs.Calls.{Lengths, stateShort, clockOk, sound}
 
@@ -123,7 +124,7 @@ pub record Counted : Type 0 where
 unfoldable pub counters : Lengths → Dest → Counted
 counters lent t =
     let r = queryRefusal (stateShort lent) true t in
-    record { refusal = r; stats = if leb r 0 then t .stats else record { enqueued = 0; dequeued = 0; expired = 0; discarded = 0; dispatched = 0 } }
+    record { refusal = r; stats = if leb r 0 then t .stats else zeroStats }
 
 -- a page, into a lent list of so many lines: how many wait, and the lines written
 pub record Page : Type 0 where

@@ -10,7 +10,7 @@ use Rattle.definition.specs.Base.{if_then_else_, all, find, member, is-s
 use Rattle.definition.specs.Types.{Dest}
 use Rattle.definition.specs.Consumer.{zeroStats}
 use Rattle.definition.specs.Destination.{subOf, isProducer, auditOf}
-use Rattle.definition.specs.Calls.{Lengths, stateShort, short, sound, seqs, allRows, freeRows, rowsFor, snapshotRows, Call, discarding, missing, Result, call}
+use Rattle.definition.specs.Calls.{Lengths, stateShort, short, sound, seqs, allRows, freeRows, rowsFor, snapshotRows, discarding, missing, Result, call}
 use Rattle.definition.specs.Words.{at, idOf, entryOf, specOf, openWords, decode, step}
 use Rattle.definition.specs.Queries.{Query, queryOk, query, counters, page}
 use Rattle.definition.specs.Layout.{Buffers, view, soundBuffers, lengthsOf, bufferStep}
@@ -58,7 +58,7 @@ table isShort isSound code ws t =
 abbrev pub places : Lengths → ℕ → List ℕ → Dest → List Place
 places lent code ws t = table (short lent) (sound t) code ws t
 
--- of a call on buffers: 2 is for words that their places cannot hold, too
+-- of a call on buffers: 2 is for counts that do not fit the tables, too
 abbrev pub bufferPlaces : Buffers → ℕ → ℕ → List ℕ → List Place
 bufferPlaces b events code ws = table (short (lengthsOf b events)) (soundBuffers b) code ws (view b)
 
