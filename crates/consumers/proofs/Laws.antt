@@ -1,0 +1,210 @@
+-- The numbers of a consumer and of the table as the definitions have them of the view: credit, what is accepted, cursors back, all cleared, the
+-- rows of the consumers, and sums over them. Assumes nothing.
+use mathlib.Core.Path.{_≡_, refl, sym, ap, ap₂, _∙_}
+use mathlib.Core.Bool.{Bool, true, false, _&&_, and-eq-true-iff}
+use mathlib.Core.List.{List, [], _∷_, _++_, append-nil, append-assoc, map, map-append}
+use mathlib.Core.Option.{none, some}
+use Prim.Native.Nat.{ℕ, zero, suc, _+_, _-_, _≤_, _<_}
+use native.Mathlib.Nat.{not-suc-le-zero, le-of-suc-le-suc}
+use native.Mathlib.Omega.{arith}
+use borrow.Author.Tests.{leb-true, le-leb, lt-ltb}
+use lib.Dec.{leb}
+use lib.ListN.{length, take, drop, getD, length-map, length-append, length-drop}
+use lib.Seq.{slice, take-add, take-at, take-take, length-take-le, length-slice}
+use Rattle.entry.specs.Entry.{entryOf}
+use Rattle.definition.specs.Base.{if_then_else_, is-some, tally, all}
+use Rattle.definition.specs.Types.{Kind, queue, topic, Entry, Inflight}
+use Rattle.definition.specs.Types as Def
+use Rattle.definition.specs.Consumer.{hasCredit, accepts, isBrowser, shown}
+use Rattle.definition.specs.Destination.{holdBack, cleared, emptied, heldRows}
+use Rattle.definition.specs.Calls.{rowsOf, consumerRows, seqs}
+use Rattle.definition.specs.Queries.{isQueue}
+use Rattle.definition.specs.Words.{at}
+use Rattle.definition.specs.Layout.{Row, flag, inflightAt, inflightOf, heldOf, browserAt, tpendingAt, subAt, subsAt, subRows}
+use Rattle.consumers.specs.declared.Sub.{Sub}
+use Rattle.consumers.specs.Consumers.{subOf, subView, creditOf, acceptsOf, heldBack, clearedOf}
+use Rattle.consumers.proofs.View.{sub-at, inflight-loaded}
+use Rattle.consumers.specs.Table.{takenOut, removed, onFirst, heldBackRow, clearedRow, takes, heldBy, keptRows, fitting}
+
+-- ---- one consumer
+
+waiting : (b : Bool) (g : ℕ) → is-some (if b then some g else none) ≡ b
+waiting true g = refl
+waiting false g = refl
+
+pub credit : (k : Kind) (s : Sub) (f h : List Row) → length f ≡ s .inflight → hasCredit (subView k s f h) ≡ creditOf s
+unfolding hasCredit subView creditOf
+credit k s f h e = simp (waiting, length-map f inflightAt, e)
+
+pub credit-at : (k : Kind) (w : Row) (f h : List Row) → length f ≡ inflightOf w → hasCredit (subAt k w f h) ≡ creditOf (subOf w)
+credit-at k w f h e = ap hasCredit (sub-at k w f h) ∙ credit k (subOf w) f h (e ∙ sym (inflight-loaded w))
+
+pub accepts-sub : (k : Kind) (s : Sub) (f h : List Row) (e : Entry) → accepts (subView k s f h) e ≡ acceptsOf s e
+unfolding accepts subView acceptsOf
+accepts-sub k s f h e = refl
+
+pub accepts-at : (k : Kind) (w : Row) (f h : List Row) (e : Entry) → accepts (subAt k w f h) e ≡ acceptsOf (subOf w) e
+accepts-at k w f h e = ap (λ (s : Def.Sub). accepts s e) (sub-at k w f h) ∙ accepts-sub k (subOf w) f h e
+
+browsing : (k : Kind) (b : Bool) (l : List Entry) → is-some (browserAt k b l) ≡ b
+browsing k false l = refl
+browsing queue true l = refl
+browsing topic true l = refl
+
+pub browser-sub : (k : Kind) (s : Sub) (f h : List Row) → isBrowser (subView k s f h) ≡ s .browser
+unfolding isBrowser subView
+browser-sub k s f h = browsing k (s .browser) (map entryOf h)
+
+pub held-back-sub : (k : Kind) (seq : ℕ) (s : Sub) (f h : List Row) → subView k (heldBack seq s) f h ≡ holdBack seq (subView k s f h)
+unfolding subView
+held-back-sub k seq s f h = refl
+
+no-browser : (k : Kind) (b : Bool) (l : List Entry) → browserAt k b [] ≡ emptied (browserAt k b l)
+no-browser k false l = refl
+no-browser queue true l = refl
+no-browser topic true l = refl
+
+no-pending : (k : Kind) (b : Bool) → tpendingAt k b [] ≡ []
+no-pending queue true = refl
+no-pending queue false = refl
+no-pending topic b = refl
+
+pub cleared-sub : (k : Kind) (s : Sub) (f h : List Row) → subView k (clearedOf s) [] [] ≡ cleared (subView k s f h)
+unfolding subView
+cleared-sub k s f h = rw (no-browser k (s .browser) (map entryOf h), no-pending k (s .browser))
+
+-- ---- all consumers
+
+pub on-first : (f : Row → Row) (n : ℕ) (ws : List Row) → take n (onFirst f n ws) ≡ map f (take n ws)
+unfolding onFirst
+on-first f zero ws = refl
+on-first f (suc n) [] = refl
+on-first f (suc n) (w ∷ ws) = ap (λ (l : List Row). f w ∷ l) (on-first f n ws)
+
+pub on-length : (f : Row → Row) (n : ℕ) (ws : List Row) → length (onFirst f n ws) ≡ length ws
+unfolding onFirst
+on-length f zero ws = refl
+on-length f (suc n) [] = refl
+on-length f (suc n) (w ∷ ws) = ap suc (on-length f n ws)
+
+pub hold-back-rows : (seq : ℕ) (ws : List Row) → subRows (map (heldBackRow seq) ws) ≡ subRows ws
+unfolding subRows heldBackRow
+hold-back-rows seq [] = refl
+hold-back-rows seq (w ∷ ws) = ap (λ (n : ℕ). inflightOf w + (heldOf w + n)) (hold-back-rows seq ws)
+
+pub hold-back-subs : (k : Kind) (seq : ℕ) (ws rows : List Row) → subsAt k (map (heldBackRow seq) ws) rows ≡ map (holdBack seq) (subsAt k ws rows)
+unfolding subsAt subAt heldBackRow
+hold-back-subs k seq [] rows = refl
+hold-back-subs k seq (w ∷ ws) rows =
+    let f : List Row = take (inflightOf w) rows in
+    let h : List Row = take (heldOf w) (drop (inflightOf w) rows) in
+    ap (λ (l : List Def.Sub). holdBack seq (subAt k w f h) ∷ l) (hold-back-subs k seq ws (drop (heldOf w) (drop (inflightOf w) rows)))
+
+pub clear-rows : (ws : List Row) → subRows (map clearedRow ws) ≡ 0
+unfolding subRows clearedRow
+clear-rows [] = refl
+clear-rows (w ∷ ws) = rw (clear-rows ws)
+
+pub clear-subs : (k : Kind) (ws rows after : List Row) → subsAt k (map clearedRow ws) after ≡ map cleared (subsAt k ws rows)
+unfolding subsAt subAt clearedRow
+clear-subs k [] rows after = refl
+clear-subs k (w ∷ ws) rows after =
+    let h : List Row = take (heldOf w) (drop (inflightOf w) rows) in
+    let r : subsAt k (map clearedRow ws) after ≡ map cleared (subsAt k ws (drop (heldOf w) (drop (inflightOf w) rows))) = clear-subs k ws (drop (heldOf w) (drop (inflightOf w) rows)) after in
+    rw (r, no-browser k (flag (at 6 w)) (map entryOf h), no-pending k (flag (at 6 w)))
+
+-- the same of the first n of the table
+pub hold-back-first : (k : Kind) (seq n : ℕ) (ws rows : List Row) → subsAt k (take n (onFirst (heldBackRow seq) n ws)) rows ≡ map (holdBack seq) (subsAt k (take n ws) rows)
+hold-back-first k seq n ws rows = ap (λ (l : List Row). subsAt k l rows) (on-first (heldBackRow seq) n ws) ∙ hold-back-subs k seq (take n ws) rows
+
+pub clear-first : (k : Kind) (n : ℕ) (ws rows after : List Row) → subsAt k (take n (onFirst clearedRow n ws)) after ≡ map cleared (subsAt k (take n ws) rows)
+clear-first k n ws rows after = ap (λ (l : List Row). subsAt k l after) (on-first clearedRow n ws) ∙ clear-subs k (take n ws) rows after
+
+-- one taken out of the first n
+pub removed-first : (at n : ℕ) (ws : List Row) → at < n → n ≤ length ws → take (n - 1) (removed at n ws) ≡ take at (take n ws) ++ drop (suc at) (take n ws)
+unfolding removed takenOut
+removed-first at n ws h g =
+    let a : List Row = take at ws in
+    let b : List Row = slice (suc at) n ws in
+    let l : length (a ++ b) ≡ n - 1 = simp (length-append, length-take-le at ws (omega arith), length-slice (suc at) n ws g) (omega arith) in
+    rw (le-leb n (length ws) g, lt-ltb at n h)
+    (ap (take (n - 1)) (sym (append-assoc a b (drop (n - 1) ws)))
+    ∙ take-at (a ++ b) (drop (n - 1) ws) (n - 1) l
+    ∙ ap (λ (x : List Row). x ++ b) (sym (take-take at n ws (omega arith))))
+
+pub tally-subs : (k : Kind) (e : Entry) (ws rows : List Row) → tally (λ s. accepts s e) (subsAt k ws rows) ≡ tally (takes e) ws
+unfolding subsAt subAt accepts acceptsOf subOf
+tally-subs k e [] rows = refl
+tally-subs k e (w ∷ ws) rows = ap (λ (n : ℕ). (if takes e w then 1 else 0) + n) (tally-subs k e ws (drop (heldOf w) (drop (inflightOf w) rows)))
+
+-- ---- the rows of the consumers
+
+flown : (f : List Row) → map (λ (i : Inflight). i .entry) (map inflightAt f) ≡ map entryOf f
+flown [] = refl
+flown (r ∷ f) = ap (λ (l : List Entry). entryOf r ∷ l) (flown f)
+
+holding : (k : Kind) (b : Bool) (l : List Entry) → tpendingAt k b l ++ shown (browserAt k b l) ≡ l
+holding queue true l = refl
+holding queue false l = append-nil l
+holding topic true l = append-nil l
+holding topic false l = append-nil l
+
+pub rows-of-sub : (k : Kind) (w : Row) (f h : List Row) → rowsOf (subAt k w f h) ≡ map entryOf (f ++ h)
+unfolding subAt
+rows-of-sub k w f h = ap₂ (λ (x y : List Entry). x ++ y) (flown f) (holding k (flag (at 6 w)) (map entryOf h)) ∙ sym (map-append entryOf f h)
+
+pub rows-of-length : (k : Kind) (w : Row) (f h : List Row) → length (rowsOf (subAt k w f h)) ≡ length f + length h
+rows-of-length k w f h = ap length (rows-of-sub k w f h) ∙ length-map (f ++ h) entryOf ∙ length-append f h
+
+pub consumer-rows : (k : Kind) (ws rows : List Row) → consumerRows (subsAt k ws rows) ≡ map entryOf (take (subRows ws) rows)
+unfolding subsAt subRows
+consumer-rows k [] rows = refl
+consumer-rows k (w ∷ ws) rows =
+    let a : ℕ = inflightOf w in
+    let b : ℕ = heldOf w in
+    let f : List Row = take a rows in
+    let h : List Row = take b (drop a rows) in
+    let r : List Row = take (subRows ws) (drop b (drop a rows)) in
+    ap₂ (λ (x y : List Entry). x ++ y) (rows-of-sub k w f h) (consumer-rows k ws (drop b (drop a rows)))
+    ∙ sym (map-append entryOf (f ++ h) r)
+    ∙ ap (map entryOf) (append-assoc f h r ∙ sym (take-add a (b + subRows ws) rows ∙ ap (λ (x : List Row). f ++ x) (take-add b (subRows ws) (drop a rows))))
+
+numbers : (l : List Row) → seqs (map entryOf l) ≡ map (at 0) l
+unfolding entryOf
+numbers [] = refl
+numbers (r ∷ l) = ap (λ (x : List ℕ). at 0 r ∷ x) (numbers l)
+
+pub consumer-seqs : (k : Kind) (ws rows : List Row) → seqs (consumerRows (subsAt k ws rows)) ≡ map (at 0) (take (subRows ws) rows)
+consumer-seqs k ws rows = ap seqs (consumer-rows k ws rows) ∙ numbers (take (subRows ws) rows)
+
+pending-length : (k : Kind) (b : Bool) (l : List Entry) → length (tpendingAt k b l) ≡ (if isQueue k && b then 0 else length l)
+pending-length queue true l = refl
+pending-length queue false l = refl
+pending-length topic b l = refl
+
+pub held-subs : (k : Kind) (ws rows : List Row) → subRows ws ≤ length rows → heldRows (subsAt k ws rows) ≡ keptRows (isQueue k) ws
+unfolding subsAt subAt subRows keptRows
+held-subs k [] rows h = refl
+held-subs k (w ∷ ws) rows h =
+    let a : ℕ = inflightOf w in
+    let b : ℕ = heldOf w in
+    let l : List Row = take b (drop a rows) in
+    let one : length (map inflightAt (take a rows)) ≡ a = length-map (take a rows) inflightAt ∙ length-take-le a rows (omega arith) in
+    let all : length (map entryOf l) ≡ b = length-map l entryOf ∙ length-take-le b (drop a rows) (simp length-drop (omega arith)) in
+    let two : length (tpendingAt k (flag (at 6 w)) (map entryOf l)) ≡ heldBy (isQueue k) w =
+    pending-length k (flag (at 6 w)) (map entryOf l) ∙ ap (λ (n : ℕ). if isQueue k && flag (at 6 w) then 0 else n) all in
+    let three : heldRows (subsAt k ws (drop b (drop a rows))) ≡ keptRows (isQueue k) ws = held-subs k ws (drop b (drop a rows)) (simp length-drop (omega arith)) in
+    λ i. one i + two i + three i
+
+-- ---- counts that fit together
+
+pub fitting-at : (ws : List Row) (i : ℕ) → all fitting ws ≡ true → i < length ws
+    → (at 13 (getD ws i []) ≤ at 14 (getD ws i [])) × (at 8 (getD ws i []) ≤ 72057594037927937) × (at 12 (getD ws i []) ≤ 72057594037927937)
+unfolding fitting
+fitting-at [] i t h = absurd (not-suc-le-zero h)
+fitting-at (w ∷ ws) zero t h =
+    let p = and-eq-true-iff (fitting w) (all fitting ws) .0 t in
+    let q = and-eq-true-iff (leb (at 13 w) (at 14 w)) (leb (at 8 w) 72057594037927937 && leb (at 12 w) 72057594037927937) .0 (p .0) in
+    let r = and-eq-true-iff (leb (at 8 w) 72057594037927937) (leb (at 12 w) 72057594037927937) .0 (q .1) in
+    (leb-true (at 13 w) (at 14 w) (q .0), leb-true (at 8 w) 72057594037927937 (r .0), leb-true (at 12 w) 72057594037927937 (r .1))
+fitting-at (w ∷ ws) (suc i) t h = fitting-at ws i (and-eq-true-iff (fitting w) (all fitting ws) .0 t .1) (le-of-suc-le-suc h)

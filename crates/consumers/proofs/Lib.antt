@@ -1,0 +1,6 @@
+pub mod Laws
+pub mod Lists
+pub mod Seek
+pub mod Table
+pub mod View
+pub mod Words

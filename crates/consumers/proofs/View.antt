@@ -1,0 +1,277 @@
+-- The consumers that the table and the rows hold: the view in parts, at a place, and after a store. Assumes nothing.
+use mathlib.Core.Path.{_≡_, refl, sym, ap, ap₂, _∙_}
+use mathlib.Core.List.{List, [], _∷_, _++_}
+use mathlib.Core.Option.{none, some}
+use Prim.Native.Nat.{ℕ, zero, suc, _+_, _-_, _≤_, _<_}
+use native.Mathlib.Nat.{zero-add, suc-add, not-suc-le-zero, le-of-suc-le-suc}
+use native.Mathlib.Omega.{arith}
+use lib.ListN.{length, take, drop, getD, set, length-drop, take-append-drop}
+use lib.Seq.{length-take-le, take-nil, take-at, drop-at, take-append-le, take-take, drop-drop, split-at, set-at, set-split}
+use Rattle.definition.specs.Base.{nth}
+use Rattle.definition.specs.Types.{Kind}
+use Rattle.definition.specs.Types as Def
+use Rattle.definition.specs.Layout.{Row, inflightOf, heldOf, subAt, subsAt, subRows}
+use Rattle.consumers.specs.declared.Sub.{Sub}
+use Rattle.consumers.specs.Consumers.{subOf, subWords, subView}
+use Rattle.consumers.specs.Seats.{fromIn, flyingIn, heldIn, afterIn, subIn}
+use Rattle.consumers.proofs.Words.{round}
+
+-- ---- one consumer
+
+pub sub-at : (k : Kind) (w : Row) (f h : List Row) → subAt k w f h ≡ subView k (subOf w) f h
+unfolding subAt subView subOf
+sub-at k w f h = refl
+
+pub sub-stored : (k : Kind) (s : Sub) (f h : List Row) → subAt k (subWords s) f h ≡ subView k s f h
+sub-stored k s f h = sub-at k (subWords s) f h ∙ ap (λ (x : Sub). subView k x f h) (round s)
+
+pub inflight-stored : (s : Sub) → inflightOf (subWords s) ≡ s .inflight
+unfolding subWords
+inflight-stored s = refl
+
+pub held-stored : (s : Sub) → heldOf (subWords s) ≡ s .held
+unfolding subWords
+held-stored s = refl
+
+pub inflight-loaded : (w : Row) → subOf w .inflight ≡ inflightOf w
+unfolding subOf
+inflight-loaded w = refl
+
+pub held-loaded : (w : Row) → subOf w .held ≡ heldOf w
+unfolding subOf
+held-loaded w = refl
+
+-- ---- how many rows
+
+pub rows-append : (ws vs : List Row) → subRows (ws ++ vs) ≡ subRows ws + subRows vs
+unfolding subRows
+rows-append [] vs = omega arith
+rows-append (w ∷ ws) vs = omega (arith, rows-append ws vs)
+
+pub rows-split : (ws : List Row) (i : ℕ) → i < length ws
+    → subRows ws ≡ subRows (take i ws) + (inflightOf (getD ws i []) + (heldOf (getD ws i []) + subRows (drop (suc i) ws)))
+unfolding subRows
+rows-split ws i h = ap subRows (split-at ws i [] h) ∙ rows-append (take i ws) (getD ws i [] ∷ drop (suc i) ws)
+
+pub rows-take : (ws : List Row) (i : ℕ) → subRows (take i ws) ≤ subRows ws
+unfolding subRows
+rows-take ws zero = omega arith
+rows-take [] (suc i) = omega arith
+rows-take (w ∷ ws) (suc i) = omega (arith, rows-take ws i)
+
+pub rows-next : (ws : List Row) (i : ℕ) → i < length ws
+    → subRows (take (suc i) ws) ≡ subRows (take i ws) + (inflightOf (getD ws i []) + heldOf (getD ws i []))
+unfolding subRows
+rows-next [] i h = absurd (not-suc-le-zero h)
+rows-next (w ∷ ws) zero h = omega arith
+rows-next (w ∷ ws) (suc i) h = omega (arith, rows-next ws i (le-of-suc-le-suc h))
+
+pub rows-set : (ws : List Row) (i : ℕ) (w : Row) → i < length ws
+    → subRows (set ws i w) ≡ subRows (take i ws) + (inflightOf w + (heldOf w + subRows (drop (suc i) ws)))
+unfolding subRows
+rows-set ws i w h = ap subRows (set-split ws i w h) ∙ rows-append (take i ws) (w ∷ drop (suc i) ws)
+
+pub rows-gone : (ws : List Row) (i : ℕ) → i < length ws
+    → subRows (take i ws ++ drop (suc i) ws) + (inflightOf (getD ws i []) + heldOf (getD ws i [])) ≡ subRows ws
+rows-gone ws i h = omega (arith, rows-append (take i ws) (drop (suc i) ws), rows-split ws i h)
+
+-- ---- the view in parts
+
+pub subs-length : (k : Kind) (ws rows : List Row) → length (subsAt k ws rows) ≡ length ws
+unfolding subsAt
+subs-length k [] rows = refl
+subs-length k (w ∷ ws) rows = ap suc (subs-length k ws _)
+
+drop-three : (a b c : ℕ) (l : List Row) → drop c (drop b (drop a l)) ≡ drop (a + (b + c)) l
+drop-three a b c l = drop-drop c b (drop a l) ∙ drop-drop (b + c) a l
+
+-- some consumers, then others
+pub subs-append : (k : Kind) (ws vs rows : List Row) → subsAt k (ws ++ vs) rows ≡ subsAt k ws rows ++ subsAt k vs (drop (subRows ws) rows)
+unfolding subsAt subRows
+subs-append k [] vs rows = refl
+subs-append k (w ∷ ws) vs rows =
+    let f : List Row = take (inflightOf w) rows in
+    let h : List Row = take (heldOf w) (drop (inflightOf w) rows) in
+    let r : List Row = drop (heldOf w) (drop (inflightOf w) rows) in
+    ap (λ (l : List Def.Sub). subAt k w f h ∷ l)
+    (subs-append k ws vs r ∙ ap (λ (l : List Row). subsAt k ws r ++ subsAt k vs l) (drop-three (inflightOf w) (heldOf w) (subRows ws) rows))
+
+front-drop : (a b : ℕ) (l : List Row) → drop a (take (a + b) l) ≡ take b (drop a l)
+front-drop zero b l = ap (λ (n : ℕ). take n l) (zero-add b)
+front-drop (suc a) b [] = rw (suc-add a b) (sym (take-nil b))
+front-drop (suc a) b (x ∷ l) = rw (suc-add a b) (front-drop a b l)
+
+-- the view looks at no row past the consumers' own
+pub subs-front : (k : Kind) (ws : List Row) (n : ℕ) (rows : List Row) → subRows ws ≤ n → subsAt k ws (take n rows) ≡ subsAt k ws rows
+unfolding subsAt subRows
+subs-front k [] n rows h = refl
+subs-front k (w ∷ ws) n rows h =
+    let a : ℕ = inflightOf w in
+    let b : ℕ = heldOf w in
+    let m : ℕ = n - a - b in
+    let e : a + (n - a) ≡ n = omega arith in
+    let g : b + m ≡ n - a = omega arith in
+    let one : drop a (take n rows) ≡ take (n - a) (drop a rows) = ap (λ (j : ℕ). drop a (take j rows)) (sym e) ∙ front-drop a (n - a) rows in
+    let two : drop b (drop a (take n rows)) ≡ take m (drop b (drop a rows)) =
+    ap (drop b) (one ∙ ap (λ (j : ℕ). take j (drop a rows)) (sym g)) ∙ front-drop b m (drop a rows) in
+    let f : take a (take n rows) ≡ take a rows = take-take a n rows (omega arith) in
+    let l : take b (drop a (take n rows)) ≡ take b (drop a rows) = ap (take b) one ∙ take-take b (n - a) (drop a rows) (omega arith) in
+    let r : subsAt k ws (drop b (drop a (take n rows))) ≡ subsAt k ws (drop b (drop a rows)) =
+    ap (subsAt k ws) two ∙ subs-front k ws m (drop b (drop a rows)) (omega arith) in
+    λ i. subAt k w (f i) (l i) ∷ r i
+
+pub subs-agree : (k : Kind) (ws : List Row) (n : ℕ) (x y : List Row) → subRows ws ≤ n → take n x ≡ take n y → subsAt k ws x ≡ subsAt k ws y
+subs-agree k ws n x y h q = sym (subs-front k ws n x h) ∙ ap (subsAt k ws) q ∙ subs-front k ws n y h
+
+pub subs-before : (k : Kind) (ws a c : List Row) → subRows ws ≤ length a → subsAt k ws (a ++ c) ≡ subsAt k ws a
+subs-before k ws a c h = subs-agree k ws (subRows ws) (a ++ c) a (omega arith) (take-append-le (subRows ws) a c h)
+
+-- a consumer with its rows, those before it and those after it
+module _ (k : Kind) (w : Row) (f h : List Row) (p : length f ≡ inflightOf w) (q : length h ≡ heldOf w) where
+  subs-cons : (vs c : List Row) → subsAt k (w ∷ vs) (f ++ (h ++ c)) ≡ subAt k w f h ∷ subsAt k vs c
+  unfolding subsAt
+  subs-cons vs c =
+      let d : drop (inflightOf w) (f ++ (h ++ c)) ≡ h ++ c = drop-at f (h ++ c) (inflightOf w) p in
+      let one : take (inflightOf w) (f ++ (h ++ c)) ≡ f = take-at f (h ++ c) (inflightOf w) p in
+      let two : take (heldOf w) (drop (inflightOf w) (f ++ (h ++ c))) ≡ h = ap (take (heldOf w)) d ∙ take-at h c (heldOf w) q in
+      let three : drop (heldOf w) (drop (inflightOf w) (f ++ (h ++ c))) ≡ c = ap (drop (heldOf w)) d ∙ drop-at h c (heldOf w) q in
+      λ i. subAt k w (one i) (two i) ∷ subsAt k vs (three i)
+
+  pub subs-around : (ws vs a c : List Row) → length a ≡ subRows ws → subsAt k (ws ++ w ∷ vs) (a ++ (f ++ (h ++ c))) ≡ subsAt k ws a ++ subAt k w f h ∷ subsAt k vs c
+  subs-around ws vs a c e =
+      subs-append k ws (w ∷ vs) (a ++ (f ++ (h ++ c)))
+      ∙ ap₂ (λ (x : List Def.Sub) (y : List Row). x ++ subsAt k (w ∷ vs) y) (subs-before k ws a (f ++ (h ++ c)) (omega arith)) (drop-at a (f ++ (h ++ c)) (subRows ws) e)
+      ∙ ap (λ (x : List Def.Sub). subsAt k ws a ++ x) (subs-cons vs c)
+
+-- ---- at a place
+
+pub subs-split : (k : Kind) (ws rows : List Row) (i : ℕ) → i < length ws
+    → subsAt k ws rows ≡ subsAt k (take i ws) rows ++ subIn k ws rows i ∷ subsAt k (drop (suc i) ws) (afterIn ws rows i)
+unfolding subsAt
+subs-split k ws rows i h = ap (λ (l : List Row). subsAt k l rows) (split-at ws i [] h) ∙ subs-append k (take i ws) (getD ws i [] ∷ drop (suc i) ws) rows
+
+head-length : (k : Kind) (ws rows : List Row) (i : ℕ) → i < length ws → length (subsAt k (take i ws) rows) ≡ i
+head-length k ws rows i h = subs-length k (take i ws) rows ∙ length-take-le i ws (omega arith)
+
+nth-at : (p : List Def.Sub) (x : Def.Sub) (q : List Def.Sub) → nth (length p) (p ++ x ∷ q) ≡ some x
+nth-at [] x q = refl
+nth-at (y ∷ p) x q = nth-at p x q
+
+drop-past : (p : List Def.Sub) (x : Def.Sub) (q : List Def.Sub) → drop (suc (length p)) (p ++ x ∷ q) ≡ q
+drop-past [] x q = refl
+drop-past (y ∷ p) x q = drop-past p x q
+
+pub subs-nth : (k : Kind) (ws rows : List Row) (i : ℕ) → i < length ws → nth i (subsAt k ws rows) ≡ some (subIn k ws rows i)
+subs-nth k ws rows i h =
+    let a : List Def.Sub = subsAt k (take i ws) rows in
+    let b : List Def.Sub = subsAt k (drop (suc i) ws) (afterIn ws rows i) in
+    ap₂ nth (sym (head-length k ws rows i h)) (subs-split k ws rows i h) ∙ nth-at a (subIn k ws rows i) b
+
+pub subs-nth-none : (k : Kind) (ws rows : List Row) (i : ℕ) → length ws ≤ i → nth i (subsAt k ws rows) ≡ none
+unfolding subsAt
+subs-nth-none k [] rows i h = refl
+subs-nth-none k (w ∷ ws) rows zero h = absurd (not-suc-le-zero h)
+subs-nth-none k (w ∷ ws) rows (suc i) h = subs-nth-none k ws _ i (le-of-suc-le-suc h)
+
+pub subs-set : (k : Kind) (ws rows : List Row) (i : ℕ) (s : Def.Sub) → i < length ws
+    → set (subsAt k ws rows) i s ≡ subsAt k (take i ws) rows ++ s ∷ subsAt k (drop (suc i) ws) (afterIn ws rows i)
+subs-set k ws rows i s h =
+    let a : List Def.Sub = subsAt k (take i ws) rows in
+    let b : List Def.Sub = subsAt k (drop (suc i) ws) (afterIn ws rows i) in
+    ap (λ (l : List Def.Sub). set l i s) (subs-split k ws rows i h) ∙ set-at a (subIn k ws rows i) b s i (head-length k ws rows i h)
+
+-- another consumer in the place, with other rows; the rows before are as they were, and the later consumers see what they saw
+pub subs-put : (k : Kind) (ws rows : List Row) (i : ℕ) (w : Row) (f h c : List Row) → i < length ws → subRows (take i ws) ≤ length rows
+    → length f ≡ inflightOf w → length h ≡ heldOf w → subsAt k (drop (suc i) ws) c ≡ subsAt k (drop (suc i) ws) (afterIn ws rows i)
+    → subsAt k (set ws i w) (take (subRows (take i ws)) rows ++ (f ++ (h ++ c))) ≡ set (subsAt k ws rows) i (subAt k w f h)
+subs-put k ws rows i w f h c b e p q r =
+    let n : ℕ = subRows (take i ws) in
+    let a : List Row = take n rows in
+    ap (λ (l : List Row). subsAt k l (a ++ (f ++ (h ++ c)))) (set-split ws i w b)
+    ∙ subs-around k w f h p q (take i ws) (drop (suc i) ws) a c (length-take-le n rows e)
+    ∙ ap₂ (λ (x y : List Def.Sub). x ++ subAt k w f h ∷ y) (subs-front k (take i ws) n rows (omega arith)) r
+    ∙ sym (subs-set k ws rows i (subAt k w f h) b)
+
+-- another consumer with the same rows
+pub subs-reword : (k : Kind) (ws rows : List Row) (i : ℕ) (w : Row) → i < length ws → inflightOf w ≡ inflightOf (getD ws i []) → heldOf w ≡ heldOf (getD ws i [])
+    → subsAt k (set ws i w) rows ≡ set (subsAt k ws rows) i (subAt k w (flyingIn ws rows i) (heldIn ws rows i))
+unfolding subsAt
+subs-reword k ws rows i w b p q =
+    let r : List Row = fromIn ws rows i in
+    ap (λ (l : List Row). subsAt k l rows) (set-split ws i w b)
+    ∙ subs-append k (take i ws) (w ∷ drop (suc i) ws) rows
+    ∙ ap₂ (λ (m n : ℕ). subsAt k (take i ws) rows ++ subAt k w (take m r) (take n (drop m r)) ∷ subsAt k (drop (suc i) ws) (drop n (drop m r))) p q
+    ∙ sym (subs-set k ws rows i (subAt k w (flyingIn ws rows i) (heldIn ws rows i)) b)
+
+-- the consumer and its rows gone
+pub subs-gone : (k : Kind) (ws rows : List Row) (i : ℕ) (c : List Row) → i < length ws → subRows (take i ws) ≤ length rows
+    → subsAt k (drop (suc i) ws) c ≡ subsAt k (drop (suc i) ws) (afterIn ws rows i)
+    → subsAt k (take i ws ++ drop (suc i) ws) (take (subRows (take i ws)) rows ++ c) ≡ take i (subsAt k ws rows) ++ drop (suc i) (subsAt k ws rows)
+subs-gone k ws rows i c b e r =
+    let n : ℕ = subRows (take i ws) in
+    let a : List Row = take n rows in
+    let l : length a ≡ n = length-take-le n rows e in
+    let x : List Def.Sub = subsAt k (take i ws) rows in
+    let y : List Def.Sub = subsAt k (drop (suc i) ws) (afterIn ws rows i) in
+    let s : Def.Sub = subIn k ws rows i in
+    let d : length x ≡ i = head-length k ws rows i b in
+    let split : subsAt k ws rows ≡ x ++ s ∷ y = subs-split k ws rows i b in
+    let front : take i (subsAt k ws rows) ≡ x = ap (take i) split ∙ take-at x (s ∷ y) i d in
+    let back : drop (suc i) (subsAt k ws rows) ≡ y =
+    ap₂ (λ (m : ℕ) (u : List Def.Sub). drop (suc m) u) (sym d) split ∙ drop-past x s y in
+    subs-append k (take i ws) (drop (suc i) ws) (a ++ c)
+    ∙ ap₂ (λ (u : List Def.Sub) (v : List Row). u ++ subsAt k (drop (suc i) ws) v) (subs-before k (take i ws) a c (omega arith) ∙ subs-front k (take i ws) n rows (omega arith)) (drop-at a c n l)
+    ∙ ap₂ (λ (u v : List Def.Sub). u ++ v) (sym front) (r ∙ sym back)
+
+-- ---- the rows by their places
+
+-- those before a consumer, in flight, held, and after it
+pub rows-parts : (ws rows : List Row) (i : ℕ) → take (subRows (take i ws)) rows ++ (flyingIn ws rows i ++ (heldIn ws rows i ++ afterIn ws rows i)) ≡ rows
+rows-parts ws rows i =
+    let n : ℕ = subRows (take i ws) in
+    let w : Row = getD ws i [] in
+    ap (λ (x : List Row). take n rows ++ (flyingIn ws rows i ++ x)) (take-append-drop (heldOf w) (drop (inflightOf w) (drop n rows)))
+    ∙ ap (λ (x : List Row). take n rows ++ x) (take-append-drop (inflightOf w) (drop n rows))
+    ∙ take-append-drop n rows
+
+module _ (ws rows : List Row) (i : ℕ) (b : i < length ws) (r : subRows ws ≤ length rows) where
+  pub flying-length : length (flyingIn ws rows i) ≡ inflightOf (getD ws i [])
+  flying-length =
+      let s = rows-split ws i b in
+      length-take-le (inflightOf (getD ws i [])) (fromIn ws rows i) (simp length-drop (omega arith))
+
+  pub held-length : length (heldIn ws rows i) ≡ heldOf (getD ws i [])
+  held-length =
+      let s = rows-split ws i b in
+      length-take-le (heldOf (getD ws i [])) (drop (inflightOf (getD ws i [])) (fromIn ws rows i)) (simp length-drop (omega arith))
+
+drop-four : (a b c e : ℕ) (l : List Row) → drop e (drop c (drop b (drop a l))) ≡ drop (a + (b + (c + e))) l
+drop-four a b c e l = drop-three b c e (drop a l) ∙ drop-drop (b + (c + e)) a l
+
+-- the rows past all the consumers': as they are, after `subs-put`, and after `subs-gone`
+pub after-all : (ws rows : List Row) (i : ℕ) → i < length ws → drop (subRows ws) rows ≡ drop (subRows (drop (suc i) ws)) (afterIn ws rows i)
+after-all ws rows i b =
+    ap (λ (n : ℕ). drop n rows) (rows-split ws i b)
+    ∙ sym (drop-four (subRows (take i ws)) (inflightOf (getD ws i [])) (heldOf (getD ws i [])) (subRows (drop (suc i) ws)) rows)
+
+pub after-put : (ws rows : List Row) (i : ℕ) (w : Row) (f h c : List Row) → i < length ws → subRows (take i ws) ≤ length rows
+    → length f ≡ inflightOf w → length h ≡ heldOf w
+    → drop (subRows (set ws i w)) (take (subRows (take i ws)) rows ++ (f ++ (h ++ c))) ≡ drop (subRows (drop (suc i) ws)) c
+after-put ws rows i w f h c b e p q =
+    let n : ℕ = subRows (take i ws) in
+    let m : ℕ = subRows (drop (suc i) ws) in
+    let l : List Row = take n rows ++ (f ++ (h ++ c)) in
+    ap (λ (j : ℕ). drop j l) (rows-set ws i w b)
+    ∙ sym (drop-four n (inflightOf w) (heldOf w) m l)
+    ∙ ap (λ (x : List Row). drop m (drop (heldOf w) (drop (inflightOf w) x))) (drop-at (take n rows) (f ++ (h ++ c)) n (length-take-le n rows e))
+    ∙ ap (λ (x : List Row). drop m (drop (heldOf w) x)) (drop-at f (h ++ c) (inflightOf w) p)
+    ∙ ap (drop m) (drop-at h c (heldOf w) q)
+
+pub after-gone : (ws rows : List Row) (i : ℕ) (c : List Row) → subRows (take i ws) ≤ length rows
+    → drop (subRows (take i ws ++ drop (suc i) ws)) (take (subRows (take i ws)) rows ++ c) ≡ drop (subRows (drop (suc i) ws)) c
+after-gone ws rows i c e =
+    let n : ℕ = subRows (take i ws) in
+    let m : ℕ = subRows (drop (suc i) ws) in
+    ap (λ (j : ℕ). drop j (take n rows ++ c)) (rows-append (take i ws) (drop (suc i) ws))
+    ∙ sym (drop-drop m n (take n rows ++ c))
+    ∙ ap (drop m) (drop-at (take n rows) c n (length-take-le n rows e))

@@ -1,0 +1,3 @@
+pub mod Consumers
+pub mod Seats
+pub mod Table

@@ -1,0 +1,25 @@
+-- The consumer at a place of the table, with its rows: those of the consumers before it come first. Assumes nothing.
+use Prim.Native.Nat.{ℕ}
+use mathlib.Core.List.{List, []}
+use lib.ListN.{take, drop, getD}
+use Rattle.definition.specs.Types.{Kind}
+use Rattle.definition.specs.Types as Def
+use Rattle.definition.specs.Layout.{Row, inflightOf, heldOf, subAt, subRows}
+
+-- the rows from its first one on
+abbrev pub fromIn : List Row → List Row → ℕ → List Row
+fromIn ws rows i = drop (subRows (take i ws)) rows
+
+-- its rows in flight, those that it holds, and those after them
+abbrev pub flyingIn : List Row → List Row → ℕ → List Row
+flyingIn ws rows i = take (inflightOf (getD ws i [])) (fromIn ws rows i)
+
+abbrev pub heldIn : List Row → List Row → ℕ → List Row
+heldIn ws rows i = take (heldOf (getD ws i [])) (drop (inflightOf (getD ws i [])) (fromIn ws rows i))
+
+abbrev pub afterIn : List Row → List Row → ℕ → List Row
+afterIn ws rows i = drop (heldOf (getD ws i [])) (drop (inflightOf (getD ws i [])) (fromIn ws rows i))
+
+-- the consumer
+abbrev pub subIn : Kind → List Row → List Row → ℕ → Def.Sub
+subIn k ws rows i = subAt k (getD ws i []) (flyingIn ws rows i) (heldIn ws rows i)

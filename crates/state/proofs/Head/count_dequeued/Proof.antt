@@ -1,0 +1,16 @@
+-- `state::Head::count_dequeued` meets its contract. Assumes nothing.
+use mathlib.Core.Path.{ap}
+use borrow.Author.Needs.{needs}
+use Rattle.stats.specs.declared.Stats.{Stats}
+use Rattle.state.specs.State.{withStats}
+use Rattle.state.proofs.Head.count_dequeued.Statement.{statement}
+use Rattle.state.proofs.Head.count_dequeued.Tie as tie
+
+with-dequeued-by-requires : tie.Need-with-dequeued-by-requires
+with-dequeued-by-requires c κs = search needs
+
+returns : tie.Need-returns
+returns c = ap (λ (s : Stats). withStats s (c .before .args .self)) (c .with-dequeued-by .ensures)
+
+pub count-dequeued-spec : {M : Type 1} → statement M
+count-dequeued-spec = tie.close (tie.spec with-dequeued-by-requires returns)

@@ -1,0 +1,16 @@
+-- `state::Head::count_discarded` meets its contract. Assumes nothing.
+use mathlib.Core.Path.{ap}
+use borrow.Author.Needs.{needs}
+use Rattle.stats.specs.declared.Stats.{Stats}
+use Rattle.state.specs.State.{withStats}
+use Rattle.state.proofs.Head.count_discarded.Statement.{statement}
+use Rattle.state.proofs.Head.count_discarded.Tie as tie
+
+with-discarded-by-requires : tie.Need-with-discarded-by-requires
+with-discarded-by-requires c κs = search needs
+
+returns : tie.Need-returns
+returns c = ap (λ (s : Stats). withStats s (c .before .args .self)) (c .with-discarded-by .ensures)
+
+pub count-discarded-spec : {M : Type 1} → statement M
+count-discarded-spec = tie.close (tie.spec with-discarded-by-requires returns)

@@ -1,0 +1,16 @@
+-- `state::Head::count_dispatched` meets its contract. Assumes nothing.
+use mathlib.Core.Path.{ap}
+use borrow.Author.Needs.{needs}
+use Rattle.stats.specs.declared.Stats.{Stats}
+use Rattle.state.specs.State.{withStats}
+use Rattle.state.proofs.Head.count_dispatched.Statement.{statement}
+use Rattle.state.proofs.Head.count_dispatched.Tie as tie
+
+with-dispatched-requires : tie.Need-with-dispatched-requires
+with-dispatched-requires c κs = search needs
+
+returns : tie.Need-returns
+returns c = ap (λ (s : Stats). withStats s (c .before .args .self)) (c .with-dispatched .ensures)
+
+pub count-dispatched-spec : {M : Type 1} → statement M
+count-dispatched-spec = tie.close (tie.spec with-dispatched-requires returns)

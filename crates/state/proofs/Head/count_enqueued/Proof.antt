@@ -1,0 +1,16 @@
+-- `state::Head::count_enqueued` meets its contract. Assumes nothing.
+use mathlib.Core.Path.{ap}
+use borrow.Author.Needs.{needs}
+use Rattle.stats.specs.declared.Stats.{Stats}
+use Rattle.state.specs.State.{withStats}
+use Rattle.state.proofs.Head.count_enqueued.Statement.{statement}
+use Rattle.state.proofs.Head.count_enqueued.Tie as tie
+
+with-enqueued-requires : tie.Need-with-enqueued-requires
+with-enqueued-requires c κs = search needs
+
+returns : tie.Need-returns
+returns c = ap (λ (s : Stats). withStats s (c .before .args .self)) (c .with-enqueued .ensures)
+
+pub count-enqueued-spec : {M : Type 1} → statement M
+count-enqueued-spec = tie.close (tie.spec with-enqueued-requires returns)

@@ -1,0 +1,16 @@
+-- `state::Head::count_expired` meets its contract. Assumes nothing.
+use mathlib.Core.Path.{ap}
+use borrow.Author.Needs.{needs}
+use Rattle.stats.specs.declared.Stats.{Stats}
+use Rattle.state.specs.State.{withStats}
+use Rattle.state.proofs.Head.count_expired.Statement.{statement}
+use Rattle.state.proofs.Head.count_expired.Tie as tie
+
+with-expired-by-requires : tie.Need-with-expired-by-requires
+with-expired-by-requires c κs = search needs
+
+returns : tie.Need-returns
+returns c = ap (λ (s : Stats). withStats s (c .before .args .self)) (c .with-expired-by .ensures)
+
+pub count-expired-spec : {M : Type 1} → statement M
+count-expired-spec = tie.close (tie.spec with-expired-by-requires returns)

@@ -1,0 +1,4 @@
+pub mod View
+pub mod Counts
+pub mod Events
+pub mod Fitting

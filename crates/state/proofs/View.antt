@@ -1,0 +1,138 @@
+-- The destination that a head by value is: of a head that was loaded, the view of the buffers; of one that is stored, the view of what that
+-- leaves; and what a change of one number does to it. Assumes nothing.
+use mathlib.Core.Path.{_≡_, refl, sym, ap, ap₂, _∙_}
+use mathlib.Core.Bool.{Bool, true, false, _&&_}
+use mathlib.Core.List.{List, [], _∷_, _++_, map}
+use mathlib.Core.Option.{Option, none, some}
+use Prim.Native.Nat.{ℕ, zero, suc, _+_, _-_, _≤_}
+use native.Mathlib.Omega.{arith}
+use borrow.Author.Tests.{lt-ltb, le-ltb}
+use lib.Dec.{eqb, leb, ltb, eqb·suc-zero}
+use lib.ListN.{length, take, drop, length-append, length-drop}
+use lib.Seq.{drop-drop}
+use mir.Val.{boolByte}
+use Rattle.words.proofs.Words.{flag-of-word}
+use Rattle.definition.specs.Base.{if_then_else_, every, empty}
+use Rattle.definition.specs.Types.{Kind, queue, topic, Id, Audit, Dest}
+use Rattle.definition.specs.Types as Def
+use Rattle.definition.specs.Destination.{marked, touchIdle}
+use Rattle.definition.specs.Words.{at}
+use Rattle.definition.specs.Layout.{Row, subsAt, subRows, idsAt, auditsAt, ringsFormed, formed, view}
+use Rattle.state.specs.declared.Head.{Head}
+use Rattle.state.specs.State.{headOf, headWords, headView, usedOf, loaded, stored, kindBy, kindWord, withEvents, withIdle, notIdle, touched}
+
+-- ---- loaded and stored
+
+pub kind-by : (b : Bool) → (if b then queue else topic) ≡ kindBy b
+kind-by true = refl
+kind-by false = refl
+
+pub kind-word : (b : Bool) → (if eqb (kindWord b) 0 then queue else topic) ≡ kindBy b
+kind-word true = refl
+kind-word false = refl
+
+pub loaded-long : (h : List ℕ) (subs : List Row) → 8345 ≤ length h → loaded h subs ≡ headOf h (usedOf h subs)
+unfolding loaded
+loaded-long h subs l = rw (le-ltb (length h) 8345 l)
+
+pub stored-long : (d : Head) (h : List ℕ) → 8345 ≤ length h → stored d h ≡ headWords d ++ drop 17 h
+unfolding stored
+stored-long d h l = rw (le-ltb (length h) 8345 l)
+
+pub stored-short : (d : Head) (h : List ℕ) → length h ≤ 8344 → stored d h ≡ h
+unfolding stored
+stored-short d h l = rw (lt-ltb (length h) 8345 (omega arith))
+
+-- what stands after the numbers stays
+pub stored-producers : (d : Head) (h : List ℕ) → 8345 ≤ length h → drop 17 (stored d h) ≡ drop 17 h
+unfolding headWords
+stored-producers d h l = rw (stored-long d h l)
+
+pub stored-audits : (d : Head) (h : List ℕ) → 8345 ≤ length h → drop 113 (stored d h) ≡ drop 113 h
+unfolding headWords
+stored-audits d h l = rw (stored-long d h l, drop-drop 96 17 h)
+
+pub stored-length : (d : Head) (h : List ℕ) → 8345 ≤ length h → length (stored d h) ≡ length h
+unfolding headWords
+stored-length d h l = rw (stored-long d h l) (omega (arith, length-drop 17 h))
+
+module _ (subs rows : List Row) where
+  -- the view of the buffers is that of the numbers that are loaded
+  pub loaded-view : (h : List ℕ) (used : ℕ)
+      → headView (headOf h used) subs rows (idsAt (at 13 h) (drop 17 h)) (auditsAt (at 14 h) (drop 113 h)) ≡ view (record { head = h; subs = subs; rows = rows })
+  unfolding headView headOf view
+  loaded-view h used = rw (kind-by (eqb (at 0 h) 0))
+
+  -- stored numbers are viewed as they are, with the producers and audits of the head
+  pub stored-view : (d : Head) (h : List ℕ) → 8345 ≤ length h
+      → view (record { head = stored d h; subs = subs; rows = rows }) ≡ headView d subs rows (idsAt (d .producers) (drop 17 h)) (auditsAt (d .audits) (drop 113 h))
+  unfolding headView headWords view
+  stored-view d h l = rw (stored-long d h l, drop-drop 96 17 h, kind-word (d .queue), flag-of-word (d .idle))
+
+  pub stored-formed : (d : Head) (h : List ℕ) → 8345 ≤ length h
+      → formed (record { head = stored d h; subs = subs; rows = rows })
+      ≡ every (leb (d .consumers) 32 ∷ leb (d .producers) 32 ∷ leb (d .audits) 8 ∷ leb (subRows (take (d .consumers) subs) + (d .reserved + d .waiting)) 512 ∷ ringsFormed (d .audits) (drop 113 h) ∷ [])
+  unfolding headWords formed
+  stored-formed d h l = rw (stored-long d h l, drop-drop 96 17 h)
+
+-- ---- one number changed
+
+module _ {A : Type 0} where
+  empty-take : (n : ℕ) (l : List A) → n ≤ length l → empty (take n l) ≡ eqb n 0
+  empty-take zero l h = refl
+  empty-take (suc n) [] h = absurd (omega arith)
+  empty-take (suc n) (x ∷ l) h = sym (eqb·suc-zero n)
+
+  empty-length : (l : List A) → empty l ≡ eqb (length l) 0
+  empty-length [] = refl
+  empty-length (x ∷ l) = sym (eqb·suc-zero (length l))
+
+empty-map : {A B : Type 0} (f : A → B) (l : List A) → empty (map f l) ≡ empty l
+empty-map f [] = refl
+empty-map f (x ∷ l) = refl
+
+empty-subs : (k : Kind) (ws rows : List Row) → empty (subsAt k ws rows) ≡ empty ws
+unfolding subsAt
+empty-subs k [] rows = refl
+empty-subs k (w ∷ ws) rows = refl
+
+module _ (subs rows : List Row) (producers : List Id) (audits : List Audit) where
+  abbrev viewed : Head → Dest
+  viewed d = headView d subs rows producers audits
+
+  -- how many events were sent, and how many rows are in use, is not in the view
+  pub events-view : (n : ℕ) (d : Head) → viewed (withEvents n d) ≡ viewed d
+  unfolding headView
+  events-view n d = refl
+
+  pub not-idle-view : (d : Head) → viewed (notIdle d) ≡ Def.withIdle none (viewed d)
+  unfolding headView
+  not-idle-view d = refl
+
+  -- `touch_idle` by its tests: whether anything is left, and whether there is a mark
+  touch-cases : (now : ℕ) (d : Head) (t b : Bool) → d .idle ≡ b
+      → viewed (if t then (if b then d else withIdle true now d) else notIdle d)
+      ≡ (if t then Def.withIdle (marked now (if b then some (d .«idle_since») else none)) (viewed d) else Def.withIdle none (viewed d))
+  unfolding headView
+  touch-cases now d true true e = ap (λ (i : Option ℕ). Def.withIdle i (viewed d)) (ap (λ (b : Bool). if b then some (d .«idle_since») else none) e)
+  touch-cases now d true false e = refl
+  touch-cases now d false b e = refl
+
+  left : Head → Bool
+  left d = empty (viewed d .pending) && (empty (viewed d .subs) && empty (viewed d .producers))
+
+  left-is : (d : Head) → d .consumers ≤ length subs → subRows (take (d .consumers) subs) + (d .reserved + d .waiting) ≤ length rows → length producers ≡ d .producers
+      → left d ≡ (eqb (d .waiting) 0 && (eqb (d .consumers) 0 && eqb (d .producers) 0))
+  unfolding left headView
+  left-is d hs hr hp =
+      let others = drop (d .reserved) (drop (subRows (take (d .consumers) subs)) rows) in
+      let n : d .waiting ≤ length others = omega (arith, length-drop (d .reserved) (drop (subRows (take (d .consumers) subs)) rows), length-drop (subRows (take (d .consumers) subs)) rows) in
+      rw (empty-map _ (take (d .waiting) others), empty-take (d .waiting) others n, empty-subs (kindBy (d .queue)) (take (d .consumers) subs) rows, empty-take (d .consumers) subs hs, empty-length producers, hp)
+
+  -- where the tables are long enough for the counts
+  pub touch-view : (now : ℕ) (d : Head) → d .consumers ≤ length subs → subRows (take (d .consumers) subs) + (d .reserved + d .waiting) ≤ length rows → length producers ≡ d .producers
+      → viewed (touched now d) ≡ touchIdle now (viewed d)
+  unfolding left headView touched touchIdle
+  touch-view now d hs hr hp =
+      touch-cases now d (eqb (d .waiting) 0 && (eqb (d .consumers) 0 && eqb (d .producers) 0)) (d .idle) refl
+      ∙ ap (λ (b : Bool). if b then Def.withIdle (marked now (viewed d .idle)) (viewed d) else Def.withIdle none (viewed d)) (sym (left-is d hs hr hp))

@@ -1,0 +1,7 @@
+pub mod Lists
+pub mod Bounds
+pub mod Loops
+pub mod Segments
+pub mod Laws
+pub mod Rows
+pub mod Search

@@ -1,0 +1,83 @@
+-- A row that a function changed: its entry, its words and its length.
+-- Assumes nothing.
+use mathlib.Core.Path.{_≡_, refl, ap, _∙_}
+use mathlib.Core.Bool.{Bool, true, false}
+use Prim.Native.Nat.{ℕ, _≤_, _<_}
+use native.Mathlib.Omega.{arith}
+use lib.ListN.{length, getD, set, length-set}
+use lib.Seq.{getD-set-same, getD-set-other}
+use Rattle.words.specs.Words.{unsigned, int}
+use Rattle.words.proofs.Words.{int-fits, int-unsigned}
+use Rattle.definition.specs.Base.{if_then_else_}
+use Rattle.entry.specs.Entry.{entryOf, oneMore, redelivered}
+use Rattle.entry.proofs.Redelivery.{oneMore-fits}
+use Rattle.table.specs.Table.{Row, inRange, isFreed, freedRow, markRow, raisedRow, redeliverRow, unmarkRow}
+
+-- another word is as it was
+pub word-kept : (w : Row) (k v j : ℕ) → (j ≡ k → ⊥) → getD (set w k v) j 0 ≡ getD w j 0
+word-kept w k v j h = getD-set-other w k j v 0 h
+
+below : {j k : ℕ} → j < k → j ≡ k → ⊥
+below h e = omega arith
+
+-- the words of the place are no part of the entry
+pub place-kept : (w : Row) (k v : ℕ) → 6 ≤ k → entryOf (set w k v) ≡ entryOf w
+unfolding entryOf
+place-kept w k v h =
+    rw
+    (word-kept w k v 0 (below (omega arith)), word-kept w k v 1 (below (omega arith)), word-kept w k v 2 (below (omega arith)), word-kept w k v 3 (below (omega arith)), word-kept w k v 4 (below (omega arith)), word-kept w k v 5 (below (omega arith)))
+
+pub freed-entry : (tx : Bool) (w : Row) → entryOf (freedRow tx w) ≡ entryOf w
+freed-entry true w = place-kept (set w 7 1) 8 1 (omega arith) ∙ place-kept w 7 1 (omega arith)
+freed-entry false w = place-kept w 7 1 (omega arith)
+
+pub mark-entry : (first last : ℕ) (tx : Bool) (w : Row) → entryOf (markRow first last tx w) ≡ entryOf w
+mark-entry first last tx w = by (inRange first last w)
+  where
+    by : (b : Bool) → entryOf (if b then freedRow tx w else w) ≡ entryOf w
+    by true = freed-entry tx w
+    by false = refl
+
+pub unmark-entry : (w : Row) → entryOf (unmarkRow w) ≡ entryOf w
+unmark-entry w = place-kept w 8 0 (omega arith)
+
+-- the counter rises in the entry
+pub raised-entry : (w : Row) → 5 < length w → entryOf (raisedRow w) ≡ redelivered (entryOf w)
+unfolding entryOf
+raised-entry w h =
+    let v : ℕ = unsigned (oneMore (int (getD w 5 0))) in
+    let e : int (getD (set w 5 v) 5 0) ≡ oneMore (int (getD w 5 0)) =
+    ap int (getD-set-same w 5 v 0 h) ∙ int-unsigned (oneMore (int (getD w 5 0))) (oneMore-fits (int (getD w 5 0)) (int-fits (getD w 5 0))) in
+    rw
+    (e, word-kept w 5 v 0 (below (omega arith)), word-kept w 5 v 1 (below (omega arith)), word-kept w 5 v 2 (below (omega arith)), word-kept w 5 v 3 (below (omega arith)), word-kept w 5 v 4 (below (omega arith)))
+
+pub redeliver-entry : (first last : ℕ) (w : Row) → 5 < length w → entryOf (redeliverRow first last w) ≡ (if inRange first last w then redelivered (entryOf w) else entryOf w)
+redeliver-entry first last w h = by (inRange first last w)
+  where
+    by : (b : Bool) → entryOf (if b then raisedRow w else w) ≡ (if b then redelivered (entryOf w) else entryOf w)
+    by true = raised-entry w h
+    by false = refl
+
+-- a freed row is freed
+pub freed-is : (tx : Bool) (w : Row) → 7 < length w → isFreed (freedRow tx w) ≡ true
+freed-is true w h = rw (word-kept (set w 7 1) 8 1 7 (below (omega arith)), getD-set-same w 7 1 0 h)
+freed-is false w h = rw (getD-set-same w 7 1 0 h)
+
+-- nothing changes a row's length
+pub freed-length : (tx : Bool) (w : Row) → length (freedRow tx w) ≡ length w
+freed-length true w = simp length-set
+freed-length false w = simp length-set
+
+pub mark-length : (first last : ℕ) (tx : Bool) (w : Row) → length (markRow first last tx w) ≡ length w
+mark-length first last tx w = by (inRange first last w)
+  where
+    by : (b : Bool) → length (if b then freedRow tx w else w) ≡ length w
+    by true = freed-length tx w
+    by false = refl
+
+pub redeliver-length : (first last : ℕ) (w : Row) → length (redeliverRow first last w) ≡ length w
+redeliver-length first last w = by (inRange first last w)
+  where
+    by : (b : Bool) → length (if b then raisedRow w else w) ≡ length w
+    by true = simp length-set
+    by false = refl
