@@ -5,14 +5,11 @@ use mathlib.Core.List.{List, [], _∷_, _++_}
 use lib.Dec.{eqb, T}
 use lib.IntN.{ℤ, pos, negsuc}
 use lib.Signed.{leZ}
+use Rattle.words.specs.Pick.{every}
 use Rattle.broker.specs.declared.Admission.{Admission}
 use Rattle.broker.specs.declared.ExpiryOptions.{ExpiryOptions}
 use Rattle.broker.specs.declared.Arrival.{Arrival}
 use Rattle.broker.specs.Broker.{admitMemory, timesInRange, settingsInRange, inRange, ttl, rebased, baseOf, stamp, defaulted, capped, expired, stepped, times, applyExpiryOptions}
-
-abbrev every : List Bool → Bool
-every [] = true
-every (b ∷ bs) = b && every bs
 
 abbrev same : Bool → Bool → Bool
 same true b = b

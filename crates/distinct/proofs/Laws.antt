@@ -12,6 +12,7 @@ use lib.ListN.{length, take, drop, getD, set, take-append-drop}
 use lib.Seq.{slice, slice-empty, slice-cons, take-suc, take-take, getD-set-same}
 use Rattle.words.proofs.Tests.{by-test}
 use Rattle.definition.specs.Base.{all, member, distinct}
+use Rattle.definition.proofs.Tests.{and-left}
 
 -- ---- tests
 
@@ -19,15 +20,6 @@ pub iff : (a b : Bool) → (a ≡ true → b ≡ true) → (b ≡ true → a ≡
 iff true b f g = sym (f refl)
 iff false true f g = g refl
 iff false false f g = refl
-
--- a conjunction that holds
-pub left : (a b : Bool) → (a && b) ≡ true → a ≡ true
-left true b h = refl
-left false b h = h
-
-pub right : (a b : Bool) → (a && b) ≡ true → b ≡ true
-right true b h = h
-right false b h = absurd (let z : _≡_ {A = ℕ} 0 1 = cc in omega arith)
 
 pub eqb-comm : (a b : ℕ) → eqb a b ≡ eqb b a
 eqb-comm a b = iff (eqb a b) (eqb b a) (λ h. eq-eqb b a (sym (eqb-true a b h))) (λ h. eq-eqb a b (sym (eqb-true b a h)))
@@ -90,7 +82,7 @@ distinct-swap a b =
 
 -- a block of different numbers
 pub distinct-left : (a b : List ℕ) → distinct (a ++ b) ≡ true → distinct a ≡ true
-distinct-left a b h = left (distinct a) (distinct b && apart a b) (sym (distinct-append a b) ∙ h)
+distinct-left a b h = and-left (distinct a) (distinct b && apart a b) (sym (distinct-append a b) ∙ h)
 
 pub distinct-right : (a b : List ℕ) → distinct (a ++ b) ≡ true → distinct b ≡ true
 distinct-right a b h = distinct-left b a (distinct-swap b a ∙ h)

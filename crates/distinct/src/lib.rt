@@ -1,7 +1,7 @@
 // Whether numbers are all different.
 ghost use mathlib.Core.Path.{_≡_};
 ghost use Prim.Native.Nat.{_≤_};
-ghost use lib.ListN.{length, take};
+ghost use lib.ListN.{take};
 ghost use Rattle.definition.specs.Base.{member, distinct};
 
 // Up to so many numbers are compared pair by pair: clearing the table would cost more.

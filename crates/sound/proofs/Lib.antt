@@ -1,0 +1,7 @@
+pub mod Tests
+pub mod Rows
+pub mod Head
+pub mod Subs
+pub mod Gathered
+pub mod Tables
+pub mod Meaning

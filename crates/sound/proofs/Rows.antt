@@ -1,0 +1,136 @@
+-- Rows: which tests of an entry hold by themselves for words, and the turns of the loops over rows. Assumes nothing.
+use mathlib.Core.Path.{_≡_, refl, sym, ap, ap₂, _∙_}
+use mathlib.Core.Bool.{Bool, true, false, _&&_, and-true, and-false}
+use mathlib.Core.List.{List, [], _∷_, _++_, map}
+use Prim.Native.Nat.{ℕ, suc, _+_, _-_, _%_, _≤_, _<_, _^_}
+use native.Mathlib.Nat.{add-assoc, add-zero}
+use native.Mathlib.Numerals.{add-one}
+use native.Mathlib.Omega.{arith}
+use borrow.Author.Tests.{ltb-false, leb-true, lt-ltb, le-leb, lt-leb}
+use lib.Dec.{leb, ltb, eqb}
+use lib.ListN.{length, getD, drop}
+use lib.Seq.{slice, getD-drop}
+use mir.Val.{boolByte}
+use Rattle.words.specs.Words.{signed, int}
+use Rattle.words.specs.Pick.{if_then_else_}
+use Rattle.words.proofs.Tests.{by-test}
+use Rattle.entry.specs.Entry.{entryOf}
+use Rattle.definition.specs.Base.{all, tally}
+use Rattle.definition.specs.Calls.{within, idOk}
+use Rattle.definition.specs.Words.{at}
+use Rattle.definition.specs.Layout.{Row, flag, idAt}
+use Rattle.definition.proofs.Tests.{and-left, and-right}
+use Rattle.sound.specs.Sound.{upward, rowOk, holderOk, flyingOk, sortedOk}
+use Rattle.sound.proofs.Tests.{swap-inner, part-turn, part-end}
+
+-- ---- ranges
+
+pub signed-within : (w : ℕ) → within (2 ^ 63) (signed w) ≡ true
+signed-within w = by-test (ltb w (2 ^ 63)) (λ c. rw c c) (λ c. rw c (lt-ltb (2 ^ 64 - suc w) (2 ^ 63) (omega (arith, ltb-false w (2 ^ 63) c))))
+
+pub int-within : (w : ℕ) → within (2 ^ 31) (int w) ≡ true
+int-within w = by-test (ltb (w % 2 ^ 32) (2 ^ 31))
+    (λ c. rw c c)
+    (λ c. rw c (lt-ltb (2 ^ 32 - suc (w % 2 ^ 32)) (2 ^ 31) (omega (arith, ltb-false (w % 2 ^ 32) (2 ^ 31) c))))
+
+pub id-fits : (w : Row) → at 0 w < 2 ^ 64 → idOk (idAt w) ≡ true
+id-fits w h = rw (lt-ltb (at 0 w) (2 ^ 64) h, signed-within (at 1 w), signed-within (at 2 w))
+
+pub holder-fits : (w : Row) → at 6 w < 2 ^ 64 → holderOk w ≡ true
+holder-fits w h = id-fits (drop 6 w) (rw (getD-drop 6 w 0 0) h)
+
+pub row-tests : (w : Row) → at 3 w < 2 ^ 64 → at 4 w < 2 ^ 64 → (leb 1 (at 0 w) && ltb (at 0 w) (2 ^ 63)) ≡ rowOk w
+unfolding entryOf
+row-tests w h k =
+    rw (signed-within (at 1 w), lt-ltb (at 3 w) (2 ^ 64) h, lt-ltb (at 4 w) (2 ^ 64) k, int-within (at 5 w), and-true (ltb (at 0 w) (2 ^ 63)))
+
+-- ---- one row more
+
+upward-le : (k : ℕ) (l : List ℕ) (n : ℕ) → upward k (l ++ n ∷ []) ≡ true → k ≤ n
+upward-le k [] n e = leb-true k n (and-left (leb k n) true e)
+upward-le k (x ∷ l) n e =
+    omega (arith, leb-true k x (and-left (leb k x) (upward (suc x) (l ++ n ∷ [])) e), upward-le (suc x) l n (and-right (leb k x) (upward (suc x) (l ++ n ∷ [])) e))
+
+sorted-cons : (least : ℕ) (w : Row) (l : List Row) → sortedOk least (w ∷ l) ≡ ((rowOk w && leb least (at 0 w)) && sortedOk (at 0 w + 1) l)
+unfolding sortedOk
+sorted-cons least w l =
+    rw add-one (swap-inner (rowOk w) (all rowOk l) (leb least (at 0 w)) (upward (suc (at 0 w)) (map (at 0) l)))
+
+flying-cons : (least count next freed : ℕ) (w : Row) (l : List Row)
+    → flyingOk least count next freed (w ∷ l) ≡ ((rowOk w && leb least (at 6 w)) && flyingOk (at 6 w + 1) (count + boolByte (flag (at 7 w))) next freed l)
+unfolding flyingOk
+flying-cons least count next freed w l =
+    let t : ℕ = tally (λ v. flag (at 7 v)) l in
+    let u : Bool = upward (suc (at 6 w)) (map (at 6) l ++ next ∷ []) in
+    let e : (if flag (at 7 w) then 1 else 0) ≡ boolByte (flag (at 7 w)) = one (flag (at 7 w)) in
+    let f : count + ((if flag (at 7 w) then 1 else 0) + t) ≡ (count + boolByte (flag (at 7 w))) + t = rw e (sym (add-assoc count (boolByte (flag (at 7 w))) t)) in
+    rw (add-one, f) (three (rowOk w) (all rowOk l) (leb least (at 6 w)) u (eqb freed ((count + boolByte (flag (at 7 w))) + t)))
+  where
+    one : (b : Bool) → (if b then 1 else 0) ≡ boolByte b
+    one true = refl
+    one false = refl
+
+    three : (a b c d f : Bool) → ((a && b) && ((c && d) && f)) ≡ ((a && c) && (b && (d && f)))
+    three true true true d f = refl
+    three true false true d f = refl
+    three true true false d f = refl
+    three true false false d f = refl
+    three false b c d f = refl
+
+flying-le : (least count next freed : ℕ) (l : List Row) → flyingOk least count next freed l ≡ true → least ≤ next
+unfolding flyingOk
+flying-le least count next freed l t =
+    upward-le least (map (at 6) l) next
+    (and-left (upward least (map (at 6) l ++ next ∷ [])) (eqb freed (count + tally (λ w. flag (at 7 w)) l))
+    (and-right (all rowOk l) (upward least (map (at 6) l ++ next ∷ []) && eqb freed (count + tally (λ w. flag (at 7 w)) l)) t))
+
+-- ---- the loops
+
+module _ (rows : List Row) (i to : ℕ) (k : to ≤ length rows) (total : Bool) where
+  module _ (least : ℕ) (e : sortedOk least (slice i to rows) ≡ total) where
+    sorted-turn : i < to → ((rowOk (getD rows i []) && leb least (at 0 (getD rows i []))) && sortedOk (at 0 (getD rows i []) + 1) (slice (i + 1) to rows)) ≡ total
+    sorted-turn h = sym (ap (sortedOk least) (part-turn rows i to [] h k) ∙ sorted-cons least (getD rows i []) (slice (i + 1) to rows)) ∙ e
+
+    pub sorted-bad : i < to → rowOk (getD rows i []) ≡ false → false ≡ total
+    sorted-bad h q = rw q at (sorted-turn h)
+
+    pub sorted-low : i < to → at 0 (getD rows i []) < least → false ≡ total
+    sorted-low h q = rw (lt-leb least (at 0 (getD rows i [])) q, and-false (rowOk (getD rows i []))) at (sorted-turn h)
+
+    pub sorted-next : i < to → rowOk (getD rows i []) ≡ true → least ≤ at 0 (getD rows i []) → sortedOk (at 0 (getD rows i []) + 1) (slice (i + 1) to rows) ≡ total
+    sorted-next h q b = rw (q, le-leb least (at 0 (getD rows i [])) b) at (sorted-turn h)
+
+    pub sorted-end : i ≡ to → true ≡ total
+    unfolding sortedOk
+    sorted-end q = sym (ap (sortedOk least) (part-end rows i to q)) ∙ e
+
+  module _ (least count next freed : ℕ) (e : flyingOk least count next freed (slice i to rows) ≡ total) where
+    flying-turn : i < to
+        → ((rowOk (getD rows i []) && leb least (at 6 (getD rows i [])))
+        && flyingOk (at 6 (getD rows i []) + 1) (count + boolByte (flag (at 7 (getD rows i [])))) next freed (slice (i + 1) to rows)) ≡ total
+    flying-turn h = sym (ap (flyingOk least count next freed) (part-turn rows i to [] h k) ∙ flying-cons least count next freed (getD rows i []) (slice (i + 1) to rows)) ∙ e
+
+    pub flying-bad : i < to → rowOk (getD rows i []) ≡ false → false ≡ total
+    flying-bad h q = rw q at (flying-turn h)
+
+    pub flying-low : i < to → at 6 (getD rows i []) < least → false ≡ total
+    flying-low h q = rw (lt-leb least (at 6 (getD rows i [])) q, and-false (rowOk (getD rows i []))) at (flying-turn h)
+
+    pub flying-high : i < to → next ≤ at 6 (getD rows i []) → false ≡ total
+    flying-high h q = by-test total
+        (λ t.
+        let d : ℕ = at 6 (getD rows i []) in
+        let c : ℕ = count + boolByte (flag (at 7 (getD rows i []))) in
+        let rest : flyingOk (d + 1) c next freed (slice (i + 1) to rows) ≡ true = and-right (rowOk (getD rows i []) && leb least d) (flyingOk (d + 1) c next freed (slice (i + 1) to rows)) (flying-turn h ∙ t) in
+        absurd (omega (arith, flying-le (d + 1) c next freed (slice (i + 1) to rows) rest)))
+        (λ t. sym t)
+
+    pub flying-next : i < to → rowOk (getD rows i []) ≡ true → least ≤ at 6 (getD rows i [])
+        → flyingOk (at 6 (getD rows i []) + 1) (count + boolByte (flag (at 7 (getD rows i [])))) next freed (slice (i + 1) to rows) ≡ total
+    flying-next h q b = rw (q, le-leb least (at 6 (getD rows i [])) b) at (flying-turn h)
+
+    pub flying-end : i ≡ to → least ≤ next → eqb freed count ≡ total
+    unfolding flyingOk
+    flying-end q b =
+        sym (ap (flyingOk least count next freed) (part-end rows i to q)
+        ∙ ap₂ (λ (s : Bool) (n : ℕ). (s && true) && eqb freed n) (le-leb least next b) (add-zero count)) ∙ e

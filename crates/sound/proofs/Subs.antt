@@ -1,0 +1,374 @@
+-- Consumers: the definitions' tests of one as tests of its words and its rows, and the turns of the loops over consumers. Assumes nothing.
+use mathlib.Core.Path.{_≡_, refl, sym, ap, ap₂, _∙_}
+use mathlib.Core.Bool.{Bool, true, false, not, _&&_, _||_}
+use mathlib.Core.List.{List, [], _∷_, _++_, map}
+use mathlib.Core.Option.{none, some}
+use Prim.Native.Nat.{ℕ, suc, _+_, _≤_, _<_, _^_}
+use native.Mathlib.Nat.{zero-add}
+use native.Mathlib.Omega.{arith}
+use borrow.Author.Tests.{eqb-true, eq-eqb, le-leb, lt-leb}
+use lib.Dec.{leb, ltb, eqb, leb·zero}
+use lib.ListN.{length, take, drop, getD, length-drop}
+use lib.Seq.{slice, drop-drop}
+use Rattle.words.specs.Pick.{if_then_else_}
+use Rattle.words.specs.Words.{signed}
+use Rattle.words.proofs.Tests.{by-test}
+use Rattle.words.proofs.Words.{signed-eq}
+use Rattle.model.specs.Model.{idOf, sameId, sameSigned}
+use Rattle.model.proofs.Ids.{same-signed, same-signed-refl}
+use Rattle.entry.specs.Entry.{entryOf}
+use Rattle.definition.specs.Base.{all, every, tally, empty, rising, ascending}
+use Rattle.definition.specs.Types.{Kind, queue, topic, Id, Entry, Sub}
+use Rattle.definition.specs.Consumer.{shown}
+use Rattle.definition.specs.Calls.{idOk, entryOk, optional, seqs, rowsOf, distinctIds}
+use Rattle.definition.specs.Words.{at}
+use Rattle.definition.specs.Layout.{Row, flag, idAt, inflightAt, browserAt, tpendingAt, subAt, subsAt, subRows}
+use mathlib.Core.List.{append-nil}
+use Rattle.definition.proofs.Tests.{and-left, and-right, and-both}
+use Rattle.definition.proofs.Thin.{every-all, all-every}
+use Rattle.distinct.proofs.Laws.{iff}
+use Rattle.sound.specs.Sound.{upward, rowOk, flyingOk, sortedOk, wordTests, heldOk, ownTests, ownSound, kindBy, idsApart, rowsUpTo}
+use Rattle.sound.proofs.Tests.{part-turn, part-end, part-of, empty-take, all-map}
+
+-- ---- rows
+
+upward-rises : (x : ℕ) (l : List ℕ) → upward (suc x) l ≡ rising x l
+upward-rises x [] = refl
+upward-rises x (y ∷ l) = ap (λ (b : Bool). ltb x y && b) (upward-rises y l)
+
+upward-ascends : (l : List ℕ) → upward 0 l ≡ ascending l
+upward-ascends [] = refl
+upward-ascends (x ∷ l) = ap₂ _&&_ (leb·zero x) (upward-rises x l)
+
+pub flying-rows : (f : List Row) → map (λ i. i .entry) (map inflightAt f) ≡ map entryOf f
+flying-rows [] = refl
+flying-rows (w ∷ f) = ap (λ (l : List Entry). entryOf w ∷ l) (flying-rows f)
+
+dseqs-rows : (f : List Row) → map (at 6) f ≡ map (λ i. i .dseq) (map inflightAt f)
+dseqs-rows [] = refl
+dseqs-rows (w ∷ f) = ap (λ (l : List ℕ). at 6 w ∷ l) (dseqs-rows f)
+
+freed-rows : (f : List Row) → tally (λ w. flag (at 7 w)) f ≡ tally (λ i. i .freed) (map inflightAt f)
+freed-rows [] = refl
+freed-rows (w ∷ f) = ap (λ (n : ℕ). (if flag (at 7 w) then 1 else 0) + n) (freed-rows f)
+
+pub seqs-rows : (l : List Row) → map (at 0) l ≡ seqs (map entryOf l)
+unfolding entryOf
+seqs-rows [] = refl
+seqs-rows (w ∷ l) = ap (λ (m : List ℕ). at 0 w ∷ m) (seqs-rows l)
+
+pub rows-ok : (l : List Row) → all rowOk l ≡ all entryOk (map entryOf l)
+rows-ok l = sym (all-map entryOk entryOf l)
+
+pub flying-means : (next freed : ℕ) (f : List Row)
+    → flyingOk 0 0 next freed f
+    ≡ (all entryOk (map entryOf f) && (ascending (map (λ i. i .dseq) (map inflightAt f) ++ next ∷ []) && eqb freed (tally (λ i. i .freed) (map inflightAt f))))
+unfolding flyingOk
+flying-means next freed f =
+    ap₂ _&&_ (rows-ok f)
+    (ap₂ _&&_ (upward-ascends (map (at 6) f ++ next ∷ []) ∙ ap (λ (l : List ℕ). ascending (l ++ next ∷ [])) (dseqs-rows f))
+    (ap (eqb freed) (zero-add (tally (λ w. flag (at 7 w)) f) ∙ freed-rows f)))
+
+pub sorted-means : (l : List Row) → sortedOk 0 l ≡ (all entryOk (map entryOf l) && ascending (seqs (map entryOf l)))
+unfolding sortedOk
+sorted-means l = ap₂ _&&_ (rows-ok l) (upward-ascends (map (at 0) l) ∙ ap ascending (seqs-rows l))
+
+pub all-append : {A : Type 0} (p : A → Bool) (a b : List A) → all p (a ++ b) ≡ (all p a && all p b)
+all-append p [] b = refl
+all-append p (x ∷ a) b = ap (λ (t : Bool). p x && t) (all-append p a b) ∙ assoc (p x) (all p a) (all p b)
+  where
+    assoc : (s t u : Bool) → (s && (t && u)) ≡ ((s && t) && u)
+    assoc true t u = refl
+    assoc false t u = refl
+
+-- ---- one consumer
+
+-- what it holds
+held-all : (k : Kind) (b : Bool) (l : List Entry) → tpendingAt k b l ++ shown (browserAt k b l) ≡ l
+held-all queue true l = refl
+held-all queue false l = append-nil l
+held-all topic true l = append-nil l
+held-all topic false l = append-nil l
+
+pub rows-of-sub : (k : Kind) (w : Row) (f h : List Row) → rowsOf (subAt k w f h) ≡ map entryOf f ++ map entryOf h
+unfolding subAt
+rows-of-sub k w f h = ap₂ (λ (a b : List Entry). a ++ b) (flying-rows f) (held-all k (flag (at 6 w)) (map entryOf h))
+
+empty-map : (h : List Row) → empty (map entryOf h) ≡ empty h
+empty-map [] = refl
+empty-map (w ∷ h) = refl
+
+queue-held : (b : Bool) (l : List Entry) → empty (tpendingAt queue b l) ≡ (b || empty l)
+queue-held true l = refl
+queue-held false l = refl
+
+queue-sorted : (b : Bool) (l : List Entry) → (b || empty l) ≡ true → ascending (seqs (tpendingAt queue b l)) ≡ true
+queue-sorted true l e = refl
+queue-sorted false [] e = refl
+queue-sorted false (x ∷ l) e = absurd (let z : _≡_ {A = ℕ} 0 1 = cc in omega arith)
+
+topic-shown : (b : Bool) (l : List Entry) → empty (shown (browserAt topic b l)) ≡ true
+topic-shown true l = refl
+topic-shown false l = refl
+
+pub optional-test : (p : ℕ → Bool) (a b : ℕ) → optional p (if flag a then some b else none) ≡ (eqb a 0 || p b)
+optional-test p a b = by-test (eqb a 0) (λ t. rw t) (λ t. rw t)
+
+pull-test : (most a b : ℕ) → optional (λ g. leb g most) (if flag a then some b else none) ≡ (eqb a 0 || leb b most)
+pull-test most a b = optional-test (λ g. leb g most) a b
+
+-- the parts that the code tests, for a queue's consumer and a topic's
+module _ (most : ℕ) (w : Row) (f h : List Row) (named : idOk (idAt w) ≡ true) (none-held : eqb (at 15 w) 0 ≡ empty h) where
+  rows-parts : (k : Kind) → all entryOk (rowsOf (subAt k w f h)) ≡ (all entryOk (map entryOf f) && all entryOk (map entryOf h))
+  rows-parts k = ap (all entryOk) (rows-of-sub k w f h) ∙ all-append entryOk (map entryOf f) (map entryOf h)
+
+  pub own-tests : (q : Bool) → ownSound (kindBy q) most (subAt (kindBy q) w f h) ≡ (every (wordTests q most w) && (flyingOk 0 0 (at 8 w) (at 13 w) f && heldOk q h))
+  unfolding ownSound subAt
+  own-tests true = iff _ _
+      (λ e.
+      let p = every-all (ownTests queue most (subAt queue w f h)) e in
+      let r = sym (rows-parts queue) ∙ p .1 .1 .1 .0 in
+      let x = and-left (all entryOk (map entryOf f)) (all entryOk (map entryOf h)) r in
+      let y = and-right (all entryOk (map entryOf f)) (all entryOk (map entryOf h)) r in
+      and-both (every (wordTests true most w)) (flyingOk 0 0 (at 8 w) (at 13 w) f && heldOk true h)
+      (all-every (wordTests true most w) (
+        p .1 .0,
+        (
+          p .1 .1 .0,
+          (
+            p .1 .1 .1 .1 .0,
+            (
+              p .1 .1 .1 .1 .1 .1 .1 .1 .0,
+              (
+                p .1 .1 .1 .1 .1 .1 .1 .1 .1 .0,
+                (
+                  sym (pull-test most (at 10 w) (at 11 w)) ∙ p .1 .1 .1 .1 .1 .1 .1 .1 .1 .1 .0,
+                  (ap (λ (t : Bool). flag (at 6 w) || t) (none-held ∙ sym (empty-map h)) ∙ sym (queue-held (flag (at 6 w)) (map entryOf h)) ∙ p .1 .1 .1 .1 .1 .1 .1 .1 .1 .1 .1 .0, tt),
+                ),
+              ),
+            ),
+          ),
+        ),
+      ))
+      (and-both (flyingOk 0 0 (at 8 w) (at 13 w) f) (heldOk true h)
+      (flying-means (at 8 w) (at 13 w) f ∙ and-both _ _ x (and-both _ _ (p .1 .1 .1 .1 .1 .1 .0) (p .1 .1 .1 .1 .1 .0)))
+      (rows-ok h ∙ y)))
+      (λ e.
+      let p = every-all (wordTests true most w) (and-left (every (wordTests true most w)) (flyingOk 0 0 (at 8 w) (at 13 w) f && heldOk true h) e) in
+      let r = and-right (every (wordTests true most w)) (flyingOk 0 0 (at 8 w) (at 13 w) f && heldOk true h) e in
+      let u = sym (flying-means (at 8 w) (at 13 w) f) ∙ and-left (flyingOk 0 0 (at 8 w) (at 13 w) f) (heldOk true h) r in
+      let v = sym (rows-ok h) ∙ and-right (flyingOk 0 0 (at 8 w) (at 13 w) f) (heldOk true h) r in
+      let a = all entryOk (map entryOf f) in
+      let b = ascending (map (λ i. i .dseq) (map inflightAt f) ++ at 8 w ∷ []) in
+      let d = eqb (at 13 w) (tally (λ i. i .freed) (map inflightAt f)) in
+      let m = and-right a (b && d) u in
+      let place = sym (ap (λ (t : Bool). flag (at 6 w) || t) (none-held ∙ sym (empty-map h))) ∙ p .1 .1 .1 .1 .1 .1 .0 in
+      all-every (ownTests queue most (subAt queue w f h)) (
+        named,
+        (
+          p .0,
+          (
+            p .1 .0,
+            (
+              rows-parts queue ∙ and-both a (all entryOk (map entryOf h)) (and-left a (b && d) u) v,
+              (
+                p .1 .1 .0,
+                (
+                  and-right b d m,
+                  (
+                    and-left b d m,
+                    (
+                      queue-sorted (flag (at 6 w)) (map entryOf h) place,
+                      (
+                        p .1 .1 .1 .0,
+                        (
+                          p .1 .1 .1 .1 .0,
+                          (
+                            pull-test most (at 10 w) (at 11 w) ∙ p .1 .1 .1 .1 .1 .0,
+                            (queue-held (flag (at 6 w)) (map entryOf h) ∙ place, tt),
+                          ),
+                        ),
+                      ),
+                    ),
+                  ),
+                ),
+              ),
+            ),
+          ),
+        ),
+      ))
+  own-tests false = iff _ _
+      (λ e.
+      let p = every-all (ownTests topic most (subAt topic w f h)) e in
+      let r = sym (rows-parts topic) ∙ p .1 .1 .1 .0 in
+      let x = and-left (all entryOk (map entryOf f)) (all entryOk (map entryOf h)) r in
+      let y = and-right (all entryOk (map entryOf f)) (all entryOk (map entryOf h)) r in
+      and-both (every (wordTests false most w)) (flyingOk 0 0 (at 8 w) (at 13 w) f && heldOk false h)
+      (all-every (wordTests false most w) (
+        p .1 .0,
+        (
+          p .1 .1 .0,
+          (
+            p .1 .1 .1 .1 .0,
+            (
+              p .1 .1 .1 .1 .1 .1 .1 .1 .0,
+              (
+                p .1 .1 .1 .1 .1 .1 .1 .1 .1 .0,
+                (sym (pull-test most (at 10 w) (at 11 w)) ∙ p .1 .1 .1 .1 .1 .1 .1 .1 .1 .1 .0, (refl, tt)),
+              ),
+            ),
+          ),
+        ),
+      ))
+      (and-both (flyingOk 0 0 (at 8 w) (at 13 w) f) (heldOk false h)
+      (flying-means (at 8 w) (at 13 w) f ∙ and-both _ _ x (and-both _ _ (p .1 .1 .1 .1 .1 .1 .0) (p .1 .1 .1 .1 .1 .0)))
+      (sorted-means h ∙ and-both _ _ y (p .1 .1 .1 .1 .1 .1 .1 .0))))
+      (λ e.
+      let p = every-all (wordTests false most w) (and-left (every (wordTests false most w)) (flyingOk 0 0 (at 8 w) (at 13 w) f && heldOk false h) e) in
+      let r = and-right (every (wordTests false most w)) (flyingOk 0 0 (at 8 w) (at 13 w) f && heldOk false h) e in
+      let u = sym (flying-means (at 8 w) (at 13 w) f) ∙ and-left (flyingOk 0 0 (at 8 w) (at 13 w) f) (heldOk false h) r in
+      let v = sym (sorted-means h) ∙ and-right (flyingOk 0 0 (at 8 w) (at 13 w) f) (heldOk false h) r in
+      let a = all entryOk (map entryOf f) in
+      let b = ascending (map (λ i. i .dseq) (map inflightAt f) ++ at 8 w ∷ []) in
+      let d = eqb (at 13 w) (tally (λ i. i .freed) (map inflightAt f)) in
+      let m = and-right a (b && d) u in
+      let g = all entryOk (map entryOf h) in
+      let s = ascending (seqs (map entryOf h)) in
+      all-every (ownTests topic most (subAt topic w f h)) (
+        named,
+        (
+          p .0,
+          (
+            p .1 .0,
+            (
+              rows-parts topic ∙ and-both a g (and-left a (b && d) u) (and-left g s v),
+              (
+                p .1 .1 .0,
+                (
+                  and-right b d m,
+                  (
+                    and-left b d m,
+                    (
+                      and-right g s v,
+                      (
+                        p .1 .1 .1 .0,
+                        (
+                          p .1 .1 .1 .1 .0,
+                          (
+                            pull-test most (at 10 w) (at 11 w) ∙ p .1 .1 .1 .1 .1 .0,
+                            (topic-shown (flag (at 6 w)) (map entryOf h), tt),
+                          ),
+                        ),
+                      ),
+                    ),
+                  ),
+                ),
+              ),
+            ),
+          ),
+        ),
+      ))
+
+-- the same with its rows where they stand
+module _ (q : Bool) (most : ℕ) (w : Row) (rows : List Row) (base : ℕ) (b : base + (at 14 w + at 15 w) ≤ length rows) (named : idOk (idAt w) ≡ true) where
+  abbrev pub placedSub : Sub
+  placedSub = subAt (kindBy q) w (take (at 14 w) (drop base rows)) (take (at 15 w) (drop (at 14 w) (drop base rows)))
+
+  placed-tests : ownSound (kindBy q) most placedSub
+      ≡ (every (wordTests q most w) && (flyingOk 0 0 (at 8 w) (at 13 w) (slice base (base + at 14 w) rows) && heldOk q (slice (base + at 14 w) (base + at 14 w + at 15 w) rows)))
+  placed-tests =
+      let held : slice (base + at 14 w) (base + at 14 w + at 15 w) rows ≡ take (at 15 w) (drop (at 14 w) (drop base rows)) =
+      part-of rows (base + at 14 w) (at 15 w) (omega arith) ∙ ap (take (at 15 w)) (sym (drop-drop (at 14 w) base rows)) in
+      own-tests most w (take (at 14 w) (drop base rows)) (take (at 15 w) (drop (at 14 w) (drop base rows))) named
+      (empty-take (at 15 w) (drop (at 14 w) (drop base rows)) (simp length-drop (omega arith))) q
+      ∙ ap₂ (λ (f h : List Row). every (wordTests q most w) && (flyingOk 0 0 (at 8 w) (at 13 w) f && heldOk q h))
+      (sym (part-of rows base (at 14 w) (omega arith))) (sym held)
+
+  pub placed-words : every (wordTests q most w) ≡ false → false ≡ ownSound (kindBy q) most placedSub
+  placed-words e =
+      sym (placed-tests ∙ ap (λ (t : Bool). t && (flyingOk 0 0 (at 8 w) (at 13 w) (slice base (base + at 14 w) rows) && heldOk q (slice (base + at 14 w) (base + at 14 w + at 15 w) rows))) e)
+
+  pub placed-flying : every (wordTests q most w) ≡ true → flyingOk 0 0 (at 8 w) (at 13 w) (slice base (base + at 14 w) rows) ≡ false → false ≡ ownSound (kindBy q) most placedSub
+  placed-flying e f = sym (placed-tests ∙ ap₂ (λ (s t : Bool). s && (t && heldOk q (slice (base + at 14 w) (base + at 14 w + at 15 w) rows))) e f)
+
+  pub placed-held : every (wordTests q most w) ≡ true → flyingOk 0 0 (at 8 w) (at 13 w) (slice base (base + at 14 w) rows) ≡ true
+      → heldOk q (slice (base + at 14 w) (base + at 14 w + at 15 w) rows) ≡ ownSound (kindBy q) most placedSub
+  placed-held e f = sym (placed-tests ∙ ap₂ (λ (s t : Bool). s && (t && heldOk q (slice (base + at 14 w) (base + at 14 w + at 15 w) rows))) e f)
+
+-- ---- the loops
+
+module _ (subs : List Row) (i n : ℕ) (b : n ≤ length subs) where
+  pub rows-turn : i < n → subRows (slice i n subs) ≡ at 14 (getD subs i []) + (at 15 (getD subs i []) + subRows (slice (i + 1) n subs))
+  unfolding subRows
+  rows-turn h = ap subRows (part-turn subs i n [] h b)
+
+  pub rows-end : i ≡ n → subRows (slice i n subs) ≡ 0
+  unfolding subRows
+  rows-end q = ap subRows (part-end subs i n q)
+
+  module _ (p : Sub → Bool) (k : Kind) (rows : List Row) (base : ℕ) (total : Bool) (e : all p (subsAt k (slice i n subs) (drop base rows)) ≡ total) where
+    -- the consumer at i, with its rows
+    abbrev pub here : Sub
+    here = let w = getD subs i [] in subAt k w (take (at 14 w) (drop base rows)) (take (at 15 w) (drop (at 14 w) (drop base rows)))
+
+    walk-turn : i < n → (p here && all p (subsAt k (slice (i + 1) n subs) (drop (base + (at 14 (getD subs i []) + at 15 (getD subs i []))) rows))) ≡ total
+    unfolding subsAt
+    walk-turn h =
+        let w = getD subs i [] in
+        let d : drop (at 15 w) (drop (at 14 w) (drop base rows)) ≡ drop (base + (at 14 w + at 15 w)) rows =
+        drop-drop (at 15 w) (at 14 w) (drop base rows) ∙ drop-drop (at 14 w + at 15 w) base rows in
+        sym (ap (λ (l : List Row). all p (subsAt k l (drop base rows))) (part-turn subs i n [] h b)
+        ∙ ap (λ (l : List Row). p here && all p (subsAt k (slice (i + 1) n subs) l)) d) ∙ e
+
+    pub walk-stop : i < n → p here ≡ false → false ≡ total
+    walk-stop h q = sym (ap (λ (t : Bool). t && all p (subsAt k (slice (i + 1) n subs) (drop (base + (at 14 (getD subs i []) + at 15 (getD subs i []))) rows))) q) ∙ walk-turn h
+
+    pub walk-next : i < n → p here ≡ true → all p (subsAt k (slice (i + 1) n subs) (drop (base + (at 14 (getD subs i []) + at 15 (getD subs i []))) rows)) ≡ total
+    walk-next h q = sym (ap (λ (t : Bool). t && all p (subsAt k (slice (i + 1) n subs) (drop (base + (at 14 (getD subs i []) + at 15 (getD subs i []))) rows))) q) ∙ walk-turn h
+
+    pub walk-end : i ≡ n → true ≡ total
+    unfolding subsAt
+    walk-end q = sym (ap (λ (l : List Row). all p (subsAt k l (drop base rows))) (part-end subs i n q)) ∙ e
+
+  module _ (total : Bool) (e : idsApart (slice i n subs) ≡ total) where
+    ids-turn : i < n → (all (λ v. not (sameId (idAt v) (idAt (getD subs i [])))) (slice (i + 1) n subs) && idsApart (slice (i + 1) n subs)) ≡ total
+    ids-turn h = sym (ap idsApart (part-turn subs i n [] h b)) ∙ e
+
+    pub ids-stop : i < n → all (λ v. not (sameId (idAt v) (idAt (getD subs i [])))) (slice (i + 1) n subs) ≡ false → false ≡ total
+    ids-stop h q = sym (ap (λ (t : Bool). t && idsApart (slice (i + 1) n subs)) q) ∙ ids-turn h
+
+    pub ids-next : i < n → all (λ v. not (sameId (idAt v) (idAt (getD subs i [])))) (slice (i + 1) n subs) ≡ true → idsApart (slice (i + 1) n subs) ≡ total
+    ids-next h q = sym (ap (λ (t : Bool). t && idsApart (slice (i + 1) n subs)) q) ∙ ids-turn h
+
+    pub ids-end : i ≡ n → true ≡ total
+    ids-end q = sym (ap idsApart (part-end subs i n q)) ∙ e
+
+pub rows-in : (n : ℕ) → n ≤ 512 → n ≡ rowsUpTo n
+rows-in n h = rw (le-leb n 512 h)
+
+pub rows-over : (n : ℕ) → 512 < n → 513 ≡ rowsUpTo n
+rows-over n h = rw (lt-leb n 512 h)
+
+-- ---- identifiers
+
+same-words : (v w : ℕ) → v < 2 ^ 64 → w < 2 ^ 64 → eqb v w ≡ sameSigned (signed v) (signed w)
+same-words v w h k = iff (eqb v w) (sameSigned (signed v) (signed w))
+    (λ t. ap (λ (x : ℕ). sameSigned (signed v) (signed x)) (sym (eqb-true v w t)) ∙ same-signed-refl (signed v))
+    (λ t. ap (eqb v) (sym (signed-eq v w h k (same-signed (signed v) (signed w) t))) ∙ eqb-same v)
+  where
+    eqb-same : (x : ℕ) → eqb x x ≡ true
+    eqb-same x = eq-eqb x x refl
+
+pub same-id-words : (c s v c2 s2 v2 : ℕ) → s < 2 ^ 64 → v < 2 ^ 64 → s2 < 2 ^ 64 → v2 < 2 ^ 64
+    → (eqb c c2 && (eqb s s2 && eqb v v2)) ≡ sameId (idOf c s v) (idOf c2 s2 v2)
+same-id-words c s v c2 s2 v2 hs hv hs2 hv2 = ap₂ (λ (x y : Bool). eqb c c2 && (x && y)) (same-words s s2 hs hs2) (same-words v v2 hv hv2)
+
+others-ids : (k : Kind) (j : Id) (ws rows : List Row) → all (λ r. not (sameId (r .id) j)) (subsAt k ws rows) ≡ all (λ v. not (sameId (idAt v) j)) ws
+unfolding subsAt subAt
+others-ids k j [] rows = refl
+others-ids k j (w ∷ ws) rows = ap (λ (t : Bool). not (sameId (idAt w) j) && t) (others-ids k j ws (drop (at 15 w) (drop (at 14 w) rows)))
+
+pub ids-means : (k : Kind) (ws rows : List Row) → distinctIds (subsAt k ws rows) ≡ idsApart ws
+unfolding subsAt subAt
+ids-means k [] rows = refl
+ids-means k (w ∷ ws) rows = ap₂ _&&_ (others-ids k (idAt w) ws (drop (at 15 w) (drop (at 14 w) rows))) (ids-means k ws (drop (at 15 w) (drop (at 14 w) rows)))

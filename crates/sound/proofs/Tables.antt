@@ -1,0 +1,134 @@
+-- The tests of the tables put together as the code makes them. Assumes nothing.
+use mathlib.Core.Path.{_≡_, refl, sym, ap, ap₂, _∙_}
+use mathlib.Core.Bool.{Bool, true, false, not, _&&_, _||_, true≢false}
+use mathlib.Core.List.{List, _++_, append-assoc}
+use Prim.Native.Nat.{ℕ, _+_, _≤_, _<_, _^_}
+use native.Mathlib.Nat.{zero-add}
+use native.Mathlib.Omega.{arith}
+use borrow.Author.Tests.{leb-true, leb-false, ltb-false, le-leb, lt-leb}
+use lib.Dec.{leb, ltb, eqb}
+use lib.ListN.{length, take, drop}
+use lib.Seq.{slice}
+use Rattle.words.proofs.Tests.{by-test}
+use Rattle.definition.specs.Base.{all, distinct}
+use Rattle.definition.specs.Calls.{bound, countersOk, stateShort}
+use Rattle.definition.specs.Words.{at}
+use Rattle.definition.specs.Layout.{Row, Buffers, statsAt, subsAt, subRows, usedSubs, usedRows, ringsFormed, lengthsOf}
+use Rattle.definition.proofs.Tests.{and-left, and-right}
+use Rattle.sound.specs.Sound.{limitsOk, countsOk, idleOk, headOk, rowOk, holderOk, sortedOk, ownSound, kindBy, idsApart, apartBy, rowsUpTo, emptyBy, reservedAt, waitingAt, queueSeqs, queueApart, tablesOk, restOk}
+use Rattle.sound.proofs.Tests.{part-of}
+use Rattle.sound.proofs.Head.{limits-used}
+use Rattle.sound.proofs.Subs.{rows-in, rows-over}
+
+-- ---- sequence numbers
+
+-- three parts, one after the other
+pub gathered : (o p q r a b c : List ℕ) (m n end : ℕ) → take (0 + m) p ≡ take 0 o ++ a → take (m + n) q ≡ take m p ++ b → take end r ≡ take (m + n) q ++ c
+    → take end r ≡ a ++ (b ++ c)
+gathered o p q r a b c m n end e f g =
+    g ∙ ap (λ (l : List ℕ). l ++ c) (f ∙ ap (λ (l : List ℕ). l ++ b) (ap (λ (k : ℕ). take k p) (sym (zero-add m)) ∙ e)) ∙ append-assoc a b c
+
+module _ (others reserved waiting : ℕ) (subs rows : List Row) where
+  pub queue-stop : (q : Bool) → q ≡ true → distinct (queueSeqs others reserved waiting subs rows) ≡ false
+      → false ≡ (queueApart (kindBy q) others reserved waiting subs rows && all (apartBy (kindBy q)) (subsAt (kindBy q) subs rows))
+  queue-stop true e f = sym (ap (λ (t : Bool). t && all (apartBy (kindBy true)) (subsAt (kindBy true) subs rows)) f)
+  queue-stop false e f = absurd (true≢false (sym e))
+
+  pub queue-next : (q : Bool) → q ≡ true → distinct (queueSeqs others reserved waiting subs rows) ≡ true
+      → all (apartBy (kindBy q)) (subsAt (kindBy q) subs rows) ≡ (queueApart (kindBy q) others reserved waiting subs rows && all (apartBy (kindBy q)) (subsAt (kindBy q) subs rows))
+  queue-next true e f = sym (ap (λ (t : Bool). t && all (apartBy (kindBy true)) (subsAt (kindBy true) subs rows)) f)
+  queue-next false e f = absurd (true≢false (sym e))
+
+  pub topic-next : (q : Bool) → q ≡ false
+      → all (apartBy (kindBy q)) (subsAt (kindBy q) subs rows) ≡ (queueApart (kindBy q) others reserved waiting subs rows && all (apartBy (kindBy q)) (subsAt (kindBy q) subs rows))
+  topic-next true e = absurd (true≢false e)
+  topic-next false e = refl
+
+-- ---- all tests of the tables
+
+place-by : (q : Bool) (n : ℕ) → (q || eqb n 0) ≡ emptyBy (kindBy q) n
+place-by true n = refl
+place-by false n = refl
+
+with-holders : (t a b : Bool) → t ≡ a → (t ≡ true → b ≡ true) → t ≡ (a && b)
+with-holders true a b e f = sym (ap₂ _&&_ (sym e) (f refl))
+with-holders false a b e f = ap (λ (x : Bool). x && b) e
+
+module _ (q : Bool) (most others reserved waiting : ℕ) (subs rows : List Row) (b : others + (reserved + waiting) ≤ length rows) where
+  pub table-tests : (each ids held sorted apart : Bool)
+      → each ≡ all (ownSound (kindBy q) most) (subsAt (kindBy q) subs rows)
+      → ids ≡ idsApart subs
+      → held ≡ all rowOk (slice others (others + reserved) rows)
+      → (held ≡ true → all holderOk (slice others (others + reserved) rows) ≡ true)
+      → sorted ≡ sortedOk 0 (slice (others + reserved) (others + reserved + waiting) rows)
+      → apart ≡ (queueApart (kindBy q) others reserved waiting subs rows && all (apartBy (kindBy q)) (subsAt (kindBy q) subs rows))
+      → ((q || eqb (reserved + waiting) 0) && (each && (ids && (held && (sorted && (apart && true)))))) ≡ tablesOk (kindBy q) most others reserved waiting subs rows
+  unfolding tablesOk
+  table-tests each ids held sorted apart e f g h i j =
+      let r : slice others (others + reserved) rows ≡ reservedAt others reserved rows = part-of rows others reserved (omega arith) in
+      let w : slice (others + reserved) (others + reserved + waiting) rows ≡ waitingAt others reserved waiting rows = part-of rows (others + reserved) waiting (omega arith) in
+      let kept = with-holders held (all rowOk (reservedAt others reserved rows)) (all holderOk (reservedAt others reserved rows)) (g ∙ ap (all rowOk) r) (λ t. sym (ap (all holderOk) r) ∙ h t) in
+      ap₂ _&&_ (place-by q (reserved + waiting))
+      (ap₂ _&&_ e (ap₂ _&&_ f (ap₂ _&&_ kept (ap₂ _&&_ (i ∙ ap (sortedOk 0) w) (ap (λ (t : Bool). t && true) j)))))
+
+-- ---- the rest
+
+pub rest-over : (b : Buffers) → 512 < usedRows b → false ≡ restOk b
+unfolding restOk
+rest-over b h =
+    sym (ap (λ (t : Bool). t
+    && (ringsFormed (at 14 (b .head)) (drop 113 (b .head))
+    && tablesOk (kindBy (eqb (at 0 (b .head)) 0)) (bound (at 3 (b .head))) (subRows (usedSubs b)) (at 15 (b .head)) (at 16 (b .head)) (usedSubs b) (b .rows)))
+    (lt-leb (usedRows b) 512 h))
+
+pub rest-tests : (b : Buffers) → usedRows b ≤ 512
+    → (ringsFormed (at 14 (b .head)) (drop 113 (b .head))
+    && tablesOk (kindBy (eqb (at 0 (b .head)) 0)) (bound (at 3 (b .head))) (subRows (usedSubs b)) (at 15 (b .head)) (at 16 (b .head)) (usedSubs b) (b .rows))
+    ≡ restOk b
+unfolding restOk
+rest-tests b h =
+    sym (ap (λ (t : Bool). t
+    && (ringsFormed (at 14 (b .head)) (drop 113 (b .head))
+    && tablesOk (kindBy (eqb (at 0 (b .head)) 0)) (bound (at 3 (b .head))) (subRows (usedSubs b)) (at 15 (b .head)) (at 16 (b .head)) (usedSubs b) (b .rows)))
+    (le-leb (usedRows b) 512 h))
+
+-- a count that stops at 513
+pub count-over : (m k : ℕ) → 512 < rowsUpTo m + k → 512 < m + k
+count-over m k h = by-test (leb m 512)
+    (λ t. let e : m ≡ rowsUpTo m = rows-in m (leb-true m 512 t) in omega arith)
+    (λ t. omega (arith, leb-false m 512 t))
+
+pub count-small : (m : ℕ) → rowsUpTo m ≤ 513
+count-small m = by-test (leb m 512)
+    (λ t. let e : m ≡ rowsUpTo m = rows-in m (leb-true m 512 t) in omega (arith, leb-true m 512 t))
+    (λ t. let e : 513 ≡ rowsUpTo m = rows-over m (leb-false m 512 t) in omega arith)
+
+pub count-exact : (m : ℕ) → rowsUpTo m ≤ 512 → rowsUpTo m ≡ m
+count-exact m h = by-test (leb m 512)
+    (λ t. sym (rows-in m (leb-true m 512 t)))
+    (λ t. let e : 513 ≡ rowsUpTo m = rows-over m (leb-false m 512 t) in absurd (omega arith))
+
+-- what the head's tests say of its counts
+pub head-counts : (h : List ℕ) → headOk h ≡ true → (at 12 h ≤ 32) × (at 14 h ≤ 8) × (at 3 h ≤ 2 ^ 40)
+unfolding headOk
+head-counts h e =
+    let c = and-left (countsOk h) (idleOk h && countersOk (bound (at 3 h)) (statsAt h)) (and-right (limitsOk h) (countsOk h && (idleOk h && countersOk (bound (at 3 h)) (statsAt h))) e) in
+    let t : Bool = ltb (at 4 h) (at 12 h) || eqb (at 4 h) 0 in
+    let p = and-right (leb (at 12 h) 32) (leb (at 13 h) 32 && (leb (at 14 h) 8 && t)) c in
+    let q = and-right (leb (at 13 h) 32) (leb (at 14 h) 8 && t) p in (
+      leb-true (at 12 h) 32 (and-left (leb (at 12 h) 32) (leb (at 13 h) 32 && (leb (at 14 h) 8 && t)) c),
+      leb-true (at 14 h) 8 (and-left (leb (at 14 h) 8) t q),
+      limits-used h (and-left (limitsOk h) (countsOk h && (idleOk h && countersOk (bound (at 3 h)) (statsAt h))) e),
+    )
+
+pub long-enough : (b : Buffers) → not (stateShort (lengthsOf b 0)) ≡ true → (8345 ≤ length (b .head)) × (32 ≤ length (b .subs)) × (512 ≤ length (b .rows))
+unfolding stateShort
+long-enough b e =
+    let p = parts (ltb (length (b .head)) 8345) (ltb (length (b .subs)) 32) (ltb (length (b .rows)) 512) e in
+    (ltb-false (length (b .head)) 8345 (p .0), ltb-false (length (b .subs)) 32 (p .1), ltb-false (length (b .rows)) 512 (p .2))
+  where
+    parts : (x y z : Bool) → not (x || (y || z)) ≡ true → (x ≡ false) × (y ≡ false) × (z ≡ false)
+    parts true y z e = absurd (true≢false (sym e))
+    parts false true z e = absurd (true≢false (sym e))
+    parts false false true e = absurd (true≢false (sym e))
+    parts false false false e = (refl, refl, refl)

@@ -1,0 +1,55 @@
+-- `sound::tables_ok` meets its contract. Assumes nothing.
+use lib.ListN.{take}
+use Rattle.sound.proofs.Tables.{table-tests}
+use borrow.Author.Needs.{needs}
+use Rattle.sound.proofs.tables_ok.Statement.{statement}
+use Rattle.sound.proofs.tables_ok.Tie as tie
+
+add-first : tie.Need-add-first
+add-first c = search needs
+
+add-place : tie.Need-add-place
+add-place c = search needs
+
+subs-ok-requires : tie.Need-subs-ok-requires
+subs-ok-requires c κs = search needs
+
+ids-apart-requires : tie.Need-ids-apart-requires
+ids-apart-requires c κs = search needs
+
+entries-ok-requires : tie.Need-entries-ok-requires
+entries-ok-requires c κs = search needs
+
+add-sorted-ok : tie.Need-add-sorted-ok
+add-sorted-ok c = search needs
+
+sorted-ok-requires : tie.Need-sorted-ok-requires
+sorted-ok-requires c κs = search needs
+
+apart-requires : tie.Need-apart-requires
+apart-requires c κs = search needs
+
+returns : tie.Need-returns
+returns c =
+    let s = c .before .before .before .before .before in
+    let a = s .args in
+    let each = c .before .before .before .before .subs-ok in
+    let ids = c .before .before .before .ids-apart in
+    let held = c .before .before .entries-ok in
+    let sorted = c .before .sorted-ok in
+    table-tests (a .on-queue) (a .most) (a .others) (a .reserved) (a .waiting) (take (a .n) (a .subs .now)) (a .rows .now) (s .pre .1 .1 .0)
+    (each .result) (ids .result) (held .result) (sorted .result) (c .apart .result) (each .ensures) (ids .ensures) (held .ensures .0) (held .ensures .1) (sorted .ensures) (c .apart .ensures)
+
+pub tables-ok-spec : {M : Type 1} → statement M
+tables-ok-spec =
+    tie.close
+    (tie.spec
+    add-first
+    add-place
+    subs-ok-requires
+    ids-apart-requires
+    entries-ok-requires
+    add-sorted-ok
+    sorted-ok-requires
+    apart-requires
+    returns)

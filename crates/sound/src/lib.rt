@@ -1,0 +1,540 @@
+// Whether lent buffers are long enough, and the layout of a sound state.
+use entry::Row;
+ghost use mathlib.Core.Path.{_≡_};
+ghost use mathlib.Core.Bool.{true, false, not, _&&_, _||_};
+ghost use mathlib.Core.List.{_++_};
+ghost use Prim.Native.Nat.{_+_, _*_, _-_, _≤_, _<_, _^_};
+ghost use lib.Dec.{ltb, eqb};
+ghost use lib.ListN.{take, drop};
+ghost use lib.Seq.{slice};
+ghost use Rattle.words.specs.Pick.{if_then_else_};
+ghost use Rattle.model.specs.Model.{idOf, sameId};
+ghost use Rattle.definition.specs.Base.{all, every, distinct};
+ghost use Rattle.definition.specs.Types.{queue};
+ghost use Rattle.definition.specs.Calls.{idOk, countersOk, seqs, taken, stateShort};
+ghost use Rattle.definition.specs.Words.{at};
+ghost use Rattle.definition.specs.Layout.{flag, idAt, statsAt, subAt, subsAt, subRows, ringsFormed, soundBuffers, lengthsOf};
+ghost use Rattle.sound.specs.Sound.{limitsOk, countsOk, idleOk, headOk, rowOk, holderOk, flyingOk, sortedOk, wordTests, ownSound, kindBy, idsApart, seqsAt, apartBy, rowsUpTo, queueSeqs, queueApart, tablesOk, lent, restOk};
+
+type SubRow = [u64; 16];
+
+const CALLS_MOST: u64 = 1099511627776;
+
+const CLOCK_MOST: u64 = 4611686018427387904;
+
+const SEQ_END: u64 = 9223372036854775808;
+
+const PREFETCH_END: u64 = 2147483648;
+
+// ---- the head
+
+fn limits_ok(head: &[u64]) -> bool
+    requires { do ⌜ 8345 ≤ (← ⟦head.len()⟧) ⌝ }
+    ensures { λ r. ⌜ r ≡ limitsOk (now (head .entry)) ⌝ }
+{
+    let limit = head[2];
+    (1 <= limit) & ((limit <= CALLS_MOST) & ((head[3] <= limit) & (head[1] <= 512)))
+}
+
+fn counts_ok(head: &[u64]) -> bool
+    requires { do ⌜ 8345 ≤ (← ⟦head.len()⟧) ⌝ }
+    ensures { λ r. ⌜ r ≡ countsOk (now (head .entry)) ⌝ }
+{
+    let n = head[12];
+    let turn = head[4];
+    (n <= 32) & ((head[13] <= 32) & ((head[14] <= 8) & ((turn < n) | (turn == 0))))
+}
+
+fn idle_ok(head: &[u64]) -> bool
+    requires { do ⌜ 8345 ≤ (← ⟦head.len()⟧) ⌝ }
+    ensures { λ r. ⌜ r ≡ idleOk (now (head .entry)) ⌝ }
+{
+    (head[5] == 0) | (head[6] <= CLOCK_MOST)
+}
+
+fn counters_ok(head: &[u64], most: u64) -> bool
+    requires { do ⌜ 8345 ≤ (← ⟦head.len()⟧) ⌝ }
+    ensures { λ r. ⌜ r ≡ countersOk most (statsAt (now (head .entry))) ⌝ }
+{
+    (head[7] <= most)
+        & ((head[8] <= most)
+            & ((head[9] <= most) & ((head[10] <= most) & ((head[11] <= most) & true))))
+}
+
+fn head_ok(head: &[u64]) -> bool
+    requires { do ⌜ 8345 ≤ (← ⟦head.len()⟧) ⌝ }
+    ensures { λ r. ⌜ r ≡ headOk (now (head .entry)) ⌝ }
+{
+    if !limits_ok(head) {
+        return false;
+    }
+    counts_ok(head) & (idle_ok(head) & counters_ok(head, 65536 * head[3] + 1))
+}
+
+// A ring's numbers: until the window is full the oldest stands at 0.
+fn ring_ok(start: u64, count: u64) -> bool
+    ensures { λ r. ⌜ r ≡ ((ltb count 1024 && eqb start 0) || (eqb count 1024 && ltb start 1024)) ⌝ }
+{
+    ((count < 1024) & (start == 0)) | ((count == 1024) & (start < 1024))
+}
+
+// Each of n audits.
+fn rings_ok(head: &[u64], n: u64) -> bool
+    requires { do ⌜ 8345 ≤ (← ⟦head.len()⟧) ⌝ }
+    requires { ⌜ n ≤ 8 ⌝ }
+    ensures { λ r. ⌜ r ≡ ringsFormed n (drop 113 (now (head .entry))) ⌝ }
+{
+    let mut left = n;
+    let mut from = 113;
+    while 0 < left {
+        if !ring_ok(head[from + 3], head[from + 4]) {
+            return false;
+        }
+        left -= 1;
+        from += 1029;
+    }
+    true
+}
+
+// ---- rows
+
+// A word is one.
+fn fits(x: u64)
+    ensures { λ r. ⌜ x < 2 ^ 64 ⌝ }
+{}
+
+// The words of an entry, and of the identifier of a reserved one.
+fn entry_ok(row: Row) -> bool
+    ensures { λ r. ⌜ r ≡ rowOk row ⌝ }
+    ensures { λ r. ⌜ holderOk row ≡ true ⌝ }
+    ensures { λ r. ⌜ (r ≡ true → at 0 row < 2 ^ 63) ⌝ }
+{
+    fits(row[3]);
+    fits(row[4]);
+    fits(row[6]);
+    let seq = row[0];
+    (1 <= seq) & (seq < SEQ_END)
+}
+
+// rows[from..to].
+fn entries_ok(rows: &[Row], from: usize, to: usize) -> bool
+    requires { ⌜ from ≤ to ⌝ }
+    requires { do ⌜ to ≤ (← ⟦rows.len()⟧) ⌝ }
+    ensures { λ r. ⌜ r ≡ all rowOk (slice from to (now (rows .entry))) ⌝ }
+    ensures { λ r. ⌜ (r ≡ true → all holderOk (slice from to (now (rows .entry))) ≡ true) ⌝ }
+{
+    let mut i = from;
+    while i < to {
+        if !entry_ok(rows[i]) {
+            return false;
+        }
+        i += 1;
+    }
+    true
+}
+
+// rows[from..to] by rising sequence number.
+fn sorted_ok(rows: &[Row], from: usize, to: usize) -> bool
+    requires { ⌜ from ≤ to ⌝ }
+    requires { do ⌜ to ≤ (← ⟦rows.len()⟧) ⌝ }
+    ensures { λ r. ⌜ r ≡ sortedOk 0 (slice from to (now (rows .entry))) ⌝ }
+{
+    let mut least = 0;
+    let mut i = from;
+    while i < to {
+        let row = rows[i];
+        let seq = row[0];
+        if !entry_ok(row) {
+            return false;
+        }
+        if seq < least {
+            return false;
+        }
+        least = seq + 1;
+        i += 1;
+    }
+    true
+}
+
+// A consumer's rows in flight, rows[from..to]: delivery numbers rise and are below the next one, and the freed ones are counted.
+fn flying_ok(rows: &[Row], from: usize, to: usize, next: u64, freed: u64) -> bool
+    requires { ⌜ from ≤ to ⌝ }
+    requires { do ⌜ to ≤ (← ⟦rows.len()⟧) ⌝ }
+    ensures { λ r. ⌜ r ≡ flyingOk 0 0 next freed (slice from to (now (rows .entry))) ⌝ }
+{
+    let mut least = 0;
+    let mut count = 0;
+    let mut i = from;
+    while i < to {
+        let row = rows[i];
+        let dseq = row[6];
+        if !entry_ok(row) {
+            return false;
+        }
+        if dseq < least {
+            return false;
+        }
+        if next <= dseq {
+            return false;
+        }
+        least = dseq + 1;
+        count += (row[7] != 0) as u64;
+        i += 1;
+    }
+    freed == count
+}
+
+// ---- consumers
+
+// How many rows the first n consumers have; 513 for more than 512.
+fn sub_rows(subs: &[SubRow], n: usize) -> usize
+    requires { do ⌜ n ≤ (← ⟦subs.len()⟧) ⌝ }
+    ensures { λ r. ⌜ r ≡ rowsUpTo (subRows (take n (now (subs .entry)))) ⌝ }
+{
+    let mut room: u64 = 512;
+    let mut i = 0;
+    while i < n {
+        let w = subs[i];
+        let inflight = w[14];
+        let held = w[15];
+        if room < inflight {
+            return 513;
+        }
+        room -= inflight;
+        if room < held {
+            return 513;
+        }
+        room -= held;
+        i += 1;
+    }
+    (512 - room) as usize
+}
+
+// The words of one consumer by themselves: on a queue it holds rows only if it browses.
+fn words_ok(w: SubRow, most: u64, on_queue: bool) -> bool
+    ensures { λ r. ⌜ r ≡ every (wordTests «on_queue» most w) ⌝ }
+    ensures { λ r. ⌜ idOk (idAt w) ≡ true ⌝ }
+{
+    fits(w[0]);
+    let pull = (w[10] == 0) | (w[11] <= most);
+    let place = !on_queue | ((w[6] != 0) | (w[15] == 0));
+    (w[3] < PREFETCH_END)
+        & ((w[4] <= 64)
+            & ((w[9] < SEQ_END) & ((w[8] <= most) & ((w[12] <= most) & (pull & (place & true))))))
+}
+
+// One consumer, whose rows start at base.
+fn sub_ok(w: SubRow, rows: &[Row], base: usize, most: u64, on_queue: bool) -> bool
+    requires { do ⌜ base + (at 14 w + at 15 w) ≤ (← ⟦rows.len()⟧) ⌝ }
+    ensures { λ r. ⌜ r ≡ ownSound (kindBy «on_queue») most (subAt (kindBy «on_queue») w (take (at 14 w) (drop base (now (rows .entry)))) (take (at 15 w) (drop (at 14 w) (drop base (now (rows .entry)))))) ⌝ }
+{
+    if !words_ok(w, most, on_queue) {
+        return false;
+    }
+    let mid = base + w[14] as usize;
+    let end = mid + w[15] as usize;
+    if !flying_ok(rows, base, mid, w[8], w[13]) {
+        return false;
+    }
+    if on_queue {
+        return entries_ok(rows, mid, end);
+    }
+    sorted_ok(rows, mid, end)
+}
+
+// The first n consumers.
+fn subs_ok(subs: &[SubRow], n: usize, rows: &[Row], most: u64, on_queue: bool) -> bool
+    requires { do ⌜ n ≤ (← ⟦subs.len()⟧) ⌝ }
+    requires { do ⌜ subRows (take n (now subs)) ≤ (← ⟦rows.len()⟧) ⌝ }
+    ensures { λ r. ⌜ r ≡ all (ownSound (kindBy «on_queue») most) (subsAt (kindBy «on_queue») (take n (now (subs .entry))) (now (rows .entry))) ⌝ }
+{
+    let mut base = 0;
+    let mut i = 0;
+    while i < n {
+        let w = subs[i];
+        if !sub_ok(w, rows, base, most, on_queue) {
+            return false;
+        }
+        base += w[14] as usize + w[15] as usize;
+        i += 1;
+    }
+    true
+}
+
+// ---- identifiers
+
+// Whether two identifiers are one: equal words hold equal numbers.
+fn same_id(conn: u64, session: u64, value: u64, conn2: u64, session2: u64, value2: u64) -> bool
+    ensures { λ r. ⌜ r ≡ sameId (idOf conn session value) (idOf conn2 session2 value2) ⌝ }
+{
+    (conn == conn2) & ((session == session2) & (value == value2))
+}
+
+// No consumer from place i on has this identifier.
+fn alone(subs: &[SubRow], from: usize, n: usize, conn: u64, session: u64, value: u64) -> bool
+    requires { ⌜ from ≤ n ⌝ }
+    requires { do ⌜ n ≤ (← ⟦subs.len()⟧) ⌝ }
+    ensures { λ r. ⌜ r ≡ all (λ v. not (sameId (idAt v) (idOf conn session value))) (slice from n (now (subs .entry))) ⌝ }
+{
+    let mut i = from;
+    while i < n {
+        let w = subs[i];
+        if same_id(w[0], w[1], w[2], conn, session, value) {
+            return false;
+        }
+        i += 1;
+    }
+    true
+}
+
+fn ids_apart(subs: &[SubRow], n: usize) -> bool
+    requires { do ⌜ n ≤ (← ⟦subs.len()⟧) ⌝ }
+    ensures { λ r. ⌜ r ≡ idsApart (take n (now (subs .entry))) ⌝ }
+{
+    let mut i = 0;
+    while i < n {
+        let w = subs[i];
+        if !alone(subs, i + 1, n, w[0], w[1], w[2]) {
+            return false;
+        }
+        i += 1;
+    }
+    true
+}
+
+// ---- sequence numbers
+
+// Copies the sequence numbers of n rows from place from into out, from place start.
+fn gather(rows: &[Row], from: usize, n: usize, out: &mut [u64], start: usize)
+    requires { do ⌜ from + n ≤ (← ⟦rows.len()⟧) ⌝ }
+    requires { do ⌜ start + n ≤ (← ⟦out.len()⟧) ⌝ }
+    ensures { λ r. ⌜ take (start + n) (now (out .exit)) ≡ take start (now (out .entry)) ++ seqsAt (take n (drop from (now (rows .entry)))) ⌝ }
+{
+    let mut i = 0;
+    while i < n {
+        let row = rows[from + i];
+        out[start + i] = row[0];
+        i += 1;
+    }
+}
+
+// Whether n rows from place from have different numbers, where that is asked.
+fn rows_apart(rows: &[Row], from: usize, n: usize, out: &mut [u64], asked: bool) -> bool
+    requires { do ⌜ from + n ≤ (← ⟦rows.len()⟧) ⌝ }
+    requires { do ⌜ n ≤ (← ⟦out.len()⟧) ⌝ }
+    ensures { λ r. ⌜ r ≡ (not asked || distinct (seqsAt (take n (drop from (now (rows .entry)))))) ⌝ }
+{
+    if !asked {
+        return true;
+    }
+    gather(rows, from, n, out, 0);
+    distinct::distinct(out, n)
+}
+
+// Each consumer's rows; on a queue only a browser's, since the others are looked at together.
+fn subs_apart(subs: &[SubRow], n: usize, rows: &[Row], out: &mut [u64], on_queue: bool) -> bool
+    requires { do ⌜ n ≤ (← ⟦subs.len()⟧) ⌝ }
+    requires { do ⌜ subRows (take n (now subs)) ≤ (← ⟦rows.len()⟧) ⌝ }
+    requires { do ⌜ subRows (take n (now subs)) ≤ (← ⟦out.len()⟧) ⌝ }
+    ensures { λ r. ⌜ r ≡ all (apartBy (kindBy «on_queue»)) (subsAt (kindBy «on_queue») (take n (now (subs .entry))) (now (rows .entry))) ⌝ }
+{
+    let mut base = 0;
+    let mut i = 0;
+    while i < n {
+        let w = subs[i];
+        let k = w[14] as usize + w[15] as usize;
+        let asked = !on_queue | (w[6] != 0);
+        if !rows_apart(rows, base, k, out, asked) {
+            return false;
+        }
+        base += k;
+        i += 1;
+    }
+    true
+}
+
+// How many of a consumer's rows are a queue's entries: a browser's are copies.
+fn taken_of(w: SubRow) -> usize
+    ensures { λ r. ⌜ r ≡ (if flag (at 6 w) then 0 else at 14 w) ⌝ }
+{
+    if w[6] != 0 {
+        return 0;
+    }
+    w[14] as usize
+}
+
+// Gathers a queue's entries in flight; returns where they end.
+fn gather_taken(subs: &[SubRow], n: usize, rows: &[Row], out: &mut [u64], start: usize) -> usize
+    requires { do ⌜ n ≤ (← ⟦subs.len()⟧) ⌝ }
+    requires { do ⌜ subRows (take n (now subs)) ≤ (← ⟦rows.len()⟧) ⌝ }
+    requires { do ⌜ start + subRows (take n (now subs)) ≤ (← ⟦out.len()⟧) ⌝ }
+    ensures { λ r. ⌜ take r (now (out .exit)) ≡ take start (now (out .entry)) ++ seqs (taken (subsAt queue (take n (now (subs .entry))) (now (rows .entry)))) ⌝ }
+{
+    let mut end = start;
+    let mut base = 0;
+    let mut i = 0;
+    while i < n {
+        let w = subs[i];
+        let k = taken_of(w);
+        gather(rows, base, k, out, end);
+        end += k;
+        base += w[14] as usize + w[15] as usize;
+        i += 1;
+    }
+    end
+}
+
+// A queue's waiting, reserved and taken entries.
+fn queue_apart(
+    subs: &[SubRow],
+    n: usize,
+    rows: &[Row],
+    others: usize,
+    reserved: usize,
+    waiting: usize,
+    out: &mut [u64],
+) -> bool
+    requires { do ⌜ n ≤ (← ⟦subs.len()⟧) ⌝ }
+    requires { ⌜ others ≡ subRows (take n (now subs)) ⌝ }
+    requires { do ⌜ others + (reserved + waiting) ≤ (← ⟦rows.len()⟧) ⌝ }
+    requires { do ⌜ others + (reserved + waiting) ≤ (← ⟦out.len()⟧) ⌝ }
+    ensures { λ r. ⌜ r ≡ distinct (queueSeqs others reserved waiting (take n (now (subs .entry))) (now (rows .entry))) ⌝ }
+{
+    gather(rows, others + reserved, waiting, out, 0);
+    gather(rows, others, reserved, out, waiting);
+    let end = gather_taken(subs, n, rows, out, waiting + reserved);
+    distinct::distinct(out, end)
+}
+
+fn all_apart(
+    subs: &[SubRow],
+    n: usize,
+    rows: &[Row],
+    others: usize,
+    reserved: usize,
+    waiting: usize,
+    on_queue: bool,
+    out: &mut [u64],
+) -> bool
+    requires { do ⌜ n ≤ (← ⟦subs.len()⟧) ⌝ }
+    requires { ⌜ others ≡ subRows (take n (now subs)) ⌝ }
+    requires { do ⌜ others + (reserved + waiting) ≤ (← ⟦rows.len()⟧) ⌝ }
+    requires { do ⌜ others + (reserved + waiting) ≤ (← ⟦out.len()⟧) ⌝ }
+    ensures { λ r. ⌜ r ≡ (queueApart (kindBy «on_queue») others reserved waiting (take n (now (subs .entry))) (now (rows .entry)) && all (apartBy (kindBy «on_queue»)) (subsAt (kindBy «on_queue») (take n (now (subs .entry))) (now (rows .entry)))) ⌝ }
+{
+    if on_queue {
+        if !queue_apart(subs, n, rows, others, reserved, waiting, out) {
+            return false;
+        }
+        return subs_apart(subs, n, rows, out, on_queue);
+    }
+    subs_apart(subs, n, rows, out, on_queue)
+}
+
+// With room for the numbers: few rows need little, which is sooner cleared.
+fn apart(
+    subs: &[SubRow],
+    n: usize,
+    rows: &[Row],
+    others: usize,
+    reserved: usize,
+    waiting: usize,
+    on_queue: bool,
+) -> bool
+    requires { do ⌜ n ≤ (← ⟦subs.len()⟧) ⌝ }
+    requires { ⌜ others ≡ subRows (take n (now subs)) ⌝ }
+    requires { do ⌜ others + (reserved + waiting) ≤ (← ⟦rows.len()⟧) ⌝ }
+    requires { ⌜ others + (reserved + waiting) ≤ 512 ⌝ }
+    ensures { λ r. ⌜ r ≡ (queueApart (kindBy «on_queue») others reserved waiting (take n (now (subs .entry))) (now (rows .entry)) && all (apartBy (kindBy «on_queue»)) (subsAt (kindBy «on_queue») (take n (now (subs .entry))) (now (rows .entry)))) ⌝ }
+{
+    if others + (reserved + waiting) <= 32 {
+        let mut few = [0u64; 32];
+        return all_apart(subs, n, rows, others, reserved, waiting, on_queue, &mut few);
+    }
+    let mut many = [0u64; 512];
+    all_apart(
+        subs,
+        n,
+        rows,
+        others,
+        reserved,
+        waiting,
+        on_queue,
+        &mut many,
+    )
+}
+
+// ---- all
+
+// The consumers and the rows, whose counts fit.
+fn tables_ok(
+    subs: &[SubRow],
+    n: usize,
+    rows: &[Row],
+    others: usize,
+    reserved: usize,
+    waiting: usize,
+    most: u64,
+    on_queue: bool,
+) -> bool
+    requires { do ⌜ n ≤ (← ⟦subs.len()⟧) ⌝ }
+    requires { ⌜ others ≡ subRows (take n (now subs)) ⌝ }
+    requires { do ⌜ others + (reserved + waiting) ≤ (← ⟦rows.len()⟧) ⌝ }
+    requires { ⌜ others + (reserved + waiting) ≤ 512 ⌝ }
+    ensures { λ r. ⌜ r ≡ tablesOk (kindBy «on_queue») most others reserved waiting (take n (now (subs .entry))) (now (rows .entry)) ⌝ }
+{
+    let first = others + reserved;
+    let place = on_queue | (reserved + waiting == 0);
+    let each = subs_ok(subs, n, rows, most, on_queue);
+    let ids = ids_apart(subs, n);
+    let kept = entries_ok(rows, others, first);
+    let sorted = sorted_ok(rows, first, first + waiting);
+    let seqs = apart(subs, n, rows, others, reserved, waiting, on_queue);
+    place & (each & (ids & (kept & (sorted & (seqs & true)))))
+}
+
+// What follows the head's own numbers.
+fn rest_ok(head: &[u64], subs: &[SubRow], rows: &[Row]) -> bool
+    requires { do ⌜ 8345 ≤ (← ⟦head.len()⟧) ⌝ }
+    requires { do ⌜ 32 ≤ (← ⟦subs.len()⟧) ⌝ }
+    requires { do ⌜ 512 ≤ (← ⟦rows.len()⟧) ⌝ }
+    requires { ⌜ headOk (now head) ≡ true ⌝ }
+    ensures { λ r. ⌜ r ≡ restOk (lent (now (head .entry)) (now (subs .entry)) (now (rows .entry))) ⌝ }
+{
+    let reserved = head[15] as usize;
+    let waiting = head[16] as usize;
+    if 512 < reserved {
+        return false;
+    }
+    if 512 < waiting {
+        return false;
+    }
+    let n = head[12] as usize;
+    let others = sub_rows(subs, n);
+    if 512 < others + (reserved + waiting) {
+        return false;
+    }
+    let rings = rings_ok(head, head[14]);
+    let most = 65536 * head[3] + 1;
+    rings & tables_ok(subs, n, rows, others, reserved, waiting, most, head[0] == 0)
+}
+
+// Whether the buffers are long enough.
+pub fn whole(head: &[u64], subs: &[SubRow], rows: &[Row]) -> bool
+    ensures { λ r. ⌜ r ≡ not (stateShort (lengthsOf (lent (now (head .entry)) (now (subs .entry)) (now (rows .entry))) 0)) ⌝ }
+{
+    !((head.len() < 8345) | ((subs.len() < 32) | (rows.len() < 512)))
+}
+
+// Whether they are long enough and the layout of a sound state.
+pub fn sound(head: &[u64], subs: &[SubRow], rows: &[Row]) -> bool
+    ensures { λ r. ⌜ r ≡ (not (stateShort (lengthsOf (lent (now (head .entry)) (now (subs .entry)) (now (rows .entry))) 0)) && soundBuffers (lent (now (head .entry)) (now (subs .entry)) (now (rows .entry)))) ⌝ }
+{
+    if !whole(head, subs, rows) {
+        return false;
+    }
+    if !head_ok(head) {
+        return false;
+    }
+    rest_ok(head, subs, rows)
+}

@@ -1,0 +1,245 @@
+-- A turn of the loop over all consumers: what the definition says of the tables before it, it says of the tables after it. Assumes nothing.
+use mathlib.Core.Path.{_≡_, sym, ap, ap₂, _∙_}
+use mathlib.Core.Bool.{Bool, true, and-eq-true-iff}
+use mathlib.Core.List.{List, [], _∷_, _++_, append-assoc, append-nil, map, map-append}
+use Prim.Native.Nat.{ℕ, suc, _+_, _-_, _≤_, _<_}
+use native.Mathlib.Numerals.{add-one}
+use native.Mathlib.Omega.{arith}
+use borrow.Author.Tests.{le-leb}
+use lib.ListN.{length, take, drop, getD, set}
+use lib.Seq.{drop-cons, drop-drop, take-suc-set, drop-length}
+use Rattle.stats.specs.declared.Stats.{Stats}
+use Rattle.definition.specs.Base.{all}
+use Rattle.definition.specs.Types.{topic}
+use Rattle.definition.specs.Types as Def
+use Rattle.definition.specs.Consumer.{_⊕_, Step, serveTopic}
+use Rattle.definition.specs.Destination.{Served, serveAll}
+use Rattle.definition.specs.Words.{at}
+use Rattle.definition.specs.Layout.{Row, inflightOf, heldOf, subAt, subsAt, subRows, eventWords}
+use Rattle.definition.proofs.Local.{⊕-zero, ⊕-assoc}
+use Rattle.consumers.specs.declared.Sub.{Sub}
+use Rattle.consumers.specs.Consumers.{subOf, subWords}
+use Rattle.consumers.proofs.View.{sub-at, sub-stored, subs-append, subs-agree, rows-append}
+use Rattle.state.specs.declared.Head.{Head}
+use Rattle.topics.specs.Topics.{Seen, seen, ran, Kept, moved}
+use Rattle.topics.specs.Dispatched.{windowed}
+use Rattle.topics.proofs.Turn.{agree-drop}
+
+-- the consumers, the rows after theirs, the counters and the events
+pub record Whole : Type 0 where
+  pub subs : List Def.Sub
+  pub others : List Row
+  pub stats : Stats
+  pub events : List Row
+
+-- with the consumers that are done before those that the definition has yet to serve
+abbrev ended : List Def.Sub → List Row → Stats → List Row → Served → Whole
+ended done others stats events x = record { subs = done ++ x .subs; others = others; stats = stats ⊕ x .counts; events = events ++ map eventWords (x .events) }
+
+-- what the definition says when i of the consumers ws are done, whose rows end at base
+pub whole : ℕ → List Row → ℕ → ℕ → Head → List Row → List Row → List Row → Whole
+whole now ws i base d subs rows events =
+    ended (subsAt topic (take i subs) rows) (take (d .reserved + d .waiting) (drop (base + subRows (drop i ws)) rows)) (d .stats) (take (d .events) events)
+    (serveAll now (subsAt topic (drop i ws) (drop base rows)))
+
+-- at the start
+pub whole-start : (now : ℕ) (ws : List Row) (d : Head) (subs rows events : List Row)
+    → whole now ws 0 0 d subs rows events ≡ ended [] (take (d .reserved + d .waiting) (drop (subRows ws) rows)) (d .stats) (take (d .events) events) (serveAll now (subsAt topic ws rows))
+unfolding whole subsAt
+whole-start now ws d subs rows events =
+    let e : 0 + subRows ws ≡ subRows ws = omega arith in
+    ap (λ (n : ℕ). ended [] (take (d .reserved + d .waiting) (drop n rows)) (d .stats) (take (d .events) events) (serveAll now (subsAt topic ws rows))) e
+
+-- at the end
+pub whole-end : (now : ℕ) (ws : List Row) (i base : ℕ) (d : Head) (subs rows events : List Row) → i ≡ length ws
+    → whole now ws i base d subs rows events ≡ record { subs = subsAt topic (take i subs) rows; others = take (d .reserved + d .waiting) (drop base rows); stats = d .stats; events = take (d .events) events }
+unfolding whole subsAt subRows serveAll
+whole-end now ws i base d subs rows events e =
+    let none : drop i ws ≡ [] = ap (λ (n : ℕ). drop n ws) e ∙ drop-length ws in
+    let z : base + 0 ≡ base = omega arith in
+    ap (λ (l : List Row). ended (subsAt topic (take i subs) rows) (take (d .reserved + d .waiting) (drop (base + subRows l) rows)) (d .stats) (take (d .events) events) (serveAll now (subsAt topic l (drop base rows)))) none
+    ∙ (λ j. record {
+      subs = append-nil (subsAt topic (take i subs) rows) j;
+      others = take (d .reserved + d .waiting) (drop (z j) rows);
+      stats = ⊕-zero (d .stats) j;
+      events = append-nil (take (d .events) events) j;
+    })
+
+-- the counts, with i consumers done
+pub record Ready (ws : List Row) (i base : ℕ) (d₀ d : Head) : Type 0 where
+  pub rows : base + subRows (drop i ws) + (d .reserved + d .waiting) ≡ d .used
+  pub used : d .used ≤ d₀ .used
+  pub events : d .events + subRows (drop i ws) ≤ d₀ .events + d₀ .used
+  pub expired : d .stats .expired + subRows (drop i ws) ≤ d₀ .stats .expired + d₀ .used
+  pub dispatched : d .stats .dispatched + subRows (drop i ws) ≤ d₀ .stats .dispatched + d₀ .used
+  pub head : d ≡ moved d₀ d
+
+all-append : (p : Row → Bool) (l : List Row) (x : Row) → all p l ≡ true → p x ≡ true → all p (l ++ (x ∷ [])) ≡ true
+all-append p [] x h k = rw k
+all-append p (y ∷ l) x h k =
+    let q = and-eq-true-iff (p y) (all p l) .0 h in
+    rw (q .0) (all-append p l x (q .1) k)
+
+spans : (u v b f h f′ h′ : ℕ) → u + (f + h) ≡ v + (f′ + h′) → u - (b + f′ + h′) ≡ v - (b + f + h)
+spans u v b f h f′ h′ e = omega arith
+
+-- the rows that are left: those of the next consumer, and the rest
+pub left-size : (ws : List Row) (i : ℕ) → i < length ws → subRows (drop i ws) ≡ subOf (getD ws i []) .inflight + (subOf (getD ws i []) .held + subRows (drop (suc i) ws))
+unfolding subRows subOf
+left-size ws i h = ap subRows (drop-cons ws i [] h)
+
+module _ (now : ℕ) (ws : List Row) (i base : ℕ) (d₀ d : Head) (subs rows events rows′ events′ : List Row) (t : Sub) (r : Head)
+    (more : i < length ws)
+    (within : i < length subs)
+    (ready : Ready ws i base d₀ d)
+    (ends : base ≡ subRows (take i subs))
+    (kept : Kept base (subOf (getD ws i [])) d t r)
+    (said : seen base t r rows′ events′ ≡ ran now (seen base (subOf (getD ws i [])) d rows events))
+  where
+    abbrev w : Row
+    w = getD ws i []
+
+    abbrev s : Sub
+    s = subOf w
+
+    abbrev post : List Row
+    post = drop (suc i) ws
+
+    abbrev v : Seen
+    v = seen base s d rows events
+
+    abbrev a : Step
+    a = serveTopic now (v .sub)
+
+    -- where the consumer's rows ended, and where they end
+    abbrev end : ℕ
+    end = base + s .inflight + s .held
+
+    abbrev end′ : ℕ
+    end′ = base + t .inflight + t .held
+
+    abbrev subs′ : List Row
+    subs′ = set subs i (subWords t)
+
+    drop-is : drop i ws ≡ w ∷ post
+    drop-is = drop-cons ws i [] more
+
+    left-is : drop (i + 1) ws ≡ post
+    left-is = ap (λ (n : ℕ). drop n ws) (add-one i)
+
+    size : subRows (drop i ws) ≡ s .inflight + (s .held + subRows post)
+    size = left-size ws i more
+
+    pub ready-turn : Ready ws (i + 1) end′ d₀ r
+    ready-turn =
+        let z : subRows (drop (i + 1) ws) ≡ subRows post = ap subRows left-is in
+        let res : r .reserved ≡ d .reserved = ap (λ (x : Head). x .reserved) (kept .head) in
+        let wait : r .waiting ≡ d .waiting = ap (λ (x : Head). x .waiting) (kept .head) in
+        let y = size in
+        record {
+          rows = omega arith;
+          used = omega arith;
+          events = omega arith;
+          expired = omega arith;
+          dispatched = omega arith;
+          head = kept .head ∙ ap (λ (x : Head). moved x r) (ready .head);
+        }
+
+    pre-is : take (i + 1) subs′ ≡ take i subs ++ (subWords t ∷ [])
+    pre-is = ap (λ (n : ℕ). take n subs′) (add-one i) ∙ take-suc-set subs i (subWords t) within
+
+    pub ends-turn : end′ ≡ subRows (take (i + 1) subs′)
+    unfolding subRows subWords
+    ends-turn =
+        let q : subRows (take (i + 1) subs′) ≡ subRows (take i subs) + subRows (subWords t ∷ []) = ap subRows pre-is ∙ rows-append (take i subs) (subWords t ∷ []) in
+        omega arith
+
+    pub windows-turn : at 13 w ≤ at 14 w → all windowed (take i subs) ≡ true → all windowed (take (i + 1) subs′) ≡ true
+    unfolding subWords subOf
+    windows-turn h k = rw pre-is (all-append windowed (take i subs) (subWords t) k (le-leb (t .freed) (t .inflight) (omega (arith, kept .freed, kept .flying))))
+
+    -- the consumers that are done
+    front : subsAt topic (take (i + 1) subs′) rows′ ≡ subsAt topic (take i subs) rows ++ (a .sub ∷ [])
+    unfolding subsAt seen subWords
+    front =
+        let pre : List Row = take i subs in
+        let first : subsAt topic pre rows′ ≡ subsAt topic pre rows = subs-agree topic pre base rows′ rows (omega arith) (ap (λ (x : Seen). x .before) said) in
+        let f : List Row = take (t .inflight) (drop base rows′) in
+        let mine : subAt topic (subWords t) f (take (t .held) (drop (t .inflight) (drop base rows′))) ≡ a .sub =
+        ap (λ (x : List Row). subAt topic (subWords t) f (take (t .held) x)) (drop-drop (t .inflight) base rows′)
+        ∙ sub-stored topic t f (take (t .held) (drop (base + t .inflight) rows′))
+        ∙ ap (λ (x : Seen). x .sub) said in
+        ap (λ (l : List Row). subsAt topic l rows′) pre-is
+        ∙ subs-append topic pre (subWords t ∷ []) rows′
+        ∙ ap₂ (λ (x : List Def.Sub) (n : ℕ). x ++ subsAt topic (subWords t ∷ []) (drop n rows′)) first (sym ends)
+        ∙ ap (λ (x : Def.Sub). subsAt topic pre rows ++ (x ∷ [])) mine
+
+    -- the rows after the consumer's are as they were
+    abbrev n : ℕ
+    n = d .used - end
+
+    agrees : take n (drop end′ rows′) ≡ take n (drop end rows)
+    unfolding seen
+    agrees =
+        let g : r .used - end′ ≡ n = spans (r .used) (d .used) base (s .inflight) (s .held) (t .inflight) (t .held) (kept .tail) in
+        ap (λ (m : ℕ). take m (drop end′ rows′)) (sym g) ∙ ap (λ (x : Seen). x .after) said
+
+    abbrev tail : List Row
+    tail = drop (heldOf w) (drop (inflightOf w) (drop base rows))
+
+    tail-is : tail ≡ drop end rows
+    unfolding subOf
+    tail-is =
+        let e : base + (inflightOf w + heldOf w) ≡ base + inflightOf w + heldOf w = omega arith in
+        drop-drop (heldOf w) (inflightOf w) (drop base rows) ∙ drop-drop (inflightOf w + heldOf w) base rows ∙ ap (λ (m : ℕ). drop m rows) e
+
+    fits : subRows post ≤ n
+    fits = let y = size in let z = ready .rows in omega arith
+
+    back : subsAt topic (drop (i + 1) ws) (drop end′ rows′) ≡ subsAt topic post tail
+    back = ap (λ (l : List Row). subsAt topic l (drop end′ rows′)) left-is ∙ subs-agree topic post n (drop end′ rows′) tail fits (agrees ∙ ap (take n) (sym tail-is))
+
+    others : take (r .reserved + r .waiting) (drop (end′ + subRows (drop (i + 1) ws)) rows′) ≡ take (d .reserved + d .waiting) (drop (base + subRows (drop i ws)) rows)
+    others =
+        let m : ℕ = subRows post in
+        let y = size in
+        let z = ready .rows in
+        let res : r .reserved ≡ d .reserved = ap (λ (x : Head). x .reserved) (kept .head) in
+        let wait : r .waiting ≡ d .waiting = ap (λ (x : Head). x .waiting) (kept .head) in
+        let count : r .reserved + r .waiting ≡ n - m = omega arith in
+        let count₀ : n - m ≡ d .reserved + d .waiting = omega arith in
+        let from : end + m ≡ base + subRows (drop i ws) = omega arith in
+        ap₂ (λ (x : ℕ) (l : List Row). take x (drop (end′ + subRows l) rows′)) count left-is
+        ∙ ap (take (n - m)) (sym (drop-drop m end′ rows′))
+        ∙ agree-drop m n (drop end′ rows′) (drop end rows) agrees fits
+        ∙ ap₂ take count₀ (drop-drop m end rows ∙ ap (λ (x : ℕ). drop x rows) from)
+
+    -- the definition serves this consumer, then the rest
+    one : subAt topic w (take (inflightOf w) (drop base rows)) (take (heldOf w) (drop (inflightOf w) (drop base rows))) ≡ v .sub
+    unfolding seen subOf
+    one =
+        let f : List Row = take (inflightOf w) (drop base rows) in
+        ap (λ (x : List Row). subAt topic w f (take (heldOf w) x)) (drop-drop (inflightOf w) base rows) ∙ sub-at topic w f (take (heldOf w) (drop (base + inflightOf w) rows))
+
+    abbrev x : Served
+    x = serveAll now (subsAt topic post tail)
+
+    served : serveAll now (subsAt topic (drop i ws) (drop base rows)) ≡ record { subs = a .sub ∷ x .subs; counts = a .counts ⊕ x .counts; events = a .events ++ x .events }
+    unfolding serveAll subsAt
+    served =
+        ap (λ (l : List Row). serveAll now (subsAt topic l (drop base rows))) drop-is
+        ∙ ap (λ (y : Def.Sub). serveAll now (y ∷ subsAt topic post tail)) one
+
+    pub whole-turn : whole now ws (i + 1) end′ r subs′ rows′ events′ ≡ whole now ws i base d subs rows events
+    unfolding whole seen
+    whole-turn =
+        let p : List Def.Sub = subsAt topic (take i subs) rows in
+        let o : List Row = take (d .reserved + d .waiting) (drop (base + subRows (drop i ws)) rows) in
+        (λ j. ended (front j) (others j) (said j .stats) (said j .events) (serveAll now (back j)))
+        ∙ (λ j. record {
+          subs = append-assoc p (a .sub ∷ []) (x .subs) j;
+          others = o;
+          stats = ⊕-assoc (d .stats) (a .counts) (x .counts) j;
+          events = (append-assoc (take (d .events) events) (map eventWords (a .events)) (map eventWords (x .events)) ∙ ap (λ (l : List Row). take (d .events) events ++ l) (sym (map-append eventWords (a .events) (x .events)))) j;
+        })
+        ∙ ap (ended p o (d .stats) (take (d .events) events)) (sym served)

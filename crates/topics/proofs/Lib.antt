@@ -1,0 +1,5 @@
+pub mod Serve
+pub mod Turn
+pub mod All
+pub mod Round
+pub mod Answers

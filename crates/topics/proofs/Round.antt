@@ -1,0 +1,221 @@
+-- What holds while a topic's consumers are served one after the other, and what it says when all are. Assumes nothing.
+use mathlib.Core.Path.{_≡_, refl, sym, ap, ap₂, _∙_}
+use mathlib.Core.Bool.{true, false}
+use mathlib.Core.List.{List, [], _++_, map}
+use Prim.Native.Nat.{ℕ, suc, _+_, _-_, _≤_, _<_, _^_}
+use native.Mathlib.Omega.{arith}
+use lib.ListN.{length, take, drop, getD, set, length-set}
+use lib.Seq.{length-take-le, getD-take, drop-length, drop-drop, drop-set-lt}
+use Rattle.entry.specs.Entry.{entryOf}
+use Rattle.definition.specs.Base.{all}
+use Rattle.definition.specs.Types.{Kind, topic, Id, Audit}
+use Rattle.definition.specs.Consumer.{_⊕_}
+use Rattle.definition.specs.Destination.{serveAll, dispatchTopic}
+use Rattle.definition.specs.Words.{at}
+use Rattle.definition.specs.Layout.{Row, heldAt, subsAt, subRows, eventWords}
+use Rattle.table.proofs.Lists.{same-after}
+use Rattle.consumers.specs.declared.Sub.{Sub}
+use Rattle.consumers.specs.Consumers.{subOf, subWords}
+use Rattle.consumers.proofs.Laws.{fitting-at}
+use Rattle.state.specs.declared.Head.{Head}
+use Rattle.state.specs.State.{headView, kindBy}
+use Rattle.state.specs.Fits.{Fits}
+use Rattle.topics.specs.Topics.{seen, ran, Fine, Kept, moved}
+use Rattle.topics.specs.Dispatched.{windowed, Dispatched}
+use Rattle.topics.proofs.Turn.{agree-take, agree-drop}
+use Rattle.topics.proofs.All.{Whole, whole, whole-start, whole-end, Ready, ready-turn, ends-turn, windows-turn, whole-turn, left-size}
+
+pub record Round (now : ℕ) (subs₀ rows₀ events₀ : List Row) (d₀ : Head) (subs rows events : List Row) (d : Head) (base i : ℕ) : Type 0 where
+  pub within : i ≤ d₀ .consumers
+  pub same-subs : length subs ≡ length subs₀
+  pub same-rows : length rows ≡ length rows₀
+  pub same-events : length events ≡ length events₀
+  pub rest : drop i subs ≡ drop i subs₀
+  pub ready : Ready (take (d₀ .consumers) subs₀) i base d₀ d
+  pub ends : base ≡ subRows (take i subs)
+  pub windows : all windowed (take i subs) ≡ true
+  pub later : drop (d .events) events ≡ drop (d .events) events₀
+  pub said : whole now (take (d₀ .consumers) subs₀) i base d subs rows events ≡ whole now (take (d₀ .consumers) subs₀) 0 0 d₀ subs₀ rows₀ events₀
+
+-- lists that agree from a place on agree from a later one on
+rise : (m n : ℕ) (x y : List Row) → m ≤ n → drop m x ≡ drop m y → drop n x ≡ drop n y
+rise m n x y h q =
+    let e : m + (n - m) ≡ n = omega arith in
+    ap (λ (k : ℕ). drop k x) (sym e) ∙ sym (drop-drop (n - m) m x) ∙ ap (drop (n - m)) q ∙ drop-drop (n - m) m y ∙ ap (λ (k : ℕ). drop k y) e
+
+module _ (now : ℕ) (subs₀ rows₀ events₀ : List Row) (d₀ : Head) (fits : Fits subs₀ d₀ (length rows₀) (length events₀)) where
+  abbrev ws : List Row
+  ws = take (d₀ .consumers) subs₀
+
+  size : length ws ≡ d₀ .consumers
+  size = length-take-le (d₀ .consumers) subs₀ (omega arith)
+
+  pub round-start : Round now subs₀ rows₀ events₀ d₀ subs₀ rows₀ events₀ d₀ 0 0
+  unfolding subRows
+  round-start = let u = fits .rows-used in record {
+    within = omega arith;
+    same-subs = refl;
+    same-rows = refl;
+    same-events = refl;
+    rest = refl;
+    ready = record { rows = omega arith; used = omega arith; events = omega arith; expired = omega arith; dispatched = omega arith; head = refl };
+    ends = refl;
+    windows = refl;
+    later = refl;
+    said = refl;
+  }
+
+  module _ (subs rows events : List Row) (d : Head) (base i : ℕ) (g : Round now subs₀ rows₀ events₀ d₀ subs rows events d base i) where
+    module _ (less : i < d₀ .consumers) where
+      abbrev w : Row
+      w = getD ws i []
+
+      here : i < length ws
+      here = omega (arith, size)
+
+      row-is : getD subs i [] ≡ w
+      row-is = same-after i i subs subs₀ [] (g .rest) (omega arith) ∙ sym (getD-take (d₀ .consumers) subs₀ i [] less)
+
+      next-row : subOf w .«next_dseq» ≤ 72057594037927937
+      unfolding subOf
+      next-row = fitting-at ws i (fits .fitted) here .1
+
+      fine-row : now ≤ 2 ^ 62 → Fine (length rows) (length events) base (subOf w) d now
+      fine-row clock =
+          let r = g .ready in
+          let h : subRows (drop i ws) ≡ subOf w .inflight + (subOf w .held + subRows (drop (suc i) ws)) = left-size ws i here in
+          let next : subOf w .«next_dseq» ≤ 72057594037927937 = next-row in
+          record {
+            rows = omega arith;
+            used = omega arith;
+            room = omega (arith, g .same-rows);
+            events = omega (arith, g .same-events);
+            next = omega arith;
+            expired = omega arith;
+            dispatched = omega arith;
+            clock = clock;
+          }
+
+      pub round-fine : (s : Sub) → s ≡ subOf (getD subs i []) → now ≤ 2 ^ 62 → Fine (length rows) (length events) base s d now
+      round-fine s e clock = rw (e, row-is) (fine-row clock)
+
+      pub round-turn : (s t : Sub) (r : Head) (subs′ rows′ events′ : List Row) → s ≡ subOf (getD subs i []) → subs′ ≡ set subs i (subWords t)
+          → length rows′ ≡ length rows → length events′ ≡ length events
+          → seen base t r rows′ events′ ≡ ran now (seen base s d rows events) → drop (r .events) events′ ≡ drop (r .events) events → Kept base s d t r
+          → Round now subs₀ rows₀ events₀ d₀ subs′ rows′ events′ r (base + t .inflight + t .held) (i + 1)
+      round-turn s t r subs′ rows′ events′ e p lr le said later kept =
+          let q : s ≡ subOf w = e ∙ ap subOf row-is in
+          let k : Kept base (subOf w) d t r = rw q at kept in
+          let v : seen base t r rows′ events′ ≡ ran now (seen base (subOf w) d rows events) = rw q at said in
+          let b : i < length subs = omega (arith, fits .subs-long, fits .consumers, g .same-subs) in
+          let f : at 13 w ≤ at 14 w = fitting-at ws i (fits .fitted) here .0 in
+          rw p (record {
+            within = omega arith;
+            same-subs = simp length-set (g .same-subs);
+            same-rows = lr ∙ g .same-rows;
+            same-events = le ∙ g .same-events;
+            rest = drop-set-lt (i + 1) subs i (subWords t) (omega arith) ∙ rise i (i + 1) subs subs₀ (omega arith) (g .rest);
+            ready = ready-turn now ws i base d₀ d subs rows events rows′ events′ t r here b (g .ready) (g .ends) k v;
+            ends = ends-turn now ws i base d₀ d subs rows events rows′ events′ t r here b (g .ready) (g .ends) k v;
+            windows = windows-turn now ws i base d₀ d subs rows events rows′ events′ t r here b (g .ready) (g .ends) k v f (g .windows);
+            later = later ∙ rise (d .events) (r .events) events events₀ (k .sent) (g .later);
+            said = whole-turn now ws i base d₀ d subs rows events rows′ events′ t r here b (g .ready) (g .ends) k v ∙ g .said;
+          })
+
+    -- all are served
+    module _ (done : d₀ .consumers ≤ i) (plain : d₀ .queue ≡ false) where
+      all-done : i ≡ length ws
+      all-done = omega (arith, size, g .within)
+
+      i-is : i ≡ d₀ .consumers
+      i-is = all-done ∙ size
+
+      last : _≡_ {A = Whole} (record { subs = subsAt topic (take i subs) rows; others = take (d .reserved + d .waiting) (drop base rows); stats = d .stats; events = take (d .events) events })
+          (record {
+            subs = serveAll now (subsAt topic ws rows₀) .subs;
+            others = take (d₀ .reserved + d₀ .waiting) (drop (subRows ws) rows₀);
+            stats = d₀ .stats ⊕ serveAll now (subsAt topic ws rows₀) .counts;
+            events = take (d₀ .events) events₀ ++ map eventWords (serveAll now (subsAt topic ws rows₀) .events);
+          })
+      last = sym (whole-end now ws i base d subs rows events all-done) ∙ g .said ∙ whole-start now ws d₀ subs₀ rows₀ events₀
+
+      kind-is : kindBy (d₀ .queue) ≡ topic
+      kind-is = ap kindBy plain
+
+      abbrev same : {A : Type 0} (f : Head → A) → f d ≡ f (moved d₀ d)
+      same f = ap f (g .ready .head)
+
+      base-is : base ≡ subRows (take (d₀ .consumers) subs)
+      base-is = g .ends ∙ ap (λ (n : ℕ). subRows (take n subs)) i-is
+
+      -- the rows after the consumers'
+      others : take (d₀ .reserved + d₀ .waiting) (drop (subRows (take (d₀ .consumers) subs)) rows) ≡ take (d₀ .reserved + d₀ .waiting) (drop (subRows ws) rows₀)
+      others =
+          ap₂ (λ (n b : ℕ). take n (drop b rows)) (sym (same (λ (x : Head). x .reserved + x .waiting))) (sym base-is) ∙ ap (λ (x : Whole). x .others) last
+
+      view : (ps : List Id) (qs : List Audit) → headView d subs rows ps qs ≡ dispatchTopic now (headView d₀ subs₀ rows₀ ps qs) .dest
+      unfolding headView dispatchTopic
+      view ps qs =
+          let u : List Row = take (d₀ .consumers) subs in
+          let mine : subsAt (kindBy (d₀ .queue)) u rows ≡ serveAll now (subsAt (kindBy (d₀ .queue)) ws rows₀) .subs =
+          ap₂ (λ (k : Kind) (n : ℕ). subsAt k (take n subs) rows) kind-is (sym i-is)
+          ∙ ap (λ (x : Whole). x .subs) last
+          ∙ ap (λ (k : Kind). serveAll now (subsAt k ws rows₀) .subs) (sym kind-is) in
+          let counted : d .stats ≡ d₀ .stats ⊕ serveAll now (subsAt (kindBy (d₀ .queue)) ws rows₀) .counts =
+          ap (λ (x : Whole). x .stats) last ∙ ap (λ (k : Kind). d₀ .stats ⊕ serveAll now (subsAt k ws rows₀) .counts) (sym kind-is) in
+          let m : ℕ = d₀ .reserved + d₀ .waiting in
+          let a : List Row = drop (subRows u) rows in
+          let b : List Row = drop (subRows ws) rows₀ in
+          let n : m - d₀ .reserved ≡ d₀ .waiting = omega arith in
+          let waits : take (d₀ .waiting) (drop (d₀ .reserved) a) ≡ take (d₀ .waiting) (drop (d₀ .reserved) b) =
+          ap (λ (x : ℕ). take x (drop (d₀ .reserved) a)) (sym n) ∙ agree-drop (d₀ .reserved) m a b others (omega arith) ∙ ap (λ (x : ℕ). take x (drop (d₀ .reserved) b)) n in
+          let held : take (d₀ .reserved) a ≡ take (d₀ .reserved) b = agree-take (d₀ .reserved) m a b others (omega arith) in
+          same (λ (x : Head). headView x subs rows ps qs)
+          ∙ (λ j. record {
+            kind = kindBy (d₀ .queue);
+            topicLimit = d₀ .«topic_limit»;
+            callLimit = d₀ .«call_limit»;
+            callsUsed = d₀ .«calls_used»;
+            pending = map entryOf (waits j);
+            subs = mine j;
+            rr = d₀ .turn;
+            producers = ps;
+            audits = qs;
+            stats = counted j;
+            idle = headView d₀ subs₀ rows₀ ps qs .idle;
+            reserved = map heldAt (held j);
+          })
+
+      sent : (ps : List Id) (qs : List Audit) → take (d .events) events ≡ take (d₀ .events) events₀ ++ map eventWords (dispatchTopic now (headView d₀ subs₀ rows₀ ps qs) .events)
+      unfolding headView dispatchTopic
+      sent ps qs = ap (λ (x : Whole). x .events) last
+          ∙ ap (λ (k : Kind). take (d₀ .events) events₀ ++ map eventWords (serveAll now (subsAt k ws rows₀) .events)) (sym kind-is)
+
+      none-left : subRows (drop i ws) ≡ 0
+      unfolding subRows
+      none-left = ap subRows (ap (λ (n : ℕ). drop n ws) all-done ∙ drop-length ws)
+
+      pub round-end : Dispatched (dispatchTopic now) d₀ d subs₀ rows₀ events₀ subs rows events × (d .waiting ≡ d₀ .waiting)
+      round-end =
+          let r = g .ready in
+          let z = none-left in
+          let n : d .consumers ≡ d₀ .consumers = same (λ (x : Head). x .consumers) in
+          let m : take (d .consumers) subs ≡ take i subs = ap (λ (k : ℕ). take k subs) (n ∙ sym i-is) in
+          let w = g .ends in (
+            record {
+              view = view;
+              sent = sent;
+              later = g .later;
+              consumers = n;
+              producers = same (λ (x : Head). x .producers);
+              audits = same (λ (x : Head). x .audits);
+              reserved = same (λ (x : Head). x .reserved);
+              waiting = omega (arith, same (λ (x : Head). x .waiting));
+              queue = same (λ (x : Head). x .queue);
+              rows-used = rw m (omega arith);
+              used = r .used;
+              most = omega arith;
+              windows = rw m (g .windows);
+            },
+            same (λ (x : Head). x .waiting),
+          )

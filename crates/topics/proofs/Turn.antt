@@ -1,0 +1,298 @@
+-- A turn of `serve_topic`: what the definition says of the tables before it, it says of the tables after it. Assumes nothing.
+use mathlib.Core.Path.{_≡_, refl, sym, ap, ap₂, _∙_}
+use mathlib.Core.Bool.{Bool, true, false}
+use mathlib.Core.List.{List, [], _∷_, _++_, append-nil, map, map-append}
+use mathlib.Core.Option.{Option}
+use Prim.Native.Nat.{ℕ, suc, _+_, _-_, _≤_, _<_}
+use native.Mathlib.Numerals.{add-one}
+use native.Mathlib.Omega.{arith}
+use lib.IntN.{pos}
+use lib.ListN.{length, take, drop, getD, set, length-drop, length-set}
+use lib.Seq.{slice, length-take-le, drop-at, drop-cons, take-take, take-set-le, drop-set-lt, drop-set-add, take-suc-set, drop-drop}
+use Rattle.stats.specs.Counted.{withExpiredBy, withDispatched}
+use Rattle.entry.specs.Entry.{expired, entryOf}
+use Rattle.model.specs.Model.{idOf}
+use Rattle.definition.specs.Types.{Entry, topic, message, withTpending}
+use Rattle.definition.specs.Types as Def
+use Rattle.definition.specs.Consumer.{hasCredit, addExpired, addDispatched, inflightOf, send, sent}
+use Rattle.definition.specs.Layout.{Row, inflightAt, browserAt, eventWords}
+use Rattle.consumers.specs.declared.Sub.{Sub}
+use Rattle.consumers.specs.Consumers.{subView, creditOf}
+use Rattle.consumers.proofs.Laws.{credit}
+use Rattle.state.specs.declared.Head.{Head}
+use Rattle.state.specs.State.{withStats, withEvents}
+use Rattle.state.proofs.Counts.{expired-plain, dispatched-plain}
+use Rattle.state.proofs.Events.{events-up-to, events-after}
+use Rattle.table.specs.Table.{closeGap}
+use Rattle.table.proofs.Lists.{slice-take}
+use Rattle.table.proofs.Laws.{close-before, close-used, close-length}
+use Rattle.topics.specs.Topics.{Seen, seen, stepped, ran, sentSub, Fine, Kept}
+use Rattle.topics.proofs.Serve.{serve-none, serve-stop, serve-lost, serve-sent, ran-rest, ran-turn}
+
+-- ---- lists
+
+part-cons : (f h : ℕ) (l : List Row) → 0 < h → f < length l → take h (drop f l) ≡ getD l f [] ∷ take (h - 1) (drop (f + 1) l)
+part-cons f h l p q =
+    let e : h ≡ suc (h - 1) = omega arith in
+    ap₂ take e (drop-cons l f [] q) ∙ ap (λ (n : ℕ). getD l f [] ∷ take (h - 1) (drop n l)) (sym (add-one f))
+
+-- two lists that agree on the first n rows: a part of them, and the rest
+pub agree-take : (j n : ℕ) (x y : List Row) → take n x ≡ take n y → j ≤ n → take j x ≡ take j y
+agree-take j n x y q h = sym (take-take j n x h) ∙ ap (take j) q ∙ take-take j n y h
+
+pub agree-drop : (j n : ℕ) (x y : List Row) → take n x ≡ take n y → j ≤ n → take (n - j) (drop j x) ≡ take (n - j) (drop j y)
+agree-drop j n x y q h = sym (slice-take j n x h) ∙ ap (drop j) q ∙ slice-take j n y h
+
+-- what stood after a row that went
+closed-high : (f n : ℕ) (l : List Row) → f + 1 ≤ n → n ≤ length l → take (n - (f + 1)) (drop f (closeGap f 1 n l)) ≡ take (n - (f + 1)) (drop (f + 1) l)
+closed-high f n l h b =
+    let c : List Row = closeGap f 1 n l in
+    let e : n - (f + 1) ≡ n - 1 - f = omega arith in
+    ap (λ (m : ℕ). take m (drop f c)) e
+    ∙ sym (slice-take f (n - 1) c (omega arith))
+    ∙ ap (drop f) (close-used f 1 n l h b)
+    ∙ drop-at (take f l) (slice (f + 1) n l) f (length-take-le f l (omega arith))
+    ∙ slice-take (f + 1) n l h
+
+-- numbers, apart from the rest
+lefts : (u f h : ℕ) → 0 < h → f + h ≤ u → u - 1 - (f + (h - 1)) ≡ u - (f + 1) - (h - 1)
+lefts u f h p q = omega arith
+
+lefts′ : (u f h : ℕ) → 0 < h → f + h ≤ u → u - (f + 1) - (h - 1) ≡ u - (f + h)
+lefts′ u f h p q = omega arith
+
+-- a topic's consumer shows what it browses whatever it holds
+same-browser : (b : Bool) (l m : List Entry) → browserAt topic b l ≡ browserAt topic b m
+same-browser true l m = refl
+same-browser false l m = refl
+
+-- ---- the numbers after a turn
+
+abbrev pub withUsed : ℕ → Head → Head
+withUsed x d = record { «topic_limit» = d .«topic_limit»; «call_limit» = d .«call_limit»; «calls_used» = d .«calls_used»; turn = d .turn; «idle_since» = d .«idle_since»; stats = d .stats; consumers = d .consumers; producers = d .producers; audits = d .audits; reserved = d .reserved; waiting = d .waiting; used = x; events = d .events; queue = d .queue; idle = d .idle }
+
+abbrev pub lostHead : Head → Head
+lostHead d = withStats (withExpiredBy (d .stats) 1) (withUsed (d .used - 1) d)
+
+abbrev pub sentHead : Head → Head
+sentHead d = withStats (withDispatched (d .stats)) (withEvents (d .events + 1) d)
+
+abbrev pub lostSub : Sub → Sub
+lostSub s = record { conn = s .conn; session = s .session; value = s .value; prefetch = s .prefetch; selector = s .selector; «next_dseq» = s .«next_dseq»; cursor = s .cursor; pull = s .pull; generation = s .generation; freed = s .freed; inflight = s .inflight; held = s .held - 1; «no_local» = s .«no_local»; browser = s .browser; finished = s .finished; pulling = s .pulling }
+
+module _ (now base : ℕ) (s : Sub) (d : Head) (rows events : List Row) (fine : Fine (length rows) (length events) base s d now) where
+  abbrev v : Seen
+  v = seen base s d rows events
+
+  -- no row is held
+  pub ran-none : s .held ≤ 0 → ran now v ≡ v
+  unfolding seen subView
+  ran-none h =
+      let e : s .held ≡ 0 = omega arith in
+      ran-rest now v (serve-none now (v .sub) (ap (λ (n : ℕ). map entryOf (take n (drop (base + s .inflight) rows))) e))
+
+  module _ (some : 0 < s .held) where
+    abbrev pub row : Row
+    row = getD rows (base + s .inflight) []
+
+    abbrev rest : List Row
+    rest = take (s .held - 1) (drop (base + s .inflight + 1) rows)
+
+    abbrev held : List Row
+    held = take (s .held) (drop (base + s .inflight) rows)
+
+    held-is : held ≡ row ∷ rest
+    held-is = part-cons (base + s .inflight) (s .held) rows some (omega arith)
+
+    first : v .sub .tpending ≡ entryOf row ∷ map entryOf rest
+    unfolding seen subView
+    first = ap (map entryOf) held-is
+
+    has : hasCredit (v .sub) ≡ creditOf s
+    unfolding seen
+    has = credit topic s (take (s .inflight) (drop base rows)) held (length-take-le (s .inflight) (drop base rows) (simp length-drop (omega arith)))
+
+    -- there is no credit
+    pub ran-stop : creditOf s ≡ false → ran now v ≡ v
+    ran-stop c = ran-rest now v (serve-stop now (v .sub) (entryOf row) (map entryOf rest) first (has ∙ c))
+
+    -- the first held row has expired
+    seen-lost : seen base (lostSub s) (lostHead d) (closeGap (base + s .inflight) 1 (d .used) rows) events
+        ≡ stepped (record { sub = withTpending (map entryOf rest) (v .sub); counts = addExpired 1; events = [] }) v
+    unfolding seen subView
+    seen-lost =
+        let f : ℕ = base + s .inflight in
+        let m : ℕ = f + 1 in
+        let c : List Row = closeGap f 1 (d .used) rows in
+        let fits : s .held - 1 ≤ d .used - m = omega arith in
+        let span : f - base ≡ s .inflight = omega arith in
+        let end : m + (s .held - 1) ≡ f + s .held = omega arith in
+        let low : take f c ≡ take f rows = close-before f 1 (d .used) rows f (omega arith) in
+        let high : take (d .used - m) (drop f c) ≡ take (d .used - m) (drop m rows) = closed-high f (d .used) rows (omega arith) (omega arith) in
+        let left : d .used - 1 - (f + (s .held - 1)) ≡ d .used - m - (s .held - 1) = lefts (d .used) f (s .held) some (fine .rows) in
+        let left′ : d .used - m - (s .held - 1) ≡ d .used - (f + s .held) = lefts′ (d .used) f (s .held) some (fine .rows) in
+        let mid : take (s .inflight) (drop base c) ≡ take (s .inflight) (drop base rows) =
+        ap (λ (n : ℕ). take n (drop base c)) (sym span) ∙ agree-drop base f c rows low (omega arith) ∙ ap (λ (n : ℕ). take n (drop base rows)) span in
+        let own : take (s .held - 1) (drop f c) ≡ rest = agree-take (s .held - 1) (d .used - m) (drop f c) (drop m rows) high fits in
+        let tail : take (d .used - 1 - (f + (s .held - 1))) (drop (f + (s .held - 1)) c) ≡ take (d .used - (f + s .held)) (drop (f + s .held) rows) =
+        ap₂ take left (sym (drop-drop (s .held - 1) f c))
+        ∙ agree-drop (s .held - 1) (d .used - m) (drop f c) (drop m rows) high fits
+        ∙ ap₂ take left′ (drop-drop (s .held - 1) m rows ∙ ap (λ (n : ℕ). drop n rows) end) in
+        let sub : subView topic (lostSub s) (take (s .inflight) (drop base c)) (take (s .held - 1) (drop f c)) ≡ withTpending (map entryOf rest) (v .sub) =
+        ap₂ (subView topic (lostSub s)) mid own
+        ∙ ap (λ (b : Option (List Entry)). Def.withBrowser b (withTpending (map entryOf rest) (v .sub))) (same-browser (s .browser) (map entryOf rest) (map entryOf held)) in
+        λ i. record {
+          before = close-before f 1 (d .used) rows base (omega arith) i;
+          sub = sub i;
+          after = tail i;
+          stats = expired-plain (d .stats) 1 (omega arith) i;
+          events = sym (append-nil (take (d .events) events)) i;
+        }
+
+    module _ (credited : creditOf s ≡ true) where
+      pub ran-lost : expired (pos now) (entryOf row) ≡ true → ran now (seen base (lostSub s) (lostHead d) (closeGap (base + s .inflight) 1 (d .used) rows) events) ≡ ran now v
+      ran-lost x =
+          ap (ran now) seen-lost
+          ∙ ran-turn now (addExpired 1) [] (withTpending (map entryOf rest) (v .sub)) v (serve-lost now (v .sub) (entryOf row) (map entryOf rest) first (has ∙ credited) x)
+
+    -- or it is sent
+    module _ (x : Row) (flies : inflightAt x ≡ inflightOf (s .«next_dseq») (entryOf row)) where
+      abbrev said : Row
+      said = eventWords (sent (v .sub) (entryOf row))
+
+      seen-sent : seen base (sentSub s) (sentHead d) (set rows (base + s .inflight) x) (set events (d .events) said)
+          ≡ stepped (record { sub = send (entryOf row) (withTpending (map entryOf rest) (v .sub)); counts = addDispatched 1; events = sent (v .sub) (entryOf row) ∷ [] }) v
+      unfolding seen subView
+      seen-sent =
+          let f : ℕ = base + s .inflight in
+          let l : List Row = set rows f x in
+          let on : s .inflight + 1 ≡ suc (s .inflight) = omega arith in
+          let up : base + (s .inflight + 1) ≡ f + 1 = omega arith in
+          let end : base + (s .inflight + 1) + (s .held - 1) ≡ f + s .held = omega arith in
+          let flying : List Row = take (s .inflight) (drop base rows) in
+          let mine : take (s .inflight + 1) (drop base l) ≡ flying ++ (x ∷ []) =
+          ap₂ take on (drop-set-add base rows (s .inflight) x) ∙ take-suc-set (drop base rows) (s .inflight) x (simp length-drop (omega arith)) in
+          let own : take (s .held - 1) (drop (base + (s .inflight + 1)) l) ≡ rest =
+          ap (take (s .held - 1)) (drop-set-lt (base + (s .inflight + 1)) rows f x (omega arith) ∙ ap (λ (n : ℕ). drop n rows) up) in
+          let tail : take (d .used - (base + (s .inflight + 1) + (s .held - 1))) (drop (base + (s .inflight + 1) + (s .held - 1)) l) ≡ take (d .used - (f + s .held)) (drop (f + s .held) rows) =
+          ap (λ (n : ℕ). take (d .used - n) (drop n l)) end ∙ ap (take (d .used - (f + s .held))) (drop-set-lt (f + s .held) rows f x (omega arith)) in
+          let flown : map inflightAt (flying ++ (x ∷ [])) ≡ map inflightAt flying ++ (inflightOf (s .«next_dseq») (entryOf row) ∷ []) =
+          map-append inflightAt flying (x ∷ []) ∙ ap (λ (y : Def.Inflight). map inflightAt flying ++ (y ∷ [])) flies in
+          let next : Def.Sub = send (entryOf row) (withTpending (map entryOf rest) (v .sub)) in
+          let sub : subView topic (sentSub s) (take (s .inflight + 1) (drop base l)) (take (s .held - 1) (drop (base + (s .inflight + 1)) l)) ≡ next =
+          ap₂ (subView topic (sentSub s)) mine own
+          ∙ ap₂ (λ (b : Option (List Entry)) (y : List Def.Inflight). Def.withBrowser b (Def.withInflight y next)) (same-browser (s .browser) (map entryOf rest) (map entryOf held)) flown in
+          λ i. record {
+            before = take-set-le base rows f x (omega arith) i;
+            sub = sub i;
+            after = tail i;
+            stats = dispatched-plain (d .stats) (omega arith) i;
+            events = events-up-to (d .events) events said (omega arith) i;
+          }
+
+      pub ran-sent : creditOf s ≡ true → expired (pos now) (entryOf row) ≡ false
+          → ran now (seen base (sentSub s) (sentHead d) (set rows (base + s .inflight) x) (set events (d .events) said)) ≡ ran now v
+      ran-sent credited y =
+          ap (ran now) seen-sent
+          ∙ ran-turn now (addDispatched 1) (sent (v .sub) (entryOf row) ∷ []) (send (entryOf row) (withTpending (map entryOf rest) (v .sub))) v
+          (serve-sent now (v .sub) (entryOf row) (map entryOf rest) first (has ∙ credited) y)
+
+-- ---- what holds while the consumer is served
+
+pub record Going (now base : ℕ) (rows₀ events₀ : List Row) (s₀ : Sub) (d₀ : Head) (rows events : List Row) (s : Sub) (d : Head) : Type 0 where
+  pub fine : Fine (length rows) (length events) base s d now
+  pub same-rows : length rows ≡ length rows₀
+  pub same-events : length events ≡ length events₀
+  pub said : ran now (seen base s d rows events) ≡ ran now (seen base s₀ d₀ rows₀ events₀)
+  pub later : drop (d .events) events ≡ drop (d .events) events₀
+  pub kept : Kept base s₀ d₀ s d
+
+pub going-start : (now base : ℕ) (rows events : List Row) (s : Sub) (d : Head) → Fine (length rows) (length events) base s d now → Going now base rows events s d rows events s d
+going-start now base rows events s d f = record {
+  fine = f;
+  same-rows = refl;
+  same-events = refl;
+  said = refl;
+  later = refl;
+  kept = record { rows = f .rows; used = omega arith; tail = refl; own = omega arith; freed = refl; flying = omega arith; events = omega arith; sent = omega arith; expired = omega arith; dispatched = omega arith; head = refl };
+}
+
+module _ (now base : ℕ) (rows₀ events₀ : List Row) (s₀ : Sub) (d₀ : Head) (rows events : List Row) (s : Sub) (d : Head) (g : Going now base rows₀ events₀ s₀ d₀ rows events s d) where
+  abbrev f : Fine (length rows) (length events) base s d now
+  f = g .fine
+
+  pub going-none : s .held ≤ 0 → seen base s d rows events ≡ ran now (seen base s₀ d₀ rows₀ events₀)
+  going-none h = sym (ran-none now base s d rows events f h) ∙ g .said
+
+  module _ (some : 0 < s .held) where
+    pub going-stop : creditOf s ≡ false → seen base s d rows events ≡ ran now (seen base s₀ d₀ rows₀ events₀)
+    going-stop h = sym (ran-stop now base s d rows events f some h) ∙ g .said
+
+    module _ (credited : creditOf s ≡ true) where
+      fine-lost : Fine (length rows) (length events) base (lostSub s) (lostHead d) now
+      fine-lost =
+          let e : lostHead d .stats .expired ≡ d .stats .expired + 1 = omega arith in
+          omega arith
+
+      kept-lost : Kept base s₀ d₀ (lostSub s) (lostHead d)
+      kept-lost = let k = g .kept in record {
+        rows = omega arith;
+        used = omega arith;
+        tail = omega arith;
+        own = omega arith;
+        freed = k .freed;
+        flying = k .flying;
+        events = omega arith;
+        sent = omega arith;
+        expired = omega arith;
+        dispatched = omega arith;
+        head = ap lostHead (k .head);
+      }
+
+      pub going-lost : (d′ : Head) (rows′ : List Row) → d′ ≡ lostHead d → rows′ ≡ closeGap (base + s .inflight) 1 (d .used) rows
+          → expired (pos now) (entryOf (getD rows (base + s .inflight) [])) ≡ true → Going now base rows₀ events₀ s₀ d₀ rows′ events (lostSub s) d′
+      going-lost d′ rows′ p q x =
+          let size : length (closeGap (base + s .inflight) 1 (d .used) rows) ≡ length rows = close-length (base + s .inflight) 1 (d .used) rows in
+          rw (p, q) (record {
+            fine = rw size fine-lost;
+            same-rows = size ∙ g .same-rows;
+            same-events = g .same-events;
+            said = ran-lost now base s d rows events f some credited x ∙ g .said;
+            later = g .later;
+            kept = kept-lost;
+          })
+
+      fine-sent : Fine (length rows) (length events) base (sentSub s) (sentHead d) now
+      fine-sent = omega arith
+
+      kept-sent : Kept base s₀ d₀ (sentSub s) (sentHead d)
+      kept-sent = let k = g .kept in record {
+        rows = omega arith;
+        used = omega arith;
+        tail = omega arith;
+        own = omega arith;
+        freed = k .freed;
+        flying = omega arith;
+        events = omega arith;
+        sent = omega arith;
+        expired = omega arith;
+        dispatched = omega arith;
+        head = ap sentHead (k .head);
+      }
+
+      pub going-sent : (s′ : Sub) (d′ : Head) (events′ : List Row) (x : Row) → s′ ≡ sentSub s → d′ ≡ sentHead d
+          → events′ ≡ set events (d .events) (eventWords (message (idOf (s .conn) (s .session) (s .value)) (entryOf (getD rows (base + s .inflight) []) .seq) (entryOf (getD rows (base + s .inflight) []) .redelivery)))
+          → inflightAt x ≡ inflightOf (s .«next_dseq») (entryOf (getD rows (base + s .inflight) []))
+          → expired (pos now) (entryOf (getD rows (base + s .inflight) [])) ≡ false
+          → Going now base rows₀ events₀ s₀ d₀ (set rows (base + s .inflight) x) events′ s′ d′
+      unfolding seen subView
+      going-sent s′ d′ events′ x o p q r y =
+          let e : Row = eventWords (message (idOf (s .conn) (s .session) (s .value)) (entryOf (getD rows (base + s .inflight) []) .seq) (entryOf (getD rows (base + s .inflight) []) .redelivery)) in
+          rw (o, p, q) (record {
+            fine = simp length-set fine-sent;
+            same-rows = simp length-set (g .same-rows);
+            same-events = simp length-set (g .same-events);
+            said = ran-sent now base s d rows events f some x r credited y ∙ g .said;
+            later = events-after (d .events) events e ∙ sym (drop-drop 1 (d .events) events) ∙ ap (drop 1) (g .later) ∙ drop-drop 1 (d .events) events₀;
+            kept = kept-sent;
+          })

@@ -1,0 +1,2 @@
+pub mod Topics
+pub mod Dispatched

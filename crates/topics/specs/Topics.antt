@@ -1,0 +1,105 @@
+-- A topic's dispatch on the tables: one consumer's part of them, and what the definition makes of it. Assumes nothing.
+use mathlib.Core.Path.{_≡_}
+use mathlib.Core.Bool.{false}
+use mathlib.Core.List.{List, _++_, map}
+use Prim.Native.Nat.{ℕ, _+_, _-_, _≤_, _<_, _^_}
+use lib.ListN.{take, drop}
+use Rattle.stats.specs.declared.Stats.{Stats}
+use Rattle.definition.specs.Types.{topic}
+use Rattle.definition.specs.Types as Def
+use Rattle.definition.specs.Consumer.{_⊕_, Step, serveTopic}
+use Rattle.definition.specs.Layout.{Row, eventWords}
+use Rattle.consumers.specs.declared.Sub.{Sub}
+use Rattle.consumers.specs.Consumers.{subView}
+use Rattle.state.specs.declared.Head.{Head}
+
+-- a consumer, the rows before and after its own, the counters and the events so far
+pub record Seen : Type 0 where
+  pub before : List Row
+  pub sub : Def.Sub
+  pub after : List Row
+  pub stats : Stats
+  pub events : List Row
+
+-- its rows in flight begin at base, and those that it holds stand after them
+unfoldable pub seen : ℕ → Sub → Head → List Row → List Row → Seen
+seen base s d rows events = record {
+  before = take base rows;
+  sub = subView topic s (take (s .inflight) (drop base rows)) (take (s .held) (drop (base + s .inflight) rows));
+  after = take (d .used - (base + s .inflight + s .held)) (drop (base + s .inflight + s .held) rows);
+  stats = d .stats;
+  events = take (d .events) events;
+}
+
+-- with the consumer that a step leaves, what it counts and what it sends
+abbrev pub stepped : Step → Seen → Seen
+stepped t v = record { before = v .before; sub = t .sub; after = v .after; stats = v .stats ⊕ t .counts; events = v .events ++ map eventWords (t .events) }
+
+abbrev pub ran : ℕ → Seen → Seen
+ran now v = stepped (serveTopic now (v .sub)) v
+
+-- `Sub::send`, by value
+abbrev pub sentSub : Sub → Sub
+sentSub s = record {
+  conn = s .conn;
+  session = s .session;
+  value = s .value;
+  prefetch = s .prefetch;
+  selector = s .selector;
+  «next_dseq» = s .«next_dseq» + 1;
+  cursor = s .cursor;
+  pull = 0;
+  generation = s .generation;
+  freed = s .freed;
+  inflight = s .inflight + 1;
+  held = s .held - 1;
+  «no_local» = s .«no_local»;
+  browser = s .browser;
+  finished = s .finished;
+  pulling = false;
+}
+
+-- the counts lie within the tables, and no number runs out
+pub record Fine (nrows nevents base : ℕ) (s : Sub) (d : Head) (now : ℕ) : Type 0 where
+  pub rows : base + s .inflight + s .held ≤ d .used
+  pub used : d .used ≤ 512
+  pub room : 512 ≤ nrows
+  pub events : d .events + s .held ≤ nevents
+  pub next : s .«next_dseq» + s .held < 2 ^ 63
+  pub expired : d .stats .expired + s .held < 2 ^ 63
+  pub dispatched : d .stats .dispatched + s .held < 2 ^ 63
+  pub clock : now ≤ 2 ^ 62
+
+-- the second head's rows in use, events and counters, and the rest of the first
+abbrev pub moved : Head → Head → Head
+moved d r = record {
+  «topic_limit» = d .«topic_limit»;
+  «call_limit» = d .«call_limit»;
+  «calls_used» = d .«calls_used»;
+  turn = d .turn;
+  «idle_since» = d .«idle_since»;
+  stats = r .stats;
+  consumers = d .consumers;
+  producers = d .producers;
+  audits = d .audits;
+  reserved = d .reserved;
+  waiting = d .waiting;
+  used = r .used;
+  events = r .events;
+  queue = d .queue;
+  idle = d .idle;
+}
+
+-- what the counts do while the consumer is served
+pub record Kept (base : ℕ) (s : Sub) (d : Head) (t : Sub) (r : Head) : Type 0 where
+  pub rows : base + t .inflight + t .held ≤ r .used
+  pub used : r .used ≤ d .used
+  pub tail : r .used + (s .inflight + s .held) ≡ d .used + (t .inflight + t .held)
+  pub own : t .inflight + t .held ≤ s .inflight + s .held
+  pub freed : t .freed ≡ s .freed
+  pub flying : s .inflight ≤ t .inflight
+  pub events : r .events + t .held ≤ d .events + s .held
+  pub sent : d .events ≤ r .events
+  pub expired : r .stats .expired + t .held ≤ d .stats .expired + s .held
+  pub dispatched : r .stats .dispatched + t .held ≤ d .stats .dispatched + s .held
+  pub head : r ≡ moved d r

@@ -1,0 +1,147 @@
+// A topic's dispatch (`dispatch_topic` of destination.rs): what its consumers hold goes out to those that have credit.
+ghost use mathlib.Core.Path.{_≡_};
+ghost use Prim.Native.Nat.{_+_, _≤_, _<_, _^_};
+ghost use mathlib.Core.Bool.{true, false};
+ghost use lib.ListN.{length, drop};
+ghost use lib.IntN.{pos};
+ghost use Rattle.entry.specs.Entry.{expired, entryOf};
+ghost use Rattle.definition.specs.Consumer.{inflightOf};
+ghost use Rattle.definition.specs.Layout.{inflightAt};
+ghost use Rattle.definition.specs.Destination.{dispatchTopic};
+ghost use Rattle.state.specs.Fits.{Fits};
+ghost use Rattle.topics.specs.Dispatched.{Dispatched, dispatches, Answered};
+ghost use Rattle.topics.specs.Topics.{Fine, Kept, seen, ran, sentSub};
+use consumers::Sub;
+use consumers::SubRow;
+use entry::Entry;
+use entry::Row;
+use state::Event;
+use state::Head;
+
+// No clock is above 2^62.
+const CLOCK_MOST: u64 = 4611686018427387904;
+
+// What serving one consumer leaves.
+struct Served {
+    sub: Sub,
+    head: Head,
+}
+
+fn expired_by(e: Entry, clock: u64) -> bool
+    requires { ⌜ clock ≤ 2 ^ 62 ⌝ }
+    ensures { λ r. ⌜ r ≡ expired (pos clock) e ⌝ }
+{
+    e.expired(words::signed_of(clock))
+}
+
+// A row as it goes out: with a delivery number, neither freed nor acknowledged in a transaction.
+fn flown(row: Row, dseq: u64) -> Row
+    ensures { λ r. ⌜ inflightAt r ≡ inflightOf dseq (entryOf row) ⌝ }
+{
+    let mut r = row;
+    r[entry::DSEQ] = dseq;
+    r[entry::FREED] = 0;
+    r[entry::TX] = 0;
+    r
+}
+
+// `Sub::send`: the first held row is the last in flight, and no pull waits.
+fn sent(mut s: Sub) -> Sub
+    requires { ⌜ (0 < s .held) × (s .inflight < 2 ^ 63) × (s .«next_dseq» < 2 ^ 63) ⌝ }
+    ensures { λ r. ⌜ r ≡ sentSub s ⌝ }
+{
+    s.next_dseq = s.next_dseq + 1;
+    s.inflight = s.inflight + 1;
+    s.held = s.held - 1;
+    s.pulling = false;
+    s.pull = 0;
+    s
+}
+
+// One consumer, whose rows begin at base: `while sub.has_credit() { pop_first .. }`.
+fn serve_topic(
+    rows: &mut [Row],
+    events: &mut [Event],
+    base: usize,
+    start: Sub,
+    before: Head,
+    clock: u64,
+) -> Served
+    requires { ⌜ Fine (length (now rows)) (length (now events)) base start before clock ⌝ }
+    ensures { λ r. ⌜ seen base (r .sub) (r .head) (now (rows .exit)) (now (events .exit)) ≡ ran clock (seen base start before (now (rows .entry)) (now (events .entry))) ⌝ }
+    ensures { λ r. ⌜ drop (r .head .events) (now (events .exit)) ≡ drop (r .head .events) (now (events .entry)) ⌝ }
+    ensures { λ r. ⌜ Kept base start before (r .sub) (r .head) ⌝ }
+{
+    let mut s = start;
+    let mut d = before;
+    while 0 < s.held {
+        if !s.has_credit() {
+            return Served { sub: s, head: d };
+        }
+        let first = base + s.inflight;
+        let row = rows[first];
+        let e = entry::entry_of(row);
+        if expired_by(e, clock) {
+            table::close_gap(rows, first, 1, d.used);
+            d.used = d.used - 1;
+            d = d.count_expired(1);
+            s.held = s.held - 1;
+        } else {
+            d = state::push_message(events, d, s.conn, s.session, s.value, e.seq, e.redelivery);
+            d = d.count_dispatched();
+            rows[first] = flown(row, s.next_dseq);
+            s = sent(s);
+        }
+    }
+    Served { sub: s, head: d }
+}
+
+// Each consumer in turn; base is where its rows begin.
+fn serve_all(
+    subs: &mut [SubRow],
+    rows: &mut [Row],
+    events: &mut [Event],
+    before: Head,
+    clock: u64,
+) -> Head
+    requires { ⌜ Fits (now subs) before (length (now rows)) (length (now events)) × (before .queue ≡ false) × (clock ≤ 2 ^ 62) ⌝ }
+    ensures { λ r. ⌜ Dispatched (dispatchTopic clock) before r (now (subs .entry)) (now (rows .entry)) (now (events .entry)) (now (subs .exit)) (now (rows .exit)) (now (events .exit)) × (r .waiting ≡ before .waiting) ⌝ }
+{
+    let n = before.consumers;
+    let mut d = before;
+    let mut base = 0;
+    let mut i = 0;
+    while i < n {
+        let s = consumers::load(subs, i);
+        let r = serve_topic(rows, events, base, s, d, clock);
+        let t = r.sub;
+        d = r.head;
+        base = base + t.inflight + t.held;
+        consumers::store(subs, i, t);
+        i += 1;
+    }
+    d
+}
+
+// Sends what a topic's consumers hold and have credit for. Of a queue, of numbers that do not fit the tables, or with a clock above
+// 2^62, nothing happens.
+pub fn dispatch_topic(
+    subs: &mut [SubRow],
+    rows: &mut [Row],
+    events: &mut [Event],
+    d: Head,
+    clock: u64,
+) -> Head
+    ensures { λ r. ⌜ Answered (dispatches clock (now (subs .entry)) d (length (now (rows .entry))) (length (now (events .entry)))) clock d r (now (subs .entry)) (now (rows .entry)) (now (events .entry)) (now (subs .exit)) (now (rows .exit)) (now (events .exit)) ⌝ }
+{
+    if CLOCK_MOST < clock {
+        return d;
+    }
+    if d.queue {
+        return d;
+    }
+    if !state::fits(subs, d, rows.len(), events.len()) {
+        return d;
+    }
+    serve_all(subs, rows, events, d, clock)
+}
