@@ -1,6 +1,6 @@
 -- Counters that can rise are counted as the definitions count, and so are the calls: up to the largest u64 a sum that stops there is the plain
 -- sum. Assumes nothing.
-use mathlib.Core.Path.{_≡_, refl, sym, ap, _∙_}
+use mathlib.Core.Path.{_≡_, refl, ap, _∙_}
 use mathlib.Core.List.{List}
 use Prim.Native.Nat.{ℕ, _+_, _≤_, _<_, min}
 use native.Mathlib.Omega.{arith}

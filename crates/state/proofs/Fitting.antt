@@ -1,15 +1,15 @@
 -- The numbers that fit, as facts and back; and that those of sound buffers fit. Assumes nothing.
-use mathlib.Core.Path.{_≡_, refl, sym, ap, _∙_, subst}
+use mathlib.Core.Path.{_≡_, refl, ap, _∙_, subst}
 use mathlib.Core.Bool.{Bool, true, false, _&&_, _||_}
 use mathlib.Core.List.{List, [], _∷_, map}
-use Prim.Native.Nat.{ℕ, _+_, _*_, _≤_, _<_, _^_, min}
+use Prim.Native.Nat.{ℕ, _+_, _≤_, _^_}
 use native.Mathlib.Omega.{arith}
 use borrow.Author.Tests.{ltb-true, ltb-false, leb-true, eqb-true, le-leb, eq-eqb}
 use lib.Dec.{eqb, leb, ltb}
 use lib.ListN.{length, take, drop, length-map, length-take}
 use Rattle.definition.specs.Base.{all, every, tally}
-use Rattle.definition.specs.Types.{Kind, Stats}
-use Rattle.definition.specs.Calls.{Lengths, stateShort, short, bound, countersOk, subTests, subSound, soundTests, sound}
+use Rattle.definition.specs.Types.{Kind}
+use Rattle.definition.specs.Calls.{stateShort, short, bound, subTests, subSound, soundTests, sound}
 use Rattle.definition.specs.Words.{at}
 use Rattle.definition.specs.Layout.{Row, Buffers, inflightOf, heldOf, inflightAt, subAt, subsAt, subRows, ringsFormed, usedSubs, usedRows, view, formed, soundBuffers, lengthsOf}
 use Rattle.definition.proofs.Tests.{and-left, and-right, and-both, or-no-left, or-no-right}
@@ -17,7 +17,7 @@ use Rattle.definition.proofs.Thin.{every-all, all-every, tally-length}
 use Rattle.consumers.specs.Table.{fitting}
 use Rattle.state.specs.declared.Head.{Head}
 use Rattle.state.specs.State.{headOf, loaded}
-use Rattle.state.specs.Fits.{tablesFit, numbersFit, countersFit, fits, Fits}
+use Rattle.state.specs.Fits.{fits, Fits}
 use Rattle.state.proofs.View.{loaded-long}
 
 -- ---- facts

@@ -1,18 +1,18 @@
 -- The destination that a head by value is: of a head that was loaded, the view of the buffers; of one that is stored, the view of what that
 -- leaves; and what a change of one number does to it. Assumes nothing.
-use mathlib.Core.Path.{_≡_, refl, sym, ap, ap₂, _∙_}
+use mathlib.Core.Path.{_≡_, refl, sym, ap, _∙_}
 use mathlib.Core.Bool.{Bool, true, false, _&&_}
 use mathlib.Core.List.{List, [], _∷_, _++_, map}
 use mathlib.Core.Option.{Option, none, some}
 use Prim.Native.Nat.{ℕ, zero, suc, _+_, _-_, _≤_}
 use native.Mathlib.Omega.{arith}
 use borrow.Author.Tests.{lt-ltb, le-ltb}
-use lib.Dec.{eqb, leb, ltb, eqb·suc-zero}
-use lib.ListN.{length, take, drop, length-append, length-drop}
+use lib.Dec.{eqb, leb, eqb·suc-zero}
+use lib.ListN.{length, take, drop, length-drop}
 use lib.Seq.{drop-drop}
-use mir.Val.{boolByte}
 use Rattle.words.proofs.Words.{flag-of-word}
 use Rattle.definition.specs.Base.{if_then_else_, every, empty}
+use Rattle.definition.proofs.Tests.{by-if}
 use Rattle.definition.specs.Types.{Kind, queue, topic, Id, Audit, Dest}
 use Rattle.definition.specs.Types as Def
 use Rattle.definition.specs.Destination.{marked, touchIdle}
@@ -76,6 +76,13 @@ module _ (subs rows : List Row) where
   stored-formed d h l = rw (stored-long d h l, drop-drop 96 17 h)
 
 -- ---- one number changed
+
+-- `touch_idle` changes the mark and its clock alone
+pub touched-mark : (now : ℕ) (d : Head) → touched now d ≡ withIdle (touched now d .idle) (touched now d .«idle_since») d
+unfolding touched
+touched-mark now d = by-if (λ (x : Head). x ≡ withIdle (x .idle) (x .«idle_since») d) (eqb (d .waiting) 0 && (eqb (d .consumers) 0 && eqb (d .producers) 0)) (if d .idle then d else withIdle true now d) (notIdle d)
+    (λ _. by-if (λ (x : Head). x ≡ withIdle (x .idle) (x .«idle_since») d) (d .idle) d (withIdle true now d) (λ _. refl) (λ _. refl))
+    (λ _. refl)
 
 module _ {A : Type 0} where
   empty-take : (n : ℕ) (l : List A) → n ≤ length l → empty (take n l) ≡ eqb n 0

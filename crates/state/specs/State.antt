@@ -14,6 +14,7 @@ use Rattle.definition.specs.Words.{at}
 use Rattle.definition.specs.Layout.{Row, flag, heldAt, subsAt, subRows, statsAt}
 use Rattle.stats.specs.declared.Stats.{Stats}
 use Rattle.state.specs.declared.Head.{Head}
+use Rattle.state.specs.declared.Answer.{Answer}
 
 -- the head's first 17 words, by value, with so many rows in use
 unfoldable pub headOf : List ℕ → ℕ → Head
@@ -107,6 +108,27 @@ withCallsUsed x d = record { «topic_limit» = d .«topic_limit»; «call_limit�
 abbrev pub withStats : Stats → Head → Head
 withStats x d = record { «topic_limit» = d .«topic_limit»; «call_limit» = d .«call_limit»; «calls_used» = d .«calls_used»; turn = d .turn; «idle_since» = d .«idle_since»; stats = x; consumers = d .consumers; producers = d .producers; audits = d .audits; reserved = d .reserved; waiting = d .waiting; used = d .used; events = d .events; queue = d .queue; idle = d .idle }
 
+abbrev pub withTurn : ℕ → Head → Head
+withTurn x d = record { «topic_limit» = d .«topic_limit»; «call_limit» = d .«call_limit»; «calls_used» = d .«calls_used»; turn = x; «idle_since» = d .«idle_since»; stats = d .stats; consumers = d .consumers; producers = d .producers; audits = d .audits; reserved = d .reserved; waiting = d .waiting; used = d .used; events = d .events; queue = d .queue; idle = d .idle }
+
+abbrev pub withConsumers : ℕ → Head → Head
+withConsumers x d = record { «topic_limit» = d .«topic_limit»; «call_limit» = d .«call_limit»; «calls_used» = d .«calls_used»; turn = d .turn; «idle_since» = d .«idle_since»; stats = d .stats; consumers = x; producers = d .producers; audits = d .audits; reserved = d .reserved; waiting = d .waiting; used = d .used; events = d .events; queue = d .queue; idle = d .idle }
+
+abbrev pub withProducers : ℕ → Head → Head
+withProducers x d = record { «topic_limit» = d .«topic_limit»; «call_limit» = d .«call_limit»; «calls_used» = d .«calls_used»; turn = d .turn; «idle_since» = d .«idle_since»; stats = d .stats; consumers = d .consumers; producers = x; audits = d .audits; reserved = d .reserved; waiting = d .waiting; used = d .used; events = d .events; queue = d .queue; idle = d .idle }
+
+abbrev pub withAudits : ℕ → Head → Head
+withAudits x d = record { «topic_limit» = d .«topic_limit»; «call_limit» = d .«call_limit»; «calls_used» = d .«calls_used»; turn = d .turn; «idle_since» = d .«idle_since»; stats = d .stats; consumers = d .consumers; producers = d .producers; audits = x; reserved = d .reserved; waiting = d .waiting; used = d .used; events = d .events; queue = d .queue; idle = d .idle }
+
+abbrev pub withReserved : ℕ → Head → Head
+withReserved x d = record { «topic_limit» = d .«topic_limit»; «call_limit» = d .«call_limit»; «calls_used» = d .«calls_used»; turn = d .turn; «idle_since» = d .«idle_since»; stats = d .stats; consumers = d .consumers; producers = d .producers; audits = d .audits; reserved = x; waiting = d .waiting; used = d .used; events = d .events; queue = d .queue; idle = d .idle }
+
+abbrev pub withWaiting : ℕ → Head → Head
+withWaiting x d = record { «topic_limit» = d .«topic_limit»; «call_limit» = d .«call_limit»; «calls_used» = d .«calls_used»; turn = d .turn; «idle_since» = d .«idle_since»; stats = d .stats; consumers = d .consumers; producers = d .producers; audits = d .audits; reserved = d .reserved; waiting = x; used = d .used; events = d .events; queue = d .queue; idle = d .idle }
+
+abbrev pub withUsed : ℕ → Head → Head
+withUsed x d = record { «topic_limit» = d .«topic_limit»; «call_limit» = d .«call_limit»; «calls_used» = d .«calls_used»; turn = d .turn; «idle_since» = d .«idle_since»; stats = d .stats; consumers = d .consumers; producers = d .producers; audits = d .audits; reserved = d .reserved; waiting = d .waiting; used = x; events = d .events; queue = d .queue; idle = d .idle }
+
 abbrev pub withEvents : ℕ → Head → Head
 withEvents x d = record { «topic_limit» = d .«topic_limit»; «call_limit» = d .«call_limit»; «calls_used» = d .«calls_used»; turn = d .turn; «idle_since» = d .«idle_since»; stats = d .stats; consumers = d .consumers; producers = d .producers; audits = d .audits; reserved = d .reserved; waiting = d .waiting; used = d .used; events = x; queue = d .queue; idle = d .idle }
 
@@ -123,6 +145,14 @@ unfoldable pub touched : ℕ → Head → Head
 touched now d =
     if eqb (d .waiting) 0 && (eqb (d .consumers) 0 && eqb (d .producers) 0) then (if d .idle then d else withIdle true now d)
     else notIdle d
+
+-- ---- what a call leaves
+
+abbrev pub refusedAs : ℕ → Head → Answer
+refusedAs k d = record { refusal = k; answer = 0; head = d }
+
+abbrev pub doneAs : ℕ → Head → Answer
+doneAs a d = record { refusal = 0; answer = a; head = d }
 
 -- ---- places
 

@@ -6,7 +6,7 @@ ghost use Rattle.model.specs.Model.{idOf};
 ghost use Rattle.stats.specs.Counted.{more, withEnqueued, withDequeuedBy, withExpiredBy, withDiscardedBy, withDispatched};
 ghost use Rattle.definition.specs.Types.{letter, message, null};
 ghost use Rattle.definition.specs.Layout.{eventWords};
-ghost use Rattle.state.specs.State.{kindWord, noHead, loaded, stored, pushed, touched, notIdle, withCallsUsed, withStats, firstWaiting, firstReserved, freeRows};
+ghost use Rattle.state.specs.State.{kindWord, noHead, loaded, stored, pushed, touched, notIdle, refusedAs, doneAs, withCallsUsed, withStats, firstWaiting, firstReserved, freeRows};
 ghost use Rattle.state.specs.Fits.{tablesFit, numbersFit, countersFit, fits};
 use consumers::SubRow;
 use stats::Stats;
@@ -166,6 +166,35 @@ fn kind_word(queue: bool) -> u64
     ensures { λ r. ⌜ r ≡ kindWord queue ⌝ }
 {
     if queue { 0 } else { 1 }
+}
+
+// What a call leaves: its refusal (0: accepted), its answer, and the numbers.
+pub struct Answer {
+    pub refusal: u64,
+    pub answer: u64,
+    pub head: Head,
+}
+
+impl Answer {
+    pub fn refused(refusal: u64, head: Head) -> Answer
+        ensures { λ r. ⌜ r ≡ refusedAs refusal head ⌝ }
+    {
+        Answer {
+            refusal,
+            answer: 0,
+            head,
+        }
+    }
+
+    pub fn done(answer: u64, head: Head) -> Answer
+        ensures { λ r. ⌜ r ≡ doneAs answer head ⌝ }
+    {
+        Answer {
+            refusal: 0,
+            answer,
+            head,
+        }
+    }
 }
 
 // ---- the head

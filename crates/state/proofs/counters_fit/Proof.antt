@@ -1,7 +1,5 @@
 -- `state::counters_fit` meets its contract. Assumes nothing.
 use mathlib.Core.Bool.{and-true}
-use native.Mathlib.Omega.{arith}
-use borrow.Author.Needs.{needs}
 use borrow.Author.Tests.{le-leb, lt-leb}
 use Rattle.state.proofs.counters_fit.Statement.{statement}
 use Rattle.state.proofs.counters_fit.Tie as tie

@@ -1,16 +1,14 @@
 -- `state::fits` meets its contract. Assumes nothing.
 use mathlib.Core.Path.{_≡_, refl, sym, _∙_}
-use mathlib.Core.Bool.{Bool, true, false, and-true}
-use mathlib.Core.List.{List}
+use mathlib.Core.Bool.{true, and-true}
 use Prim.Native.Nat.{ℕ, _+_, _≤_}
 use native.Mathlib.Omega.{arith}
 use borrow.Author.Needs.{needs}
 use borrow.Author.Tests.{not-true, not-false, eq-eqb, ne-eqb}
 use denote.Ref.{now}
-use lib.Dec.{eqb}
 use lib.ListN.{length, take}
-use Rattle.definition.specs.Layout.{Row, subRows}
-use Rattle.state.specs.Fits.{tablesFit, numbersFit, countersFit, fits}
+use Rattle.definition.specs.Layout.{subRows}
+use Rattle.state.specs.Fits.{tablesFit, numbersFit, countersFit}
 use Rattle.state.proofs.Fitting.{fits-by, used-few}
 use Rattle.state.proofs.fits.Statement.{statement}
 use Rattle.state.proofs.fits.Tie as tie

@@ -2,7 +2,6 @@
 use mathlib.Core.Bool.{and-true}
 use Prim.Native.Nat.{_+_, _<_, _≤_}
 use native.Mathlib.Omega.{arith}
-use borrow.Author.Needs.{needs}
 use borrow.Author.Tests.{le-leb, lt-leb}
 use Rattle.state.proofs.numbers_fit.Statement.{statement}
 use Rattle.state.proofs.numbers_fit.Tie as tie

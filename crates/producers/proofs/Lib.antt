@@ -1,0 +1,10 @@
+pub mod Words
+pub mod Groups
+pub mod Loops
+pub mod Tables
+pub mod Promises
+pub mod Adding
+pub mod Testing
+pub mod Tested
+pub mod Removing
+pub mod Checking
