@@ -155,7 +155,7 @@ module _ (L U : ℕ) (k : Kind) where
   pub few-reserved : (N : ℕ) (t : Dest) → Fine L U k N t → length (t .reserved) ≤ 512
   few-reserved N t g = omega (arith, g .rows, sum-one (held t), length-map (λ h. h .entry) (t .reserved))
 
-  reserved-fine : (N : ℕ) (i : Id) (a : Ack) (t : Dest) (o : Option ℕ) → Fine L U k N t → Fine L U k (N + 512) (ackReserved i a t o .dest)
+  pub reserved-fine : (N : ℕ) (i : Id) (a : Ack) (t : Dest) (o : Option ℕ) → Fine L U k N t → Fine L U k (N + 512) (ackReserved i a t o .dest)
   unfolding ackReserved
   reserved-fine N i a t none g = fine-more L U k N (N + 512) t (omega arith) g
   reserved-fine N i a t (some last) g =
@@ -179,18 +179,22 @@ module _ (L U : ℕ) (k : Kind) where
   few-flying : (N : ℕ) (i : Id) (s : Sub) (t : Dest) → Fine L U k N t → subOf i t ≡ some s → length (s .inflight) ≤ 512
   few-flying N i s t g f = omega (arith, g .rows, found-rows (rowsM one) (isId i) (t .subs) s f, rows-parts s, length-map (λ i. i .entry) (s .inflight))
 
+  -- the consumer after its acknowledgement, before the dispatch
+  pub acked-fine : (N : ℕ) (i : Id) (a : Ack) (s : Sub) (t : Dest) → subOf i t ≡ some s → Fine L U k N t → Fine L U k (N + 513) (count (ackSub a s .counts) (putSub i (ackSub a s .sub) t))
+  acked-fine N i a s t e g =
+      put-fine N 513 i s (ackSub a s .sub) (t .stats ⊕ ackSub a s .counts) t e (more (ack-eased k a s))
+      (under-plus N 513 (t .stats) (ackSub a s .counts) (g .counters) (omega (arith, ack-total a s, few-flying N i s t g e))) g
+    where
+      more : Eased k 1 s (ackSub a s .sub) → Eased k 513 s (ackSub a s .sub)
+      more e = record { id = e .id; sane = λ N n. sane-more k (N + 1) (N + 513) _ (omega arith) (e .sane N n); rows = e .rows; taken = e .taken }
+
   ack-fine : (N now : ℕ) (i : Id) (a : Ack) (t : Dest) (o : Option Sub) → clockOk now ≡ true → subOf i t ≡ o → Fine L U k N t → Fine L U k (N + 4096) (ackAt now i a t o .dest)
   unfolding ackAt
   ack-fine N now i a t none h e g = by-if (λ (r : Out). Fine L U k (N + 4096) (r .dest)) (a .transacted || empty (reservedOf i t)) _ _
       (λ c. fine-more L U k N (N + 4096) t (omega arith) g)
       (λ c. fine-more L U k (N + 512 + 1 + 2048) (N + 4096) _ (omega arith) (kind-fine (N + 512 + 1) now _ (touch-fine (N + 512) now _ h (reserved-fine N i a t (a .last) g))))
   ack-fine N now i a t (some s) h e g =
-      fine-more L U k (N + 513 + 1 + 2048) (N + 4096) _ (omega arith) (kind-fine (N + 513 + 1) now _ (touch-fine (N + 513) now _ h
-      (put-fine N 513 i s (ackSub a s .sub) (t .stats ⊕ ackSub a s .counts) t e (more (ack-eased k a s))
-      (under-plus N 513 (t .stats) (ackSub a s .counts) (g .counters) (omega (arith, ack-total a s, few-flying N i s t g e))) g)))
-    where
-      more : Eased k 1 s (ackSub a s .sub) → Eased k 513 s (ackSub a s .sub)
-      more e = record { id = e .id; sane = λ N n. sane-more k (N + 1) (N + 513) _ (omega arith) (e .sane N n); rows = e .rows; taken = e .taken }
+      fine-more L U k (N + 513 + 1 + 2048) (N + 4096) _ (omega arith) (kind-fine (N + 513 + 1) now _ (touch-fine (N + 513) now _ h (acked-fine N i a s t e g)))
 
   null-fine : (N : ℕ) (i : Id) (s : Sub) (t : Dest) → subOf i t ≡ some s → Fine L U k N t → Fine L U k (N + 1) (putSub i (sendNull s) t)
   null-fine N i s t f g = put-fine N 1 i s (sendNull s) (t .stats) t f (null-eased k s) (under-same N 1 (t .stats) (g .counters)) g
@@ -207,13 +211,17 @@ module _ (L U : ℕ) (k : Kind) where
   resumed-fine N i timeout r none e g = fine-more L U k N (N + 1) _ (omega arith) g
   resumed-fine N i timeout r (some s) e g = pulled-fine N i timeout s r (s .pull) e g
 
+  -- a consumer that has begun to pull, before the dispatch
+  pub registered-fine : (N : ℕ) (i : Id) (s : Sub) (t : Dest) → subOf i t ≡ some s → Fine L U k N t → Fine L U k (N + 1) (putSub i (pulling-sub s) t)
+  registered-fine N i s t e g = put-fine N 1 i s (pulling-sub s) (t .stats) t e (pulling-eased k s) (under-same N 1 (t .stats) (g .counters)) g
+
   pull-fine : (N now : ℕ) (i : Id) (timeout : ℤ) (t : Dest) (o : Option Sub) → subOf i t ≡ o → Fine L U k N t → Fine L U k (N + 4096) (pullAt now i timeout t o .dest)
   unfolding pullAt
   pull-fine N now i timeout t none e g = fine-more L U k N (N + 4096) t (omega arith) g
   pull-fine N now i timeout t (some s) e g = by-test (ltb 0 (s .prefetch))
       (λ c. rw c (fine-more L U k N (N + 4096) t (omega arith) g))
       (λ c. rw c (fine-more L U k (N + 1 + 2048 + 1) (N + 4096) _ (omega arith) (resumed-fine (N + 1 + 2048) i timeout (dispatch now (putSub i (pulling-sub s) t)) _ refl
-      (kind-fine (N + 1) now _ (put-fine N 1 i s (pulling-sub s) (t .stats) t e (pulling-eased k s) (under-same N 1 (t .stats) (g .counters)) g)))))
+      (kind-fine (N + 1) now _ (registered-fine N i s t e g)))))
 
   fired-fine : (N : ℕ) (i : Id) (generation : ℕ) (s : Sub) (t : Dest) (o : Option ℕ) → subOf i t ≡ some s → Fine L U k N t → Fine L U k (N + 1) (fired i generation s t o .dest)
   unfolding fired
@@ -225,7 +233,7 @@ module _ (L U : ℕ) (k : Kind) where
   timeout-fine N i generation t none e g = fine-more L U k N (N + 1) t (omega arith) g
   timeout-fine N i generation t (some s) e g = fired-fine N i generation s t (s .pull) e g
 
-  prefetch-fine : (N : ℕ) (i : Id) (p : ℤ) (t : Dest) (o : Option Sub) → within (2 ^ 31) p ≡ true → subOf i t ≡ o → Fine L U k N t → Fine L U k (N + 1) (prefetchAt i p t o)
+  pub prefetch-fine : (N : ℕ) (i : Id) (p : ℤ) (t : Dest) (o : Option Sub) → within (2 ^ 31) p ≡ true → subOf i t ≡ o → Fine L U k N t → Fine L U k (N + 1) (prefetchAt i p t o)
   prefetch-fine N i p t none h e g = fine-more L U k N (N + 1) t (omega arith) g
   prefetch-fine N i p t (some s) h e g = put-fine N 1 i s (withPrefetch (room p) s) (t .stats) t e (prefetch-eased k p s h) (under-same N 1 (t .stats) (g .counters)) g
 

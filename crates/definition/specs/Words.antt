@@ -1,6 +1,6 @@
 -- A call as document 01's call file holds it: a code and eight 64-bit words, two's complement. Assumes nothing.
 use Prim.Native.Nat.{ℕ, _-_, _%_, _^_}
-use mathlib.Core.Bool.{Bool, _&&_, _||_}
+use mathlib.Core.Bool.{Bool, true, false, _&&_, _||_}
 use mathlib.Core.List.{List, []}
 use mathlib.Core.Option.{Option, none, some}
 use lib.Dec.{leb, ltb, eqb}
@@ -73,8 +73,12 @@ inRange (some c) = provided (argumentsOk c) c
 unfoldable pub decode : ℕ → List ℕ → Option Call
 decode code ws = inRange (read code ws)
 
+abbrev pub kindBy : Bool → Kind
+kindBy true = queue
+kindBy false = topic
+
 abbrev pub kindOf : ℕ → Kind
-kindOf w = if eqb w 0 then queue else topic
+kindOf w = kindBy (eqb w 0)
 
 abbrev pub openWords : List ℕ → Bool
 openWords ws = leb (at 0 ws) 1 && (openOk (kindOf (at 0 ws)) (at 1 ws) (at 2 ws) (at 3 ws) && unusedFrom 4 ws)

@@ -286,10 +286,6 @@ module _ (others reserved waiting : ℕ) (us rows : List Row) (b : others + (res
       distinct-right r x (distinct-right w (r ++ x) e)
   taken-means topic e = refl
 
-kind-by : (q : Bool) → kindBy q ≡ (if q then queue else topic)
-kind-by true = refl
-kind-by false = refl
-
 -- ---- all
 
 module _ (h : List ℕ) (subs rows : List Row) (words : Words h) (ls : 32 ≤ length subs) (lr : 512 ≤ length rows) where
@@ -307,7 +303,7 @@ module _ (h : List ℕ) (subs rows : List Row) (words : Words h) (ls : 32 ≤ le
 
   same-kind : tablesOk (kindBy (eqb (at 0 h) 0)) (bound (at 3 h)) (subRows us) (at 15 h) (at 16 h) us rows ≡ every tests
   unfolding tablesOk
-  same-kind = ap (λ (j : Kind). tablesOk j (bound (at 3 h)) (subRows us) (at 15 h) (at 16 h) us rows) (kind-by (eqb (at 0 h) 0))
+  same-kind = refl
 
   in-table : usedRows b ≤ 512 → subRows us + (at 15 h + at 16 h) ≤ length rows
   in-table f = omega arith

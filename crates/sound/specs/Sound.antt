@@ -13,6 +13,7 @@ use Rattle.definition.specs.Types.{Kind, queue, topic, Sub}
 use Rattle.definition.specs.Consumer.{isBrowser}
 use Rattle.definition.specs.Calls.{idOk, entryOk, optional, bound, seqs, rowsOf, subPlaced, taken, countersOk}
 use Rattle.definition.specs.Words.{at}
+pub use Rattle.definition.specs.Words.{kindBy}
 use Rattle.definition.specs.Layout.{Row, Buffers, flag, idAt, heldAt, statsAt, subsAt, subRows, usedSubs, usedRows, ringsFormed}
 
 -- ---- the head
@@ -91,10 +92,6 @@ ownTests k most s =
 
 unfoldable pub ownSound : Kind → ℕ → Sub → Bool
 ownSound k most s = every (ownTests k most s)
-
-abbrev pub kindBy : Bool → Kind
-kindBy true = queue
-kindBy false = topic
 
 -- no identifier twice
 abbrev pub idsApart : List Row → Bool

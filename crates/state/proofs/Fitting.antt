@@ -8,17 +8,17 @@ use borrow.Author.Tests.{ltb-true, ltb-false, leb-true, eqb-true, le-leb, eq-eqb
 use lib.Dec.{eqb, leb, ltb}
 use lib.ListN.{length, take, drop, length-map, length-take}
 use Rattle.definition.specs.Base.{all, every, tally}
-use Rattle.definition.specs.Types.{Kind}
+use Rattle.definition.specs.Types.{Kind, Id, Audit}
 use Rattle.definition.specs.Calls.{stateShort, short, bound, subTests, subSound, soundTests, sound}
 use Rattle.definition.specs.Words.{at}
-use Rattle.definition.specs.Layout.{Row, Buffers, inflightOf, heldOf, inflightAt, subAt, subsAt, subRows, ringsFormed, usedSubs, usedRows, view, formed, soundBuffers, lengthsOf}
+use Rattle.definition.specs.Layout.{Row, Buffers, inflightOf, heldOf, inflightAt, subAt, subsAt, subRows, idsAt, auditsAt, ringsFormed, usedRows, view, formed, soundBuffers, lengthsOf}
 use Rattle.definition.proofs.Tests.{and-left, and-right, and-both, or-no-left, or-no-right}
 use Rattle.definition.proofs.Thin.{every-all, all-every, tally-length}
 use Rattle.consumers.specs.Table.{fitting}
 use Rattle.state.specs.declared.Head.{Head}
-use Rattle.state.specs.State.{headOf, loaded}
+use Rattle.state.specs.State.{headOf, headView, loaded, withCallsUsed}
 use Rattle.state.specs.Fits.{fits, Fits}
-use Rattle.state.proofs.View.{loaded-long}
+use Rattle.state.proofs.View.{loaded-long, loaded-view}
 
 -- ---- facts
 
@@ -105,6 +105,42 @@ subs-fit k used u (w ∷ ws) rows h =
     and-both _ _ (sub-fits k used u w (take (inflightOf w) rows) (take (heldOf w) (drop (inflightOf w) rows)) n (and-left _ _ h))
     (subs-fit k used u ws (drop (heldOf w) (drop (inflightOf w) rows)) (and-right (subSound k used (subAt k w (take (inflightOf w) rows) (take (heldOf w) (drop (inflightOf w) rows)))) _ h))
 
+-- the numbers of a destination that is sound, or is so with u calls used, fit
+module _ (d : Head) (subs rows : List Row) (producers : List Id) (audits : List Audit) (u : ℕ) (s : sound (headView (withCallsUsed u d) subs rows producers audits) ≡ true) where
+  pub view-fits : (events : ℕ) → 32 ≤ length subs → 512 ≤ length rows → 545 ≤ events → d .consumers ≤ 32 → d .used ≤ 512 → subRows (take (d .consumers) subs) + (d .reserved + d .waiting) ≡ d .used → d .events + d .used ≤ 512
+      → d .«calls_used» ≤ u → Fits subs d (length rows) events
+  unfolding sound headView
+  view-fits events ls lr le few used sum sent calls =
+      let v = headView (withCallsUsed u d) subs rows producers audits in
+      let t = every-all (soundTests v) s in
+      let limit : d .«call_limit» ≤ 2 ^ 40 = leb-true _ _ (t .1 .0) in
+      let less : u ≤ d .«call_limit» = leb-true _ _ (t .1 .1 .0) in
+      let n : length (v .subs) ≤ 32 = leb-true _ _ (t .1 .1 .1 .1 .0) in
+      let turn : d .turn ≤ 32 = or-cases (ltb (d .turn) (length (v .subs))) (eqb (d .turn) 0) (t .1 .1 .1 .1 .1 .1 .1 .1 .1 .1 .1 .1 .1 .1 .0)
+      (λ e. omega (arith, ltb-true (d .turn) (length (v .subs)) e)) (λ e. omega (arith, eqb-true (d .turn) 0 e)) in
+      let most : ℕ = bound u in
+      let k = d .stats in
+      let c = every-all (leb (k .enqueued) most ∷ leb (k .dequeued) most ∷ leb (k .expired) most ∷ leb (k .discarded) most ∷ leb (k .dispatched) most ∷ []) (t .1 .1 .1 .1 .1 .1 .1 .1 .1 .1 .1 .1 .1 .1 .1 .0) in
+      record {
+        subs-long = ls;
+        rows-long = lr;
+        events-long = le;
+        consumers = few;
+        turn = turn;
+        reserved = omega arith;
+        waiting = omega arith;
+        used = used;
+        sent = sent;
+        calls = omega arith;
+        enqueued = omega (arith, leb-true (k .enqueued) most (c .0));
+        dequeued = omega (arith, leb-true (k .dequeued) most (c .1 .0));
+        expired = omega (arith, leb-true (k .expired) most (c .1 .1 .0));
+        discarded = omega (arith, leb-true (k .discarded) most (c .1 .1 .1 .0));
+        dispatched = omega (arith, leb-true (k .dispatched) most (c .1 .1 .1 .1 .0));
+        rows-used = sum;
+        fitted = subs-fit (v .kind) u (omega arith) (take (d .consumers) subs) rows (t .1 .1 .1 .1 .1 .1 .1 .1 .1 .1 .1 .0);
+      }
+
 -- buffers that are long enough
 pub record Long (b : Buffers) (room : ℕ) : Type 0 where
   pub head : 8345 ≤ length (b .head)
@@ -142,35 +178,11 @@ module _ (b : Buffers) (events : ℕ) (long : Long b events) (s : soundBuffers b
 
   -- the numbers of sound buffers, as they are loaded, fit
   pub sound-facts : Fits (b .subs) (headOf h (usedRows b)) (length (b .rows)) events
-  unfolding soundBuffers sound view headOf
+  unfolding soundBuffers headOf
   sound-facts =
-      let t = every-all (soundTests (view b)) (and-right (formed b) _ s) in
-      let few : at 2 h ≤ 2 ^ 40 = leb-true _ _ (t .1 .0) in
-      let less : at 3 h ≤ at 2 h = leb-true _ _ (t .1 .1 .0) in
-      let n : length (view b .subs) ≤ 32 = leb-true _ _ (t .1 .1 .1 .1 .0) in
-      let turn : at 4 h ≤ 32 = or-cases (ltb (at 4 h) (length (view b .subs))) (eqb (at 4 h) 0) (t .1 .1 .1 .1 .1 .1 .1 .1 .1 .1 .1 .1 .1 .1 .0)
-      (λ e. omega (arith, ltb-true (at 4 h) (length (view b .subs)) e)) (λ e. omega (arith, eqb-true (at 4 h) 0 e)) in
-      let most : ℕ = bound (at 3 h) in
-      let c = every-all (leb (at 7 h) most ∷ leb (at 8 h) most ∷ leb (at 9 h) most ∷ leb (at 10 h) most ∷ leb (at 11 h) most ∷ []) (t .1 .1 .1 .1 .1 .1 .1 .1 .1 .1 .1 .1 .1 .1 .1 .0) in
-      record {
-        subs-long = long .subs;
-        rows-long = long .rows;
-        events-long = long .events;
-        consumers = counts .0;
-        turn = turn;
-        reserved = omega (arith, counts .3);
-        waiting = omega (arith, counts .3);
-        used = counts .3;
-        sent = omega (arith, counts .3);
-        calls = omega arith;
-        enqueued = omega (arith, leb-true (at 7 h) most (c .0));
-        dequeued = omega (arith, leb-true (at 8 h) most (c .1 .0));
-        expired = omega (arith, leb-true (at 9 h) most (c .1 .1 .0));
-        discarded = omega (arith, leb-true (at 10 h) most (c .1 .1 .1 .0));
-        dispatched = omega (arith, leb-true (at 11 h) most (c .1 .1 .1 .1 .0));
-        rows-used = refl;
-        fitted = subs-fit (view b .kind) (at 3 h) (omega arith) (usedSubs b) (b .rows) (t .1 .1 .1 .1 .1 .1 .1 .1 .1 .1 .1 .0);
-      }
+      let d : Head = headOf h (usedRows b) in
+      let s′ : sound (headView d (b .subs) (b .rows) (idsAt (at 13 h) (drop 17 h)) (auditsAt (at 14 h) (drop 113 h))) ≡ true = ap sound (loaded-view (b .subs) (b .rows) h (usedRows b)) ∙ and-right (formed b) _ s in
+      view-fits d (b .subs) (b .rows) _ _ (at 3 h) s′ events (long .subs) (long .rows) (long .events) (counts .0) (counts .3) refl (omega (arith, counts .3)) (omega arith)
 
   pub sound-loaded : loaded h (b .subs) ≡ headOf h (usedRows b)
   sound-loaded = loaded-used h (b .subs) (long .head) (counts .3)

@@ -2,3 +2,5 @@ pub mod View
 pub mod Counts
 pub mod Events
 pub mod Fitting
+pub mod Leaves
+pub mod Ready

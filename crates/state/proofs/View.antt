@@ -16,18 +16,14 @@ use Rattle.definition.proofs.Tests.{by-if}
 use Rattle.definition.specs.Types.{Kind, queue, topic, Id, Audit, Dest}
 use Rattle.definition.specs.Types as Def
 use Rattle.definition.specs.Destination.{marked, touchIdle}
-use Rattle.definition.specs.Words.{at}
+use Rattle.definition.specs.Words.{at, kindOf}
 use Rattle.definition.specs.Layout.{Row, subsAt, subRows, idsAt, auditsAt, ringsFormed, formed, view}
 use Rattle.state.specs.declared.Head.{Head}
 use Rattle.state.specs.State.{headOf, headWords, headView, usedOf, loaded, stored, kindBy, kindWord, withEvents, withIdle, notIdle, touched}
 
 -- ---- loaded and stored
 
-pub kind-by : (b : Bool) → (if b then queue else topic) ≡ kindBy b
-kind-by true = refl
-kind-by false = refl
-
-pub kind-word : (b : Bool) → (if eqb (kindWord b) 0 then queue else topic) ≡ kindBy b
+pub kind-word : (b : Bool) → kindOf (kindWord b) ≡ kindBy b
 kind-word true = refl
 kind-word false = refl
 
@@ -61,7 +57,7 @@ module _ (subs rows : List Row) where
   pub loaded-view : (h : List ℕ) (used : ℕ)
       → headView (headOf h used) subs rows (idsAt (at 13 h) (drop 17 h)) (auditsAt (at 14 h) (drop 113 h)) ≡ view (record { head = h; subs = subs; rows = rows })
   unfolding headView headOf view
-  loaded-view h used = rw (kind-by (eqb (at 0 h) 0))
+  loaded-view h used = refl
 
   -- stored numbers are viewed as they are, with the producers and audits of the head
   pub stored-view : (d : Head) (h : List ℕ) → 8345 ≤ length h

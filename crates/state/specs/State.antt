@@ -11,6 +11,7 @@ use Rattle.entry.specs.Entry.{entryOf}
 use Rattle.definition.specs.Types.{Kind, queue, topic, Id, Audit, Dest}
 use Rattle.definition.specs.Consumer.{zeroStats}
 use Rattle.definition.specs.Words.{at}
+pub use Rattle.definition.specs.Words.{kindBy}
 use Rattle.definition.specs.Layout.{Row, flag, heldAt, subsAt, subRows, statsAt}
 use Rattle.stats.specs.declared.Stats.{Stats}
 use Rattle.state.specs.declared.Head.{Head}
@@ -63,10 +64,6 @@ noHead = record {
 -- the numbers of a head and a table of consumers
 unfoldable pub loaded : List ℕ → List Row → Head
 loaded h subs = if ltb (length h) 8345 then noHead else headOf h (usedOf h subs)
-
-abbrev pub kindBy : Bool → Kind
-kindBy true = queue
-kindBy false = topic
 
 -- the kind's word: 0 for a queue, 1 for a topic
 abbrev pub kindWord : Bool → ℕ

@@ -1,0 +1,128 @@
+-- Parts of a call: nothing, one after another, `touch_idle`; and that the numbers of a sound destination fit. Assumes nothing.
+use mathlib.Core.Path.{_≡_, refl, sym, ap, ap₂, _∙_, subst, subst⁻¹}
+use mathlib.Core.Bool.{Bool, true, false, _&&_}
+use mathlib.Core.List.{List, [], _∷_, _++_, append-assoc, append-nil, map, map-append}
+use Prim.Native.Nat.{ℕ, _+_, _-_, _≤_}
+use native.Mathlib.Omega.{arith}
+use lib.ListN.{length, take, drop}
+use lib.Seq.{drop-drop}
+use Rattle.definition.specs.Types.{Id, Audit, Dest}
+use Rattle.definition.specs.Types as Def
+use Rattle.definition.specs.Destination.{Out, touchIdle}
+use Rattle.definition.specs.Layout.{Row, subRows, eventWords}
+use Rattle.state.specs.declared.Head.{Head}
+use Rattle.state.specs.State.{headView, withIdle, touched}
+use Rattle.state.specs.Leaves.{silent, both, Leaves, LeavesIf, Untouched}
+use Rattle.state.specs.Ready.{Stands}
+use Rattle.state.proofs.View.{touched-mark, touch-view}
+
+-- what is left as it was from k on is so from later places on
+drop-later : (k n : ℕ) (l m : List Row) → k ≤ n → drop k l ≡ drop k m → drop n l ≡ drop n m
+drop-later k n l m h e =
+    let s : k + (n - k) ≡ n = omega arith in
+    ap (λ (x : ℕ). drop x l) (sym s) ∙ sym (drop-drop (n - k) k l) ∙ ap (drop (n - k)) e ∙ drop-drop (n - k) k m ∙ ap (λ (x : ℕ). drop x m) s
+
+-- a part under another name that says the same of this destination
+pub leaves-as : (f g : Dest → Out) (d r : Head) (subs rows events subs′ rows′ events′ : List Row)
+    → ((producers : List Id) (audits : List Audit) → length producers ≡ d .producers → f (headView d subs rows producers audits) ≡ g (headView d subs rows producers audits))
+    → Leaves f d r subs rows events subs′ rows′ events′ → Leaves g d r subs rows events subs′ rows′ events′
+leaves-as f g d r subs rows events subs′ rows′ events′ h a = record {
+  view = λ p u e. a .view p u e ∙ ap (λ (x : Out). x .dest) (h p u e);
+  sent = λ p u e. a .sent p u e ∙ ap (λ (x : Out). take (d .events) events ++ map eventWords (x .events)) (h p u e);
+  later = a .later;
+  more = a .more;
+  producers = a .producers;
+  audits = a .audits;
+  queue = a .queue;
+  consumers = a .consumers;
+  used = a .used;
+  rows-used = a .rows-used;
+  subs-past = a .subs-past;
+  rows-past = a .rows-past;
+  subs-length = a .subs-length;
+  rows-length = a .rows-length;
+  events-length = a .events-length;
+}
+
+-- a total function's promise where its test holds, and where it does not
+module _ (test : Bool) (also : Type 0) (f : Dest → Out) (d r : Head) (subs rows events subs′ rows′ events′ : List Row) where
+  pub leaves-when : test ≡ true → LeavesIf test also f d r subs rows events subs′ rows′ events′ → Leaves f d r subs rows events subs′ rows′ events′ × also
+  leaves-when h a = subst (λ (b : Bool). LeavesIf b also f d r subs rows events subs′ rows′ events′) h a
+
+  pub when-leaves : test ≡ true → Leaves f d r subs rows events subs′ rows′ events′ × also → LeavesIf test also f d r subs rows events subs′ rows′ events′
+  when-leaves h a = subst⁻¹ (λ (b : Bool). LeavesIf b also f d r subs rows events subs′ rows′ events′) h a
+
+  pub unless-touched : test ≡ false → Untouched d r subs rows events subs′ rows′ events′ → LeavesIf test also f d r subs rows events subs′ rows′ events′
+  unless-touched h a = subst⁻¹ (λ (b : Bool). LeavesIf b also f d r subs rows events subs′ rows′ events′) h a
+
+-- one part after another
+module _ (f g : Dest → Out) (d r q : Head) (subs rows events subs′ rows′ events′ subs″ rows″ events″ : List Row)
+    (a : Leaves f d r subs rows events subs′ rows′ events′)
+    (b : Leaves g r q subs′ rows′ events′ subs″ rows″ events″)
+  where
+    sent-both : (producers : List Id) (audits : List Audit) → length producers ≡ d .producers
+        → take (q .events) events″ ≡ take (d .events) events ++ map eventWords (both f g (headView d subs rows producers audits) .events)
+    sent-both p u e =
+        let t : Dest = headView d subs rows p u in
+        let x : List Row = take (d .events) events in
+        let y : List Row = map eventWords (f t .events) in
+        let z : List Row = map eventWords (g (f t .dest) .events) in
+        b .sent p u (e ∙ sym (a .producers))
+        ∙ ap₂ (λ (l : List Row) (v : Dest). l ++ map eventWords (g v .events)) (a .sent p u e) (a .view p u e)
+        ∙ append-assoc x y z
+        ∙ ap (λ (l : List Row). x ++ l) (sym (map-append eventWords (f t .events) (g (f t .dest) .events)))
+
+    pub leaves-both : Leaves (both f g) d q subs rows events subs″ rows″ events″
+    leaves-both = record {
+      view = λ p u e. b .view p u (e ∙ sym (a .producers)) ∙ ap (λ (t : Dest). g t .dest) (a .view p u e);
+      sent = sent-both;
+      later = b .later ∙ drop-later (r .events) (q .events) events′ events (b .more) (a .later);
+      more = omega (arith, a .more, b .more);
+      producers = b .producers ∙ a .producers;
+      audits = b .audits ∙ a .audits;
+      queue = b .queue ∙ a .queue;
+      consumers = b .consumers;
+      used = b .used;
+      rows-used = b .rows-used;
+      subs-past = b .subs-past ∙ a .subs-past;
+      rows-past = b .rows-past ∙ a .rows-past;
+      subs-length = b .subs-length ∙ a .subs-length;
+      rows-length = b .rows-length ∙ a .rows-length;
+      events-length = b .events-length ∙ a .events-length;
+    }
+
+module _ (d : Head) (subs rows events : List Row) (s : Stands d subs) where
+  -- the tables as they are, with a head that has the same counts
+  quiet : (f : Dest → Dest) (r : Head) → ((producers : List Id) (audits : List Audit) → length producers ≡ d .producers → headView r subs rows producers audits ≡ f (headView d subs rows producers audits))
+      → r .events ≡ d .events → r .producers ≡ d .producers → r .audits ≡ d .audits → r .queue ≡ d .queue → Stands r subs
+      → Leaves (silent f) d r subs rows events subs rows events
+  quiet f r v e p a q t = record {
+    view = v;
+    sent = λ producers audits h. ap (λ (n : ℕ). take n events) e ∙ sym (append-nil (take (d .events) events));
+    later = refl;
+    more = omega (arith, e);
+    producers = p;
+    audits = a;
+    queue = q;
+    consumers = t .consumers;
+    used = t .used;
+    rows-used = t .rows-used;
+    subs-past = refl;
+    rows-past = refl;
+    subs-length = refl;
+    rows-length = refl;
+    events-length = refl;
+  }
+
+  -- nothing
+  pub leaves-rest : Leaves (silent (λ t. t)) d d subs rows events subs rows events
+  leaves-rest = quiet (λ t. t) d (λ producers audits h. refl) refl refl refl refl s
+
+  -- `touch_idle`
+  pub leaves-touch : (now : ℕ) → 32 ≤ length subs → 512 ≤ length rows → Leaves (silent (touchIdle now)) d (touched now d) subs rows events subs rows events
+  leaves-touch now hs hr =
+      let m = touched-mark now d in
+      quiet (touchIdle now) (touched now d)
+      (λ producers audits h. touch-view subs rows producers audits now d (omega (arith, s .consumers)) (omega (arith, s .rows-used, s .used)) h)
+      (ap (λ (x : Head). x .events) m) (ap (λ (x : Head). x .producers) m) (ap (λ (x : Head). x .audits) m) (ap (λ (x : Head). x .queue) m)
+      (rw m (record { consumers = s .consumers; used = s .used; rows-used = s .rows-used }))
