@@ -1,239 +1,118 @@
-// The table of consumers, full or one short: places, and changes.
-use crate::made;
-use crate::say;
-use crate::say::EMPTY;
-use crate::say::FILLS;
-use crate::say::FULL;
-use crate::say::OVER;
-use crate::say::PART;
-use crate::say::SHORT;
-use crate::sum;
+// The table of consumers: a of them are lent, and where e is not 0, word e of the last of 32 is f. A function goes by the number
+// of its name in the list of `run`.
 use consumers::Found;
 use consumers::Sub;
 use consumers::SubRow;
+use runs::line;
+use runs::line::Numbers;
+use runs::made;
+use runs::say;
+use runs::sum;
 
 // A consumer of no table.
 fn other() -> Sub {
     consumers::sub_of(made::sub(600))
 }
 
-fn load_on(case: u8, subs: &mut [SubRow], i: usize) {
-    made::subs(subs);
-    let w = consumers::words_of(consumers::load(subs, i));
-    say::name(b"consumers load", case);
-    say::count(i);
-    say::colon();
-    say::sum(sum::of_sub(w));
-    say::end();
-}
-
-fn load(case: u8, i: usize) {
-    if case == SHORT {
-        let mut subs = [[0u64; 16]; 31];
-        load_on(case, &mut subs, i);
-    } else {
-        let mut subs = [[0u64; 16]; 32];
-        load_on(case, &mut subs, i);
+fn change(k: usize, subs: &mut [SubRow], x: Numbers) {
+    let s = other();
+    match k {
+        1 => consumers::store(subs, x.b, s),
+        2 => consumers::append(subs, x.b, s),
+        3 => consumers::remove(subs, x.b, x.c),
+        4 => consumers::hold_back(subs, x.b, x.c as u64),
+        5 => consumers::clear(subs, x.b),
+        _ => {}
     }
 }
 
-fn load_runs() {
-    load(FULL, 0);
-    load(FULL, 31);
-    load(OVER, 32);
-    load(SHORT, 30);
-    load(SHORT, 31);
+// An entry of a producer, with a match word.
+fn accepting(subs: &[SubRow], x: Numbers) -> usize {
+    let row = [1, 0, 1, x.c as u64, x.d as u64, 0, 0, 0, 0];
+    consumers::accepting(subs, x.b, entry::entry_of(row))
 }
 
-fn store_on(case: u8, subs: &mut [SubRow], i: usize) {
-    made::subs(subs);
-    let before = sum::of_subs(subs);
-    consumers::store(subs, i, other());
-    say::name(b"consumers store", case);
-    say::count(i);
-    say::colon();
-    say::left(before, sum::of_subs(subs));
-}
-
-fn store(case: u8, i: usize) {
-    if case == SHORT {
-        let mut subs = [[0u64; 16]; 31];
-        store_on(case, &mut subs, i);
-    } else {
-        let mut subs = [[0u64; 16]; 32];
-        store_on(case, &mut subs, i);
+fn count(k: usize, subs: &[SubRow], x: Numbers) -> usize {
+    match k {
+        6 => consumers::base_of(subs, x.b),
+        7 => consumers::held_rows(subs, x.b, x.c != 0),
+        _ => accepting(subs, x),
     }
-}
-
-fn store_runs() {
-    store(FULL, 0);
-    store(FULL, 31);
-    store(OVER, 32);
-    store(SHORT, 30);
-    store(SHORT, 31);
-}
-
-fn append_on(case: u8, subs: &mut [SubRow], n: usize) {
-    made::subs(subs);
-    let before = sum::of_subs(subs);
-    consumers::append(subs, n, other());
-    say::name(b"append", case);
-    say::count(n);
-    say::colon();
-    say::left(before, sum::of_subs(subs));
-}
-
-fn append(case: u8, n: usize) {
-    if case == SHORT {
-        let mut subs = [[0u64; 16]; 31];
-        append_on(case, &mut subs, n);
-    } else {
-        let mut subs = [[0u64; 16]; 32];
-        append_on(case, &mut subs, n);
-    }
-}
-
-fn append_runs() {
-    append(EMPTY, 0);
-    append(FILLS, 31);
-    append(FULL, 32);
-    append(SHORT, 31);
 }
 
 // Looks for the identifier of the made-up consumer so far on.
-fn position_on(case: u8, subs: &mut [SubRow], n: usize, who: usize) {
-    made::subs(subs);
-    let id = consumers::sub_of(made::sub(who)).id();
-    let found = consumers::position(subs, n, id);
-    say::name(b"position", case);
-    say::count(n);
-    say::count(who);
-    say::colon();
-    match found {
+fn position(subs: &[SubRow], x: Numbers) {
+    let id = consumers::sub_of(made::sub(x.c)).id();
+    match consumers::position(subs, x.b, id) {
         Found::At(i) => say::at(i),
         Found::Nothing => say::nothing(),
     }
 }
 
-fn position(case: u8, n: usize, who: usize) {
-    if case == SHORT {
-        let mut subs = [[0u64; 16]; 31];
-        position_on(case, &mut subs, n, who);
-    } else {
-        let mut subs = [[0u64; 16]; 32];
-        position_on(case, &mut subs, n, who);
+fn load(subs: &[SubRow], x: Numbers) {
+    let w = consumers::words_of(consumers::load(subs, x.b));
+    say::text(b" rows");
+    say::count(consumers::rows_of(w));
+    say::text(b" words");
+    say::number(sum::of_sub(w));
+}
+
+// The window of one with prefetch a, b in flight, c freed, and a pull where d is not 0.
+fn has_credit(x: Numbers) {
+    let mut s = other();
+    s.prefetch = x.a as u64;
+    s.inflight = x.b;
+    s.freed = x.c;
+    s.pulling = x.d != 0;
+    say::count(s.window());
+    say::yes(s.has_credit());
+}
+
+fn act(k: usize, subs: &mut [SubRow], x: Numbers) {
+    if k < 6 {
+        return change(k, subs, x);
+    }
+    match k {
+        9 => position(subs, x),
+        10 => load(subs, x),
+        11 => say::yes(consumers::fit(subs, x.b)),
+        _ => say::count(count(k, subs, x)),
     }
 }
 
-fn position_runs() {
-    position(FULL, 32, 0);
-    position(FULL, 32, 31);
-    position(FULL, 32, 32);
-    position(PART, 31, 31);
-    position(EMPTY, 0, 0);
-    position(OVER, 33, 31);
-    position(SHORT, 32, 30);
-    position(SHORT, 32, 31);
+fn damage(subs: &mut [SubRow], x: Numbers) {
+    if x.e != 0 {
+        made::put_in_sub(subs, 31, x.e, x.f as u64);
+    }
 }
 
-fn remove_on(case: u8, subs: &mut [SubRow], at: usize, n: usize) {
-    made::subs(subs);
+fn on(k: usize, subs: &mut [SubRow], x: Numbers) {
+    made::subs(subs, false);
+    damage(subs, x);
     let before = sum::of_subs(subs);
-    consumers::remove(subs, at, n);
-    say::name(b"remove", case);
-    say::count(at);
-    say::count(n);
-    say::colon();
+    act(k, subs, x);
     say::left(before, sum::of_subs(subs));
 }
 
-fn remove(case: u8, at: usize, n: usize) {
-    if case == SHORT {
-        let mut subs = [[0u64; 16]; 31];
-        remove_on(case, &mut subs, at, n);
-    } else {
-        let mut subs = [[0u64; 16]; 32];
-        remove_on(case, &mut subs, at, n);
+fn lend(k: usize, subs: &mut [SubRow], x: Numbers) {
+    let from = 0;
+    let to = x.a;
+    if to <= subs.len() {
+        on(k, &mut subs[from..to], x);
     }
 }
 
-fn remove_runs() {
-    remove(FULL, 0, 32);
-    remove(FULL, 31, 32);
-    remove(PART, 3, 10);
-    remove(EMPTY, 0, 0);
-    remove(OVER, 32, 32);
-    remove(OVER, 0, 33);
-    remove(SHORT, 0, 32);
-    remove(SHORT, 0, 31);
-}
-
-fn hold_back_on(case: u8, subs: &mut [SubRow], n: usize, seq: u64) {
-    made::subs(subs);
-    let before = sum::of_subs(subs);
-    consumers::hold_back(subs, n, seq);
-    say::name(b"hold_back", case);
-    say::count(n);
-    say::number(seq);
-    say::colon();
-    say::left(before, sum::of_subs(subs));
-}
-
-fn hold_back(case: u8, n: usize, seq: u64) {
-    if case == SHORT {
-        let mut subs = [[0u64; 16]; 31];
-        hold_back_on(case, &mut subs, n, seq);
-    } else {
-        let mut subs = [[0u64; 16]; 32];
-        hold_back_on(case, &mut subs, n, seq);
+pub fn run(text: &[u8], x: Numbers) {
+    let k = line::name(
+        b"consumers::store consumers::append consumers::remove consumers::hold_back consumers::clear consumers::base_of consumers::held_rows consumers::accepting consumers::position consumers::load consumers::fit consumers::has_credit ",
+        text,
+    );
+    if k == 0 {
+        return;
     }
-}
-
-fn hold_back_runs() {
-    hold_back(FULL, 32, 0);
-    hold_back(FULL, 32, 1);
-    hold_back(FULL, 32, 310);
-    hold_back(FULL, 32, 311);
-    hold_back(PART, 12, 100);
-    hold_back(EMPTY, 0, 1);
-    hold_back(OVER, 33, 100);
-    hold_back(SHORT, 32, 100);
-}
-
-fn clear_on(case: u8, subs: &mut [SubRow], n: usize) {
-    made::subs(subs);
-    let before = sum::of_subs(subs);
-    consumers::clear(subs, n);
-    say::name(b"clear", case);
-    say::count(n);
-    say::colon();
-    say::left(before, sum::of_subs(subs));
-}
-
-fn clear(case: u8, n: usize) {
-    if case == SHORT {
-        let mut subs = [[0u64; 16]; 31];
-        clear_on(case, &mut subs, n);
-    } else {
-        let mut subs = [[0u64; 16]; 32];
-        clear_on(case, &mut subs, n);
+    if k == 12 {
+        return has_credit(x);
     }
-}
-
-fn clear_runs() {
-    clear(FULL, 32);
-    clear(PART, 31);
-    clear(EMPTY, 0);
-    clear(OVER, 33);
-    clear(SHORT, 32);
-}
-
-pub fn run() {
-    load_runs();
-    store_runs();
-    append_runs();
-    position_runs();
-    remove_runs();
-    hold_back_runs();
-    clear_runs();
+    let mut subs = [[0u64; 16]; 33];
+    lend(k, &mut subs, x);
 }

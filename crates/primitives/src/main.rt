@@ -1,23 +1,35 @@
-// Runs each primitive on made-up buffers: full, empty, with a number one over, and one short.
-// A line says the primitive and the case, then the numbers that it was called with, and after the colon what came of it: its
-// answer, and what the buffer sums up to afterwards; `unchanged` where that is what it summed up to before.
+// Runs the table of rows, the table of consumers, and whether numbers are all different: a call a line on standard input, on made-up buffers.
+// Each line is printed again, and after a colon what came of it. README.md says what stands in a line.
+use libc::STDIN_FILENO;
+use runs::line;
+use runs::say;
+
 mod consumers_runs;
-mod credit_runs;
 mod distinct_runs;
-mod fits_runs;
-mod made;
-mod range_runs;
-mod say;
-mod state_runs;
-mod sum;
 mod table_runs;
 
+// One line.
+fn run(text: &[u8]) {
+    let x = line::read(text);
+    say::text(text);
+    say::text(b":");
+    table_runs::run(text, x);
+    consumers_runs::run(text, x);
+    distinct_runs::run(text, x);
+    say::text(b"\n");
+}
+
+fn run_all(input: &[u8]) {
+    let mut i = 0;
+    while i < input.len() {
+        let to = line::end(input, i);
+        run(&input[i..to]);
+        i = to + 1;
+    }
+}
+
 fn main() {
-    table_runs::run();
-    range_runs::run();
-    consumers_runs::run();
-    credit_runs::run();
-    state_runs::run();
-    fits_runs::run();
-    distinct_runs::run();
+    let mut input = io::large_buffer();
+    let n = io::read_full(STDIN_FILENO, &mut input);
+    run_all(&input[..n]);
 }

@@ -8,3 +8,4 @@ pub mod Testing
 pub mod Tested
 pub mod Removing
 pub mod Checking
+pub mod Past

@@ -4,3 +4,4 @@ pub mod Events
 pub mod Fitting
 pub mod Leaves
 pub mod Ready
+pub mod Answers

@@ -203,3 +203,16 @@ module _ {ℓ} {A : Type ℓ} where
       ∙ ap (λ (x : List A). getD x (i - m) z) e
       ∙ getD-drop m r (i - m) z
       ∙ ap (λ (n : ℕ). getD r n z) u
+
+  -- two lists that agree on their first n elements: a front of those, and the rest of them
+  pub agree-take : (j n : ℕ) (x y : List A) → take n x ≡ take n y → j ≤ n → take j x ≡ take j y
+  agree-take j n x y q h = sym (take-take j n x h) ∙ ap (take j) q ∙ take-take j n y h
+
+  pub agree-drop : (j n : ℕ) (x y : List A) → take n x ≡ take n y → j ≤ n → take (n - j) (drop j x) ≡ take (n - j) (drop j y)
+  agree-drop j n x y q h = sym (slice-take j n x h) ∙ ap (drop j) q ∙ slice-take j n y h
+
+  -- lists that agree from a place on agree from a later one on
+  pub agree-later : (m n : ℕ) (x y : List A) → m ≤ n → drop m x ≡ drop m y → drop n x ≡ drop n y
+  agree-later m n x y h q =
+      let e : m + (n - m) ≡ n = omega arith in
+      ap (λ (k : ℕ). drop k x) (sym e) ∙ sym (drop-drop (n - m) m x) ∙ ap (drop (n - m)) q ∙ drop-drop (n - m) m y ∙ ap (λ (k : ℕ). drop k y) e

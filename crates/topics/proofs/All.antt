@@ -1,29 +1,25 @@
 -- A turn of the loop over all consumers: what the definition says of the tables before it, it says of the tables after it. Assumes nothing.
 use mathlib.Core.Path.{_≡_, sym, ap, ap₂, _∙_}
-use mathlib.Core.Bool.{Bool, true, and-eq-true-iff}
 use mathlib.Core.List.{List, [], _∷_, _++_, append-assoc, append-nil, map, map-append}
 use Prim.Native.Nat.{ℕ, suc, _+_, _-_, _≤_, _<_}
 use native.Mathlib.Numerals.{add-one}
 use native.Mathlib.Omega.{arith}
-use borrow.Author.Tests.{le-leb}
 use lib.ListN.{length, take, drop, getD, set}
-use lib.Seq.{drop-cons, drop-drop, take-suc-set, drop-length}
+use lib.Seq.{drop-drop, drop-length}
 use Rattle.stats.specs.declared.Stats.{Stats}
-use Rattle.definition.specs.Base.{all}
 use Rattle.definition.specs.Types.{topic}
 use Rattle.definition.specs.Types as Def
 use Rattle.definition.specs.Consumer.{_⊕_, Step, serveTopic}
 use Rattle.definition.specs.Destination.{Served, serveAll}
-use Rattle.definition.specs.Words.{at}
-use Rattle.definition.specs.Layout.{Row, inflightOf, heldOf, subAt, subsAt, subRows, eventWords}
+use Rattle.definition.specs.Layout.{Row, subsAt, subRows, eventWords}
 use Rattle.definition.proofs.Local.{⊕-zero, ⊕-assoc}
 use Rattle.consumers.specs.declared.Sub.{Sub}
-use Rattle.consumers.specs.Consumers.{subOf, subWords}
-use Rattle.consumers.proofs.View.{sub-at, sub-stored, subs-append, subs-agree, rows-append}
+use Rattle.consumers.specs.Consumers.{subOf, subWords, subView}
+use Rattle.consumers.proofs.Words.{round}
 use Rattle.state.specs.declared.Head.{Head}
 use Rattle.topics.specs.Topics.{Seen, seen, ran, Kept, moved}
-use Rattle.topics.specs.Dispatched.{windowed}
-use Rattle.topics.proofs.Turn.{agree-drop}
+use Rattle.table.proofs.Lists.{agree-drop}
+use Rattle.topics.proofs.Line.{stored-next, rows-one, subs-done, left-size, subs-next, subs-rest}
 
 -- the consumers, the rows after theirs, the counters and the events
 pub record Whole : Type 0 where
@@ -70,23 +66,13 @@ pub record Ready (ws : List Row) (i base : ℕ) (d₀ d : Head) : Type 0 where
   pub rows : base + subRows (drop i ws) + (d .reserved + d .waiting) ≡ d .used
   pub used : d .used ≤ d₀ .used
   pub events : d .events + subRows (drop i ws) ≤ d₀ .events + d₀ .used
+  pub sent : d₀ .events ≤ d .events
   pub expired : d .stats .expired + subRows (drop i ws) ≤ d₀ .stats .expired + d₀ .used
   pub dispatched : d .stats .dispatched + subRows (drop i ws) ≤ d₀ .stats .dispatched + d₀ .used
   pub head : d ≡ moved d₀ d
 
-all-append : (p : Row → Bool) (l : List Row) (x : Row) → all p l ≡ true → p x ≡ true → all p (l ++ (x ∷ [])) ≡ true
-all-append p [] x h k = rw k
-all-append p (y ∷ l) x h k =
-    let q = and-eq-true-iff (p y) (all p l) .0 h in
-    rw (q .0) (all-append p l x (q .1) k)
-
 spans : (u v b f h f′ h′ : ℕ) → u + (f + h) ≡ v + (f′ + h′) → u - (b + f′ + h′) ≡ v - (b + f + h)
 spans u v b f h f′ h′ e = omega arith
-
--- the rows that are left: those of the next consumer, and the rest
-pub left-size : (ws : List Row) (i : ℕ) → i < length ws → subRows (drop i ws) ≡ subOf (getD ws i []) .inflight + (subOf (getD ws i []) .held + subRows (drop (suc i) ws))
-unfolding subRows subOf
-left-size ws i h = ap subRows (drop-cons ws i [] h)
 
 module _ (now : ℕ) (ws : List Row) (i base : ℕ) (d₀ d : Head) (subs rows events rows′ events′ : List Row) (t : Sub) (r : Head)
     (more : i < length ws)
@@ -121,9 +107,6 @@ module _ (now : ℕ) (ws : List Row) (i base : ℕ) (d₀ d : Head) (subs rows e
     abbrev subs′ : List Row
     subs′ = set subs i (subWords t)
 
-    drop-is : drop i ws ≡ w ∷ post
-    drop-is = drop-cons ws i [] more
-
     left-is : drop (i + 1) ws ≡ post
     left-is = ap (λ (n : ℕ). drop n ws) (add-one i)
 
@@ -140,39 +123,30 @@ module _ (now : ℕ) (ws : List Row) (i base : ℕ) (d₀ d : Head) (subs rows e
           rows = omega arith;
           used = omega arith;
           events = omega arith;
+          sent = omega arith;
           expired = omega arith;
           dispatched = omega arith;
           head = kept .head ∙ ap (λ (x : Head). moved x r) (ready .head);
         }
 
     pre-is : take (i + 1) subs′ ≡ take i subs ++ (subWords t ∷ [])
-    pre-is = ap (λ (n : ℕ). take n subs′) (add-one i) ∙ take-suc-set subs i (subWords t) within
+    pre-is = stored-next subs i (subWords t) within
 
     pub ends-turn : end′ ≡ subRows (take (i + 1) subs′)
-    unfolding subRows subWords
+    unfolding subWords
     ends-turn =
-        let q : subRows (take (i + 1) subs′) ≡ subRows (take i subs) + subRows (subWords t ∷ []) = ap subRows pre-is ∙ rows-append (take i subs) (subWords t ∷ []) in
+        let q : subRows (take (i + 1) subs′) ≡ subRows (take i subs) + t .inflight + t .held = ap subRows pre-is ∙ rows-one (take i subs) (subWords t) in
         omega arith
-
-    pub windows-turn : at 13 w ≤ at 14 w → all windowed (take i subs) ≡ true → all windowed (take (i + 1) subs′) ≡ true
-    unfolding subWords subOf
-    windows-turn h k = rw pre-is (all-append windowed (take i subs) (subWords t) k (le-leb (t .freed) (t .inflight) (omega (arith, kept .freed, kept .flying))))
 
     -- the consumers that are done
     front : subsAt topic (take (i + 1) subs′) rows′ ≡ subsAt topic (take i subs) rows ++ (a .sub ∷ [])
-    unfolding subsAt seen subWords
+    unfolding seen subWords
     front =
-        let pre : List Row = take i subs in
-        let first : subsAt topic pre rows′ ≡ subsAt topic pre rows = subs-agree topic pre base rows′ rows (omega arith) (ap (λ (x : Seen). x .before) said) in
         let f : List Row = take (t .inflight) (drop base rows′) in
-        let mine : subAt topic (subWords t) f (take (t .held) (drop (t .inflight) (drop base rows′))) ≡ a .sub =
-        ap (λ (x : List Row). subAt topic (subWords t) f (take (t .held) x)) (drop-drop (t .inflight) base rows′)
-        ∙ sub-stored topic t f (take (t .held) (drop (base + t .inflight) rows′))
-        ∙ ap (λ (x : Seen). x .sub) said in
+        let h : List Row = take (t .held) (drop (base + t .inflight) rows′) in
         ap (λ (l : List Row). subsAt topic l rows′) pre-is
-        ∙ subs-append topic pre (subWords t ∷ []) rows′
-        ∙ ap₂ (λ (x : List Def.Sub) (n : ℕ). x ++ subsAt topic (subWords t ∷ []) (drop n rows′)) first (sym ends)
-        ∙ ap (λ (x : Def.Sub). subsAt topic pre rows ++ (x ∷ [])) mine
+        ∙ subs-done topic (take i subs) (subWords t) base rows rows′ (a .sub) ends (ap (λ (x : Seen). x .before) said)
+        (ap (λ (x : Sub). subView topic x f h) (round t) ∙ ap (λ (x : Seen). x .sub) said)
 
     -- the rows after the consumer's are as they were
     abbrev n : ℕ
@@ -184,20 +158,11 @@ module _ (now : ℕ) (ws : List Row) (i base : ℕ) (d₀ d : Head) (subs rows e
         let g : r .used - end′ ≡ n = spans (r .used) (d .used) base (s .inflight) (s .held) (t .inflight) (t .held) (kept .tail) in
         ap (λ (m : ℕ). take m (drop end′ rows′)) (sym g) ∙ ap (λ (x : Seen). x .after) said
 
-    abbrev tail : List Row
-    tail = drop (heldOf w) (drop (inflightOf w) (drop base rows))
-
-    tail-is : tail ≡ drop end rows
-    unfolding subOf
-    tail-is =
-        let e : base + (inflightOf w + heldOf w) ≡ base + inflightOf w + heldOf w = omega arith in
-        drop-drop (heldOf w) (inflightOf w) (drop base rows) ∙ drop-drop (inflightOf w + heldOf w) base rows ∙ ap (λ (m : ℕ). drop m rows) e
-
     fits : subRows post ≤ n
     fits = let y = size in let z = ready .rows in omega arith
 
-    back : subsAt topic (drop (i + 1) ws) (drop end′ rows′) ≡ subsAt topic post tail
-    back = ap (λ (l : List Row). subsAt topic l (drop end′ rows′)) left-is ∙ subs-agree topic post n (drop end′ rows′) tail fits (agrees ∙ ap (take n) (sym tail-is))
+    back : subsAt topic (drop (i + 1) ws) (drop end′ rows′) ≡ subsAt topic post (drop end rows)
+    back = subs-rest ws i more topic n end end′ rows rows′ fits agrees
 
     others : take (r .reserved + r .waiting) (drop (end′ + subRows (drop (i + 1) ws)) rows′) ≡ take (d .reserved + d .waiting) (drop (base + subRows (drop i ws)) rows)
     others =
@@ -215,20 +180,12 @@ module _ (now : ℕ) (ws : List Row) (i base : ℕ) (d₀ d : Head) (subs rows e
         ∙ ap₂ take count₀ (drop-drop m end rows ∙ ap (λ (x : ℕ). drop x rows) from)
 
     -- the definition serves this consumer, then the rest
-    one : subAt topic w (take (inflightOf w) (drop base rows)) (take (heldOf w) (drop (inflightOf w) (drop base rows))) ≡ v .sub
-    unfolding seen subOf
-    one =
-        let f : List Row = take (inflightOf w) (drop base rows) in
-        ap (λ (x : List Row). subAt topic w f (take (heldOf w) x)) (drop-drop (inflightOf w) base rows) ∙ sub-at topic w f (take (heldOf w) (drop (base + inflightOf w) rows))
-
     abbrev x : Served
-    x = serveAll now (subsAt topic post tail)
+    x = serveAll now (subsAt topic post (drop end rows))
 
     served : serveAll now (subsAt topic (drop i ws) (drop base rows)) ≡ record { subs = a .sub ∷ x .subs; counts = a .counts ⊕ x .counts; events = a .events ++ x .events }
-    unfolding serveAll subsAt
-    served =
-        ap (λ (l : List Row). serveAll now (subsAt topic l (drop base rows))) drop-is
-        ∙ ap (λ (y : Def.Sub). serveAll now (y ∷ subsAt topic post tail)) one
+    unfolding serveAll seen subOf
+    served = ap (serveAll now) (subs-next ws i more topic base rows)
 
     pub whole-turn : whole now ws (i + 1) end′ r subs′ rows′ events′ ≡ whole now ws i base d subs rows events
     unfolding whole seen

@@ -1,5 +1,6 @@
 pub mod Serve
+pub mod Parts
+pub mod Line
 pub mod Turn
 pub mod All
 pub mod Round
-pub mod Answers

@@ -1,29 +1,27 @@
 -- What holds while a topic's consumers are served one after the other, and what it says when all are. Assumes nothing.
 use mathlib.Core.Path.{_≡_, refl, sym, ap, ap₂, _∙_}
-use mathlib.Core.Bool.{true, false}
+use mathlib.Core.Bool.{false}
 use mathlib.Core.List.{List, [], _++_, map}
 use Prim.Native.Nat.{ℕ, suc, _+_, _-_, _≤_, _<_, _^_}
 use native.Mathlib.Omega.{arith}
 use lib.ListN.{length, take, drop, getD, set, length-set}
-use lib.Seq.{length-take-le, getD-take, drop-length, drop-drop, drop-set-lt}
+use lib.Seq.{length-take-le, getD-take, drop-length, drop-set-lt}
 use Rattle.entry.specs.Entry.{entryOf}
-use Rattle.definition.specs.Base.{all}
 use Rattle.definition.specs.Types.{Kind, topic, Id, Audit}
 use Rattle.definition.specs.Consumer.{_⊕_}
 use Rattle.definition.specs.Destination.{serveAll, dispatchTopic}
-use Rattle.definition.specs.Words.{at}
 use Rattle.definition.specs.Layout.{Row, heldAt, subsAt, subRows, eventWords}
-use Rattle.table.proofs.Lists.{same-after}
+use Rattle.table.proofs.Lists.{same-after, agree-take, agree-drop, agree-later}
 use Rattle.consumers.specs.declared.Sub.{Sub}
 use Rattle.consumers.specs.Consumers.{subOf, subWords}
 use Rattle.consumers.proofs.Laws.{fitting-at}
 use Rattle.state.specs.declared.Head.{Head}
 use Rattle.state.specs.State.{headView, kindBy}
 use Rattle.state.specs.Fits.{Fits}
-use Rattle.topics.specs.Topics.{seen, ran, Fine, Kept, moved}
-use Rattle.topics.specs.Dispatched.{windowed, Dispatched}
-use Rattle.topics.proofs.Turn.{agree-take, agree-drop}
-use Rattle.topics.proofs.All.{Whole, whole, whole-start, whole-end, Ready, ready-turn, ends-turn, windows-turn, whole-turn, left-size}
+use Rattle.state.specs.Leaves.{Leaves}
+use Rattle.topics.specs.Topics.{seen, ran, Fine, Kept, moved, Dispatched}
+use Rattle.topics.proofs.All.{Whole, whole, whole-start, whole-end, Ready, ready-turn, ends-turn, whole-turn}
+use Rattle.topics.proofs.Line.{left-size}
 
 pub record Round (now : ℕ) (subs₀ rows₀ events₀ : List Row) (d₀ : Head) (subs rows events : List Row) (d : Head) (base i : ℕ) : Type 0 where
   pub within : i ≤ d₀ .consumers
@@ -33,15 +31,9 @@ pub record Round (now : ℕ) (subs₀ rows₀ events₀ : List Row) (d₀ : Head
   pub rest : drop i subs ≡ drop i subs₀
   pub ready : Ready (take (d₀ .consumers) subs₀) i base d₀ d
   pub ends : base ≡ subRows (take i subs)
-  pub windows : all windowed (take i subs) ≡ true
+  pub past : drop (d₀ .used) rows ≡ drop (d₀ .used) rows₀
   pub later : drop (d .events) events ≡ drop (d .events) events₀
   pub said : whole now (take (d₀ .consumers) subs₀) i base d subs rows events ≡ whole now (take (d₀ .consumers) subs₀) 0 0 d₀ subs₀ rows₀ events₀
-
--- lists that agree from a place on agree from a later one on
-rise : (m n : ℕ) (x y : List Row) → m ≤ n → drop m x ≡ drop m y → drop n x ≡ drop n y
-rise m n x y h q =
-    let e : m + (n - m) ≡ n = omega arith in
-    ap (λ (k : ℕ). drop k x) (sym e) ∙ sym (drop-drop (n - m) m x) ∙ ap (drop (n - m)) q ∙ drop-drop (n - m) m y ∙ ap (λ (k : ℕ). drop k y) e
 
 module _ (now : ℕ) (subs₀ rows₀ events₀ : List Row) (d₀ : Head) (fits : Fits subs₀ d₀ (length rows₀) (length events₀)) where
   abbrev ws : List Row
@@ -58,9 +50,9 @@ module _ (now : ℕ) (subs₀ rows₀ events₀ : List Row) (d₀ : Head) (fits 
     same-rows = refl;
     same-events = refl;
     rest = refl;
-    ready = record { rows = omega arith; used = omega arith; events = omega arith; expired = omega arith; dispatched = omega arith; head = refl };
+    ready = record { rows = omega arith; used = omega arith; events = omega arith; sent = omega arith; expired = omega arith; dispatched = omega arith; head = refl };
     ends = refl;
-    windows = refl;
+    past = refl;
     later = refl;
     said = refl;
   }
@@ -101,24 +93,23 @@ module _ (now : ℕ) (subs₀ rows₀ events₀ : List Row) (d₀ : Head) (fits 
 
       pub round-turn : (s t : Sub) (r : Head) (subs′ rows′ events′ : List Row) → s ≡ subOf (getD subs i []) → subs′ ≡ set subs i (subWords t)
           → length rows′ ≡ length rows → length events′ ≡ length events
-          → seen base t r rows′ events′ ≡ ran now (seen base s d rows events) → drop (r .events) events′ ≡ drop (r .events) events → Kept base s d t r
+          → seen base t r rows′ events′ ≡ ran now (seen base s d rows events) → drop (r .events) events′ ≡ drop (r .events) events → Kept base s d t r → drop (d .used) rows′ ≡ drop (d .used) rows
           → Round now subs₀ rows₀ events₀ d₀ subs′ rows′ events′ r (base + t .inflight + t .held) (i + 1)
-      round-turn s t r subs′ rows′ events′ e p lr le said later kept =
+      round-turn s t r subs′ rows′ events′ e p lr le said later kept past =
           let q : s ≡ subOf w = e ∙ ap subOf row-is in
           let k : Kept base (subOf w) d t r = rw q at kept in
           let v : seen base t r rows′ events′ ≡ ran now (seen base (subOf w) d rows events) = rw q at said in
           let b : i < length subs = omega (arith, fits .subs-long, fits .consumers, g .same-subs) in
-          let f : at 13 w ≤ at 14 w = fitting-at ws i (fits .fitted) here .0 in
           rw p (record {
             within = omega arith;
             same-subs = simp length-set (g .same-subs);
             same-rows = lr ∙ g .same-rows;
             same-events = le ∙ g .same-events;
-            rest = drop-set-lt (i + 1) subs i (subWords t) (omega arith) ∙ rise i (i + 1) subs subs₀ (omega arith) (g .rest);
+            rest = drop-set-lt (i + 1) subs i (subWords t) (omega arith) ∙ agree-later i (i + 1) subs subs₀ (omega arith) (g .rest);
             ready = ready-turn now ws i base d₀ d subs rows events rows′ events′ t r here b (g .ready) (g .ends) k v;
             ends = ends-turn now ws i base d₀ d subs rows events rows′ events′ t r here b (g .ready) (g .ends) k v;
-            windows = windows-turn now ws i base d₀ d subs rows events rows′ events′ t r here b (g .ready) (g .ends) k v f (g .windows);
-            later = later ∙ rise (d .events) (r .events) events events₀ (k .sent) (g .later);
+            past = agree-later (d .used) (d₀ .used) rows′ rows (g .ready .used) past ∙ g .past;
+            later = later ∙ agree-later (d .events) (r .events) events events₀ (k .sent) (g .later);
             said = whole-turn now ws i base d₀ d subs rows events rows′ events′ t r here b (g .ready) (g .ends) k v ∙ g .said;
           })
 
@@ -195,7 +186,7 @@ module _ (now : ℕ) (subs₀ rows₀ events₀ : List Row) (d₀ : Head) (fits 
       unfolding subRows
       none-left = ap subRows (ap (λ (n : ℕ). drop n ws) all-done ∙ drop-length ws)
 
-      pub round-end : Dispatched (dispatchTopic now) d₀ d subs₀ rows₀ events₀ subs rows events × (d .waiting ≡ d₀ .waiting)
+      pub round-end : Leaves (dispatchTopic now) d₀ d subs₀ rows₀ events₀ subs rows events × Dispatched d₀ d
       round-end =
           let r = g .ready in
           let z = none-left in
@@ -203,19 +194,21 @@ module _ (now : ℕ) (subs₀ rows₀ events₀ : List Row) (d₀ : Head) (fits 
           let m : take (d .consumers) subs ≡ take i subs = ap (λ (k : ℕ). take k subs) (n ∙ sym i-is) in
           let w = g .ends in (
             record {
-              view = view;
-              sent = sent;
+              view = λ ps qs _. view ps qs;
+              sent = λ ps qs _. sent ps qs;
               later = g .later;
-              consumers = n;
+              more = r .sent;
               producers = same (λ (x : Head). x .producers);
               audits = same (λ (x : Head). x .audits);
-              reserved = same (λ (x : Head). x .reserved);
-              waiting = omega (arith, same (λ (x : Head). x .waiting));
               queue = same (λ (x : Head). x .queue);
+              consumers = omega (arith, n, fits .consumers);
+              used = omega (arith, r .used, fits .used);
               rows-used = rw m (omega arith);
-              used = r .used;
-              most = omega arith;
-              windows = rw m (g .windows);
+              subs-past = agree-later i 32 subs subs₀ (omega (arith, g .within, fits .consumers)) (g .rest);
+              rows-past = agree-later (d₀ .used) 512 rows rows₀ (fits .used) (g .past);
+              subs-length = g .same-subs;
+              rows-length = g .same-rows;
+              events-length = g .same-events;
             },
-            same (λ (x : Head). x .waiting),
+            record { consumers = n; most = omega arith },
           )

@@ -3,12 +3,11 @@ use mathlib.Core.Path.{_≡_, refl, sym, ap, ap₂, _∙_}
 use mathlib.Core.Bool.{Bool, true, false}
 use mathlib.Core.List.{List, [], _∷_, _++_, append-nil, map, map-append}
 use mathlib.Core.Option.{Option}
-use Prim.Native.Nat.{ℕ, suc, _+_, _-_, _≤_, _<_}
-use native.Mathlib.Numerals.{add-one}
+use Prim.Native.Nat.{ℕ, _+_, _-_, _≤_, _<_}
 use native.Mathlib.Omega.{arith}
 use lib.IntN.{pos}
 use lib.ListN.{length, take, drop, getD, set, length-drop, length-set}
-use lib.Seq.{slice, length-take-le, drop-at, drop-cons, take-take, take-set-le, drop-set-lt, drop-set-add, take-suc-set, drop-drop}
+use lib.Seq.{length-take-le, drop-set-lt, drop-drop}
 use Rattle.stats.specs.Counted.{withExpiredBy, withDispatched}
 use Rattle.entry.specs.Entry.{expired, entryOf}
 use Rattle.model.specs.Model.{idOf}
@@ -20,46 +19,14 @@ use Rattle.consumers.specs.declared.Sub.{Sub}
 use Rattle.consumers.specs.Consumers.{subView, creditOf}
 use Rattle.consumers.proofs.Laws.{credit}
 use Rattle.state.specs.declared.Head.{Head}
-use Rattle.state.specs.State.{withStats, withEvents}
+use Rattle.state.specs.State.{withStats, withUsed, withEvents}
 use Rattle.state.proofs.Counts.{expired-plain, dispatched-plain}
 use Rattle.state.proofs.Events.{events-up-to, events-after}
 use Rattle.table.specs.Table.{closeGap}
-use Rattle.table.proofs.Lists.{slice-take}
-use Rattle.table.proofs.Laws.{close-before, close-used, close-length}
-use Rattle.topics.specs.Topics.{Seen, seen, stepped, ran, sentSub, Fine, Kept}
+use Rattle.table.proofs.Laws.{close-after, close-length}
+use Rattle.topics.specs.Topics.{Parts, partsOf, Seen, seen, stepped, ran, sentSub, Fine, Kept}
 use Rattle.topics.proofs.Serve.{serve-none, serve-stop, serve-lost, serve-sent, ran-rest, ran-turn}
-
--- ---- lists
-
-part-cons : (f h : ℕ) (l : List Row) → 0 < h → f < length l → take h (drop f l) ≡ getD l f [] ∷ take (h - 1) (drop (f + 1) l)
-part-cons f h l p q =
-    let e : h ≡ suc (h - 1) = omega arith in
-    ap₂ take e (drop-cons l f [] q) ∙ ap (λ (n : ℕ). getD l f [] ∷ take (h - 1) (drop n l)) (sym (add-one f))
-
--- two lists that agree on the first n rows: a part of them, and the rest
-pub agree-take : (j n : ℕ) (x y : List Row) → take n x ≡ take n y → j ≤ n → take j x ≡ take j y
-agree-take j n x y q h = sym (take-take j n x h) ∙ ap (take j) q ∙ take-take j n y h
-
-pub agree-drop : (j n : ℕ) (x y : List Row) → take n x ≡ take n y → j ≤ n → take (n - j) (drop j x) ≡ take (n - j) (drop j y)
-agree-drop j n x y q h = sym (slice-take j n x h) ∙ ap (drop j) q ∙ slice-take j n y h
-
--- what stood after a row that went
-closed-high : (f n : ℕ) (l : List Row) → f + 1 ≤ n → n ≤ length l → take (n - (f + 1)) (drop f (closeGap f 1 n l)) ≡ take (n - (f + 1)) (drop (f + 1) l)
-closed-high f n l h b =
-    let c : List Row = closeGap f 1 n l in
-    let e : n - (f + 1) ≡ n - 1 - f = omega arith in
-    ap (λ (m : ℕ). take m (drop f c)) e
-    ∙ sym (slice-take f (n - 1) c (omega arith))
-    ∙ ap (drop f) (close-used f 1 n l h b)
-    ∙ drop-at (take f l) (slice (f + 1) n l) f (length-take-le f l (omega arith))
-    ∙ slice-take (f + 1) n l h
-
--- numbers, apart from the rest
-lefts : (u f h : ℕ) → 0 < h → f + h ≤ u → u - 1 - (f + (h - 1)) ≡ u - (f + 1) - (h - 1)
-lefts u f h p q = omega arith
-
-lefts′ : (u f h : ℕ) → 0 < h → f + h ≤ u → u - (f + 1) - (h - 1) ≡ u - (f + h)
-lefts′ u f h p q = omega arith
+use Rattle.topics.proofs.Parts.{held-first, parts-lost, parts-sent}
 
 -- a topic's consumer shows what it browses whatever it holds
 same-browser : (b : Bool) (l m : List Entry) → browserAt topic b l ≡ browserAt topic b m
@@ -67,9 +34,6 @@ same-browser true l m = refl
 same-browser false l m = refl
 
 -- ---- the numbers after a turn
-
-abbrev pub withUsed : ℕ → Head → Head
-withUsed x d = record { «topic_limit» = d .«topic_limit»; «call_limit» = d .«call_limit»; «calls_used» = d .«calls_used»; turn = d .turn; «idle_since» = d .«idle_since»; stats = d .stats; consumers = d .consumers; producers = d .producers; audits = d .audits; reserved = d .reserved; waiting = d .waiting; used = x; events = d .events; queue = d .queue; idle = d .idle }
 
 abbrev pub lostHead : Head → Head
 lostHead d = withStats (withExpiredBy (d .stats) 1) (withUsed (d .used - 1) d)
@@ -101,12 +65,9 @@ module _ (now base : ℕ) (s : Sub) (d : Head) (rows events : List Row) (fine : 
     abbrev held : List Row
     held = take (s .held) (drop (base + s .inflight) rows)
 
-    held-is : held ≡ row ∷ rest
-    held-is = part-cons (base + s .inflight) (s .held) rows some (omega arith)
-
     first : v .sub .tpending ≡ entryOf row ∷ map entryOf rest
     unfolding seen subView
-    first = ap (map entryOf) held-is
+    first = ap (map entryOf) (held-first base (s .inflight) (s .held) (d .used) rows some (fine .rows) (omega arith))
 
     has : hasCredit (v .sub) ≡ creditOf s
     unfolding seen
@@ -121,30 +82,15 @@ module _ (now base : ℕ) (s : Sub) (d : Head) (rows events : List Row) (fine : 
         ≡ stepped (record { sub = withTpending (map entryOf rest) (v .sub); counts = addExpired 1; events = [] }) v
     unfolding seen subView
     seen-lost =
-        let f : ℕ = base + s .inflight in
-        let m : ℕ = f + 1 in
-        let c : List Row = closeGap f 1 (d .used) rows in
-        let fits : s .held - 1 ≤ d .used - m = omega arith in
-        let span : f - base ≡ s .inflight = omega arith in
-        let end : m + (s .held - 1) ≡ f + s .held = omega arith in
-        let low : take f c ≡ take f rows = close-before f 1 (d .used) rows f (omega arith) in
-        let high : take (d .used - m) (drop f c) ≡ take (d .used - m) (drop m rows) = closed-high f (d .used) rows (omega arith) (omega arith) in
-        let left : d .used - 1 - (f + (s .held - 1)) ≡ d .used - m - (s .held - 1) = lefts (d .used) f (s .held) some (fine .rows) in
-        let left′ : d .used - m - (s .held - 1) ≡ d .used - (f + s .held) = lefts′ (d .used) f (s .held) some (fine .rows) in
-        let mid : take (s .inflight) (drop base c) ≡ take (s .inflight) (drop base rows) =
-        ap (λ (n : ℕ). take n (drop base c)) (sym span) ∙ agree-drop base f c rows low (omega arith) ∙ ap (λ (n : ℕ). take n (drop base rows)) span in
-        let own : take (s .held - 1) (drop f c) ≡ rest = agree-take (s .held - 1) (d .used - m) (drop f c) (drop m rows) high fits in
-        let tail : take (d .used - 1 - (f + (s .held - 1))) (drop (f + (s .held - 1)) c) ≡ take (d .used - (f + s .held)) (drop (f + s .held) rows) =
-        ap₂ take left (sym (drop-drop (s .held - 1) f c))
-        ∙ agree-drop (s .held - 1) (d .used - m) (drop f c) (drop m rows) high fits
-        ∙ ap₂ take left′ (drop-drop (s .held - 1) m rows ∙ ap (λ (n : ℕ). drop n rows) end) in
-        let sub : subView topic (lostSub s) (take (s .inflight) (drop base c)) (take (s .held - 1) (drop f c)) ≡ withTpending (map entryOf rest) (v .sub) =
-        ap₂ (subView topic (lostSub s)) mid own
+        let p = parts-lost base (s .inflight) (s .held) (d .used) rows some (fine .rows) (omega arith) in
+        let now-is : Parts = partsOf base (s .inflight) (s .held - 1) (d .used - 1) (closeGap (base + s .inflight) 1 (d .used) rows) in
+        let sub : subView topic (lostSub s) (now-is .flying) (now-is .held) ≡ withTpending (map entryOf rest) (v .sub) =
+        ap (λ (x : Parts). subView topic (lostSub s) (x .flying) (x .held)) p
         ∙ ap (λ (b : Option (List Entry)). Def.withBrowser b (withTpending (map entryOf rest) (v .sub))) (same-browser (s .browser) (map entryOf rest) (map entryOf held)) in
         λ i. record {
-          before = close-before f 1 (d .used) rows base (omega arith) i;
+          before = p i .before;
           sub = sub i;
-          after = tail i;
+          after = p i .after;
           stats = expired-plain (d .stats) 1 (omega arith) i;
           events = sym (append-nil (take (d .events) events)) i;
         }
@@ -164,28 +110,19 @@ module _ (now base : ℕ) (s : Sub) (d : Head) (rows events : List Row) (fine : 
           ≡ stepped (record { sub = send (entryOf row) (withTpending (map entryOf rest) (v .sub)); counts = addDispatched 1; events = sent (v .sub) (entryOf row) ∷ [] }) v
       unfolding seen subView
       seen-sent =
-          let f : ℕ = base + s .inflight in
-          let l : List Row = set rows f x in
-          let on : s .inflight + 1 ≡ suc (s .inflight) = omega arith in
-          let up : base + (s .inflight + 1) ≡ f + 1 = omega arith in
-          let end : base + (s .inflight + 1) + (s .held - 1) ≡ f + s .held = omega arith in
+          let p = parts-sent base (s .inflight) (s .held) (d .used) rows some (fine .rows) (omega arith) x in
+          let now-is : Parts = partsOf base (s .inflight + 1) (s .held - 1) (d .used) (set rows (base + s .inflight) x) in
           let flying : List Row = take (s .inflight) (drop base rows) in
-          let mine : take (s .inflight + 1) (drop base l) ≡ flying ++ (x ∷ []) =
-          ap₂ take on (drop-set-add base rows (s .inflight) x) ∙ take-suc-set (drop base rows) (s .inflight) x (simp length-drop (omega arith)) in
-          let own : take (s .held - 1) (drop (base + (s .inflight + 1)) l) ≡ rest =
-          ap (take (s .held - 1)) (drop-set-lt (base + (s .inflight + 1)) rows f x (omega arith) ∙ ap (λ (n : ℕ). drop n rows) up) in
-          let tail : take (d .used - (base + (s .inflight + 1) + (s .held - 1))) (drop (base + (s .inflight + 1) + (s .held - 1)) l) ≡ take (d .used - (f + s .held)) (drop (f + s .held) rows) =
-          ap (λ (n : ℕ). take (d .used - n) (drop n l)) end ∙ ap (take (d .used - (f + s .held))) (drop-set-lt (f + s .held) rows f x (omega arith)) in
           let flown : map inflightAt (flying ++ (x ∷ [])) ≡ map inflightAt flying ++ (inflightOf (s .«next_dseq») (entryOf row) ∷ []) =
           map-append inflightAt flying (x ∷ []) ∙ ap (λ (y : Def.Inflight). map inflightAt flying ++ (y ∷ [])) flies in
           let next : Def.Sub = send (entryOf row) (withTpending (map entryOf rest) (v .sub)) in
-          let sub : subView topic (sentSub s) (take (s .inflight + 1) (drop base l)) (take (s .held - 1) (drop (base + (s .inflight + 1)) l)) ≡ next =
-          ap₂ (subView topic (sentSub s)) mine own
+          let sub : subView topic (sentSub s) (now-is .flying) (now-is .held) ≡ next =
+          ap (λ (y : Parts). subView topic (sentSub s) (y .flying) (y .held)) p
           ∙ ap₂ (λ (b : Option (List Entry)) (y : List Def.Inflight). Def.withBrowser b (Def.withInflight y next)) (same-browser (s .browser) (map entryOf rest) (map entryOf held)) flown in
           λ i. record {
-            before = take-set-le base rows f x (omega arith) i;
+            before = p i .before;
             sub = sub i;
-            after = tail i;
+            after = p i .after;
             stats = dispatched-plain (d .stats) (omega arith) i;
             events = events-up-to (d .events) events said (omega arith) i;
           }
@@ -206,6 +143,7 @@ pub record Going (now base : ℕ) (rows₀ events₀ : List Row) (s₀ : Sub) (d
   pub said : ran now (seen base s d rows events) ≡ ran now (seen base s₀ d₀ rows₀ events₀)
   pub later : drop (d .events) events ≡ drop (d .events) events₀
   pub kept : Kept base s₀ d₀ s d
+  pub past : drop (d₀ .used) rows ≡ drop (d₀ .used) rows₀
 
 pub going-start : (now base : ℕ) (rows events : List Row) (s : Sub) (d : Head) → Fine (length rows) (length events) base s d now → Going now base rows events s d rows events s d
 going-start now base rows events s d f = record {
@@ -214,7 +152,8 @@ going-start now base rows events s d f = record {
   same-events = refl;
   said = refl;
   later = refl;
-  kept = record { rows = f .rows; used = omega arith; tail = refl; own = omega arith; freed = refl; flying = omega arith; events = omega arith; sent = omega arith; expired = omega arith; dispatched = omega arith; head = refl };
+  kept = record { rows = f .rows; used = omega arith; tail = refl; own = omega arith; events = omega arith; sent = omega arith; expired = omega arith; dispatched = omega arith; head = refl };
+  past = refl;
 }
 
 module _ (now base : ℕ) (rows₀ events₀ : List Row) (s₀ : Sub) (d₀ : Head) (rows events : List Row) (s : Sub) (d : Head) (g : Going now base rows₀ events₀ s₀ d₀ rows events s d) where
@@ -240,8 +179,6 @@ module _ (now base : ℕ) (rows₀ events₀ : List Row) (s₀ : Sub) (d₀ : He
         used = omega arith;
         tail = omega arith;
         own = omega arith;
-        freed = k .freed;
-        flying = k .flying;
         events = omega arith;
         sent = omega arith;
         expired = omega arith;
@@ -260,6 +197,7 @@ module _ (now base : ℕ) (rows₀ events₀ : List Row) (s₀ : Sub) (d₀ : He
             said = ran-lost now base s d rows events f some credited x ∙ g .said;
             later = g .later;
             kept = kept-lost;
+            past = close-after (base + s .inflight) 1 (d .used) rows (d₀ .used) (omega (arith, g .kept .used)) ∙ g .past;
           })
 
       fine-sent : Fine (length rows) (length events) base (sentSub s) (sentHead d) now
@@ -271,8 +209,6 @@ module _ (now base : ℕ) (rows₀ events₀ : List Row) (s₀ : Sub) (d₀ : He
         used = omega arith;
         tail = omega arith;
         own = omega arith;
-        freed = k .freed;
-        flying = omega arith;
         events = omega arith;
         sent = omega arith;
         expired = omega arith;
@@ -295,4 +231,5 @@ module _ (now base : ℕ) (rows₀ events₀ : List Row) (s₀ : Sub) (d₀ : He
             said = ran-sent now base s d rows events f some x r credited y ∙ g .said;
             later = events-after (d .events) events e ∙ sym (drop-drop 1 (d .events) events) ∙ ap (drop 1) (g .later) ∙ drop-drop 1 (d .events) events₀;
             kept = kept-sent;
+            past = drop-set-lt (d₀ .used) rows (base + s .inflight) x (omega (arith, g .kept .used, f .rows)) ∙ g .past;
           })

@@ -1,2 +1,1 @@
 pub mod Topics
-pub mod Dispatched

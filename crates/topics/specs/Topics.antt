@@ -13,6 +13,22 @@ use Rattle.consumers.specs.declared.Sub.{Sub}
 use Rattle.consumers.specs.Consumers.{subView}
 use Rattle.state.specs.declared.Head.{Head}
 
+-- the rows in use about one consumer: those before its own, its own in flight and held, those after them
+pub record Parts : Type 0 where
+  pub before : List Row
+  pub flying : List Row
+  pub held : List Row
+  pub after : List Row
+
+-- its rows begin at base: so many in flight, and then so many held
+abbrev pub partsOf : ℕ → ℕ → ℕ → ℕ → List Row → Parts
+partsOf base inflight held used rows = record {
+  before = take base rows;
+  flying = take inflight (drop base rows);
+  held = take held (drop (base + inflight) rows);
+  after = take (used - (base + inflight + held)) (drop (base + inflight + held) rows);
+}
+
 -- a consumer, the rows before and after its own, the counters and the events so far
 pub record Seen : Type 0 where
   pub before : List Row
@@ -21,12 +37,12 @@ pub record Seen : Type 0 where
   pub stats : Stats
   pub events : List Row
 
--- its rows in flight begin at base, and those that it holds stand after them
+-- its rows begin at base
 unfoldable pub seen : ℕ → Sub → Head → List Row → List Row → Seen
-seen base s d rows events = record {
-  before = take base rows;
-  sub = subView topic s (take (s .inflight) (drop base rows)) (take (s .held) (drop (base + s .inflight) rows));
-  after = take (d .used - (base + s .inflight + s .held)) (drop (base + s .inflight + s .held) rows);
+seen base s d rows events = let p = partsOf base (s .inflight) (s .held) (d .used) rows in record {
+  before = p .before;
+  sub = subView topic s (p .flying) (p .held);
+  after = p .after;
   stats = d .stats;
   events = take (d .events) events;
 }
@@ -96,10 +112,13 @@ pub record Kept (base : ℕ) (s : Sub) (d : Head) (t : Sub) (r : Head) : Type 0 
   pub used : r .used ≤ d .used
   pub tail : r .used + (s .inflight + s .held) ≡ d .used + (t .inflight + t .held)
   pub own : t .inflight + t .held ≤ s .inflight + s .held
-  pub freed : t .freed ≡ s .freed
-  pub flying : s .inflight ≤ t .inflight
   pub events : r .events + t .held ≤ d .events + s .held
   pub sent : d .events ≤ r .events
   pub expired : r .stats .expired + t .held ≤ d .stats .expired + s .held
   pub dispatched : r .stats .dispatched + t .held ≤ d .stats .dispatched + s .held
   pub head : r ≡ moved d r
+
+-- what a topic's dispatch promises besides: the consumers stay, and it sends no more than there are rows in use
+pub record Dispatched (d r : Head) : Type 0 where
+  pub consumers : r .consumers ≡ d .consumers
+  pub most : r .events ≤ d .events + d .used

@@ -1,16 +1,17 @@
 // A topic's dispatch (`dispatch_topic` of destination.rs): what its consumers hold goes out to those that have credit.
 ghost use mathlib.Core.Path.{_≡_};
 ghost use Prim.Native.Nat.{_+_, _≤_, _<_, _^_};
-ghost use mathlib.Core.Bool.{true, false};
+ghost use mathlib.Core.Bool.{false, not, _&&_};
+ghost use lib.Dec.{leb};
 ghost use lib.ListN.{length, drop};
-ghost use lib.IntN.{pos};
+ghost use Rattle.words.specs.Words.{signed};
 ghost use Rattle.entry.specs.Entry.{expired, entryOf};
 ghost use Rattle.definition.specs.Consumer.{inflightOf};
 ghost use Rattle.definition.specs.Layout.{inflightAt};
 ghost use Rattle.definition.specs.Destination.{dispatchTopic};
-ghost use Rattle.state.specs.Fits.{Fits};
-ghost use Rattle.topics.specs.Dispatched.{Dispatched, dispatches, Answered};
-ghost use Rattle.topics.specs.Topics.{Fine, Kept, seen, ran, sentSub};
+ghost use Rattle.state.specs.Fits.{Fits, fits};
+ghost use Rattle.state.specs.Leaves.{Leaves, LeavesIf};
+ghost use Rattle.topics.specs.Topics.{Fine, Kept, seen, ran, sentSub, Dispatched};
 use consumers::Sub;
 use consumers::SubRow;
 use entry::Entry;
@@ -19,7 +20,7 @@ use state::Event;
 use state::Head;
 
 // No clock is above 2^62.
-const CLOCK_MOST: u64 = 4611686018427387904;
+pub const CLOCK_MOST: u64 = 4611686018427387904;
 
 // What serving one consumer leaves.
 struct Served {
@@ -27,15 +28,15 @@ struct Served {
     head: Head,
 }
 
-fn expired_by(e: Entry, clock: u64) -> bool
-    requires { ⌜ clock ≤ 2 ^ 62 ⌝ }
-    ensures { λ r. ⌜ r ≡ expired (pos clock) e ⌝ }
+// Whether an entry has expired by the clock that a word holds.
+pub fn expired_by(e: Entry, clock: u64) -> bool
+    ensures { λ r. ⌜ r ≡ expired (signed clock) e ⌝ }
 {
     e.expired(words::signed_of(clock))
 }
 
 // A row as it goes out: with a delivery number, neither freed nor acknowledged in a transaction.
-fn flown(row: Row, dseq: u64) -> Row
+pub fn flown(row: Row, dseq: u64) -> Row
     ensures { λ r. ⌜ inflightAt r ≡ inflightOf dseq (entryOf row) ⌝ }
 {
     let mut r = row;
@@ -71,6 +72,7 @@ fn serve_topic(
     ensures { λ r. ⌜ seen base (r .sub) (r .head) (now (rows .exit)) (now (events .exit)) ≡ ran clock (seen base start before (now (rows .entry)) (now (events .entry))) ⌝ }
     ensures { λ r. ⌜ drop (r .head .events) (now (events .exit)) ≡ drop (r .head .events) (now (events .entry)) ⌝ }
     ensures { λ r. ⌜ Kept base start before (r .sub) (r .head) ⌝ }
+    ensures { λ r. ⌜ drop (before .used) (now (rows .exit)) ≡ drop (before .used) (now (rows .entry)) ⌝ }
 {
     let mut s = start;
     let mut d = before;
@@ -105,7 +107,7 @@ fn serve_all(
     clock: u64,
 ) -> Head
     requires { ⌜ Fits (now subs) before (length (now rows)) (length (now events)) × (before .queue ≡ false) × (clock ≤ 2 ^ 62) ⌝ }
-    ensures { λ r. ⌜ Dispatched (dispatchTopic clock) before r (now (subs .entry)) (now (rows .entry)) (now (events .entry)) (now (subs .exit)) (now (rows .exit)) (now (events .exit)) × (r .waiting ≡ before .waiting) ⌝ }
+    ensures { λ r. ⌜ Leaves (dispatchTopic clock) before r (now (subs .entry)) (now (rows .entry)) (now (events .entry)) (now (subs .exit)) (now (rows .exit)) (now (events .exit)) × Dispatched before r ⌝ }
 {
     let n = before.consumers;
     let mut d = before;
@@ -132,7 +134,7 @@ pub fn dispatch_topic(
     d: Head,
     clock: u64,
 ) -> Head
-    ensures { λ r. ⌜ Answered (dispatches clock (now (subs .entry)) d (length (now (rows .entry))) (length (now (events .entry)))) clock d r (now (subs .entry)) (now (rows .entry)) (now (events .entry)) (now (subs .exit)) (now (rows .exit)) (now (events .exit)) ⌝ }
+    ensures { λ r. ⌜ LeavesIf (fits (now (subs .entry)) d (length (now (rows .entry))) (length (now (events .entry))) && (leb clock (2 ^ 62) && not (d .queue))) (Dispatched d r) (dispatchTopic clock) d r (now (subs .entry)) (now (rows .entry)) (now (events .entry)) (now (subs .exit)) (now (rows .exit)) (now (events .exit)) ⌝ }
 {
     if CLOCK_MOST < clock {
         return d;

@@ -1,10 +1,17 @@
 -- `topics::dispatch_topic` meets its contract. Assumes nothing.
-use mathlib.Core.Path.{sym, _∙_}
-use borrow.Author.Tests.{not-true, not-false}
+use mathlib.Core.Path.{sym, ap, _∙_}
+use mathlib.Core.Bool.{not}
+use Prim.Native.Nat.{_^_}
+use borrow.Author.Tests.{not-true, not-false, le-leb, lt-leb}
+use lib.Dec.{leb}
 use lib.ListN.{length}
 use denote.Ref.{now}
+use Rattle.definition.specs.Destination.{dispatchTopic}
+use Rattle.state.specs.Fits.{fits}
+use Rattle.state.proofs.Answers.{first-no, second-no, third-no, three-yes, leaves-no}
 use Rattle.state.proofs.Fitting.{fits-facts}
-use Rattle.topics.proofs.Answers.{dispatches-late, dispatches-queue, dispatches-unfit, dispatches-fit, answered-yes, answered-no, untouched}
+use Rattle.state.proofs.Leaves.{when-leaves}
+use Rattle.topics.specs.Topics.{Dispatched}
 use borrow.Author.Needs.{needs}
 use Rattle.topics.proofs.dispatch_topic.Statement.{statement}
 use Rattle.topics.proofs.dispatch_topic.Tie as tie
@@ -12,12 +19,12 @@ use Rattle.topics.proofs.dispatch_topic.Tie as tie
 returns : tie.Need-returns
 returns c =
     let a = c .before .args in
-    answered-no _ (a .clock) (a .d) (a .d) (now (a .subs)) (now (a .rows)) (now (a .events)) (now (a .subs)) (now (a .rows)) (now (a .events)) (dispatches-late (a .clock) (now (a .subs)) (a .d) (length (now (a .rows))) (length (now (a .events))) (c .if1 .taken)) (untouched (a .d) (now (a .subs)) (now (a .rows)) (now (a .events)))
+    leaves-no _ (Dispatched (a .d) (a .d)) (dispatchTopic (a .clock)) (a .d) (now (a .subs)) (now (a .rows)) (now (a .events)) (second-no (fits (now (a .subs)) (a .d) (length (now (a .rows))) (length (now (a .events)))) (leb (a .clock) (2 ^ 62)) (not (a .d .queue)) (lt-leb (a .clock) (2 ^ 62) (c .if1 .taken)))
 
 returns-2 : tie.Need-returns-2
 returns-2 c =
     let a = c .before .before .args in
-    answered-no _ (a .clock) (a .d) (a .d) (now (a .subs)) (now (a .rows)) (now (a .events)) (now (a .subs)) (now (a .rows)) (now (a .events)) (dispatches-queue (a .clock) (now (a .subs)) (a .d) (length (now (a .rows))) (length (now (a .events))) (c .if2 .taken)) (untouched (a .d) (now (a .subs)) (now (a .rows)) (now (a .events)))
+    leaves-no _ (Dispatched (a .d) (a .d)) (dispatchTopic (a .clock)) (a .d) (now (a .subs)) (now (a .rows)) (now (a .events)) (third-no (fits (now (a .subs)) (a .d) (length (now (a .rows))) (length (now (a .events)))) (leb (a .clock) (2 ^ 62)) (not (a .d .queue)) (ap not (c .if2 .taken)))
 
 fits-requires : tie.Need-fits-requires
 fits-requires c κs = search needs
@@ -28,7 +35,7 @@ same-length c = search needs
 returns-3 : tie.Need-returns-3
 returns-3 c =
     let a = c .before .before .before .before .before .args in
-    answered-no _ (a .clock) (a .d) (a .d) (now (a .subs)) (now (a .rows)) (now (a .events)) (now (a .subs)) (now (a .rows)) (now (a .events)) (dispatches-unfit (a .clock) (now (a .subs)) (a .d) (length (now (a .rows))) (length (now (a .events))) (sym (c .before .fits2 .ensures) ∙ not-true _ (c .if3 .taken))) (untouched (a .d) (now (a .subs)) (now (a .rows)) (now (a .events)))
+    leaves-no _ (Dispatched (a .d) (a .d)) (dispatchTopic (a .clock)) (a .d) (now (a .subs)) (now (a .rows)) (now (a .events)) (first-no (fits (now (a .subs)) (a .d) (length (now (a .rows))) (length (now (a .events)))) (leb (a .clock) (2 ^ 62)) (not (a .d .queue)) (sym (c .before .fits2 .ensures) ∙ not-true _ (c .if3 .taken)))
 
 serve-all-requires : tie.Need-serve-all-requires
 serve-all-requires c κs =
@@ -49,7 +56,8 @@ returns-4 : tie.Need-returns-4
 returns-4 c =
     let a = c .before .before .before .before .before .before .before .before .before .before .before .before .args in
     let f = sym (c .before .before .before .before .before .before .before .before .fits2 .ensures) ∙ not-false _ (c .before .before .before .before .before .before .before .if3 .left) in
-    answered-yes _ (a .clock) (a .d) _ (now (a .subs)) (now (a .rows)) (now (a .events)) _ _ _ (dispatches-fit (a .clock) (now (a .subs)) (a .d) (length (now (a .rows))) (length (now (a .events))) f (c .before .before .before .before .before .before .before .before .before .before .before .if1 .left) (c .before .before .before .before .before .before .before .before .before .before .if2 .left)) (c .before .before .before .serve-all .ensures)
+    let clock = le-leb (a .clock) (2 ^ 62) (c .before .before .before .before .before .before .before .before .before .before .before .if1 .left) in
+    when-leaves _ _ (dispatchTopic (a .clock)) (a .d) _ (now (a .subs)) (now (a .rows)) (now (a .events)) _ _ _ (three-yes (fits (now (a .subs)) (a .d) (length (now (a .rows))) (length (now (a .events)))) (leb (a .clock) (2 ^ 62)) (not (a .d .queue)) f clock (ap not (c .before .before .before .before .before .before .before .before .before .before .if2 .left))) (c .before .before .before .serve-all .ensures)
 
 pub dispatch-topic-spec : {M : Type 1} → statement M
 dispatch-topic-spec =

@@ -1,11 +1,9 @@
 -- `topics::expired_by` meets its contract. Assumes nothing.
 use mathlib.Core.Path.{ap, _∙_}
-use Prim.Native.Nat.{_<_, _^_}
-use native.Mathlib.Omega.{arith}
 use lib.IntN.{ℤ}
 use mir.Syntax.{w64}
 use mir.Val.{SFits}
-use mir.ValLaws.{toZ-pos, toZ-ofZ}
+use mir.ValLaws.{toZ-ofZ}
 use Rattle.entry.specs.Entry.{expired}
 use borrow.Author.Needs.{needs}
 use Rattle.topics.proofs.expired_by.Statement.{statement}
@@ -20,9 +18,8 @@ expired-requires c κs = search needs
 returns : tie.Need-returns
 returns c =
     let a = c .before .before .args in
-    let h : a .clock < 2 ^ 63 = omega arith in
     let f : SFits w64 (c .before .signed-of .result) = search needs in
-    c .expired .ensures ∙ ap (λ (z : ℤ). expired z (a .e)) (toZ-ofZ w64 (c .before .signed-of .result) f ∙ c .before .signed-of .ensures ∙ toZ-pos w64 (a .clock) h)
+    c .expired .ensures ∙ ap (λ (z : ℤ). expired z (a .e)) (toZ-ofZ w64 (c .before .signed-of .result) f ∙ c .before .signed-of .ensures)
 
 pub expired-by-spec : {M : Type 1} → statement M
 expired-by-spec = tie.close (tie.spec signed-of-requires expired-requires returns)

@@ -1,0 +1,151 @@
+-- The rows in flight as the definitions have them: found by a number, marked, raised, removed and counted. Assumes nothing.
+use mathlib.Core.Path.{_≡_, refl, sym, ap, ap₂, _∙_}
+use mathlib.Core.Bool.{Bool, true, false, not, _||_}
+use mathlib.Core.List.{List, [], _∷_, map}
+use mathlib.Core.Option.{Option, none, some}
+use Prim.Native.Nat.{ℕ, suc, _+_, _-_, _≤_, _<_}
+use native.Mathlib.Omega.{arith}
+use borrow.Author.Tests.{eqb-true}
+use lib.Dec.{eqb}
+use lib.ListN.{length, take, getD, set, length-set}
+use lib.Seq.{slice, getD-take, getD-drop, getD-set-same}
+use Rattle.words.specs.Words.{unsigned, int}
+use Rattle.entry.specs.Entry.{entryOf, oneMore, redelivered}
+use Rattle.definition.specs.Base.{if_then_else_, keep, tally, find, all}
+use Rattle.definition.specs.Types.{Inflight, Sub}
+use Rattle.definition.specs.Consumer.{dseqOf, bySeq, marked, bumped}
+use Rattle.definition.specs.Words.{present}
+use Rattle.definition.specs.Layout.{Row, flag, inflightAt}
+use Rattle.definition.proofs.Tests.{by-test, and-left, and-right}
+use Rattle.table.specs.declared.Found.the-variants.{At, Nothing}
+use Rattle.table.specs.Table.{inRange, freedRow, markRow, raisedRow, redeliverRow, findFrom, findSeq}
+use Rattle.table.proofs.Bounds.{find-in}
+use Rattle.table.proofs.Rows.{word-kept, freed-entry, freed-is, raised-entry}
+use Rattle.table.proofs.Search.{find-from-at, find-at}
+use Rattle.acks.specs.declared.Span.{Span}
+use Rattle.acks.specs.Rules.{inSpan}
+use Rattle.acks.specs.Parts.{nine}
+
+-- ---- lists through a map
+
+module _ {A B : Type 0} (g : A → B) (p : B → Bool) where
+  pub tally-map : (l : List A) → tally p (map g l) ≡ tally (λ x. p (g x)) l
+  tally-map [] = refl
+  tally-map (x ∷ l) = ap (λ (n : ℕ). (if p (g x) then 1 else 0) + n) (tally-map l)
+
+  pub keep-map : (l : List A) → keep p (map g l) ≡ map g (keep (λ x. p (g x)) l)
+  keep-map [] = refl
+  keep-map (x ∷ l) = by-test (p (g x)) (λ t. rw t (ap (λ (m : List B). g x ∷ m) (keep-map l))) (λ t. rw t (keep-map l))
+
+-- ---- by_seq
+
+abbrev seen : List Row → ℕ → Option ℕ
+seen f q = dseqOf (find (λ i. eqb (i .entry .seq) q) (map inflightAt f))
+
+seen-at : (n q j : ℕ) (f : List Row) → findFrom n q f ≡ At j → seen f q ≡ some (getD (getD f (j - n) []) 6 0)
+unfolding findFrom entryOf
+seen-at n q j [] e = absurd (let z : _≡_ {A = ℕ} 0 1 = cc in omega arith)
+seen-at n q j (r ∷ f) e = by-test (eqb (getD r 0 0) q)
+    (λ t.
+    let x : At n ≡ At j = rw t at e in
+    let y : n ≡ j = cc in
+    let z : j - n ≡ 0 = omega arith in
+    rw (t, z))
+    (λ t.
+    let x : findFrom (suc n) q f ≡ At j = rw t at e in
+    let z : j - n ≡ suc (j - suc n) = omega (arith, find-from-at (suc n) q j f x) in
+    rw (t, z) (seen-at (suc n) q j f x))
+
+seen-none : (n q : ℕ) (f : List Row) → findFrom n q f ≡ Nothing → seen f q ≡ none
+unfolding findFrom entryOf
+seen-none n q [] e = refl
+seen-none n q (r ∷ f) e = by-test (eqb (getD r 0 0) q)
+    (λ t. let x : At n ≡ Nothing = rw t at e in absurd (let z : _≡_ {A = ℕ} 0 1 = cc in omega arith))
+    (λ t. rw t (seen-none (suc n) q f (rw t at e)))
+
+module _ (from to q : ℕ) (rows : List Row) (h : from ≤ to) (b : to ≤ length rows) (s : Sub) (e : s .inflight ≡ map inflightAt (slice from to rows)) where
+  pub by-seq-at : (j : ℕ) → findSeq from to q rows ≡ At j → bySeq s (some q) ≡ some (getD (getD rows j []) 6 0)
+  unfolding bySeq
+  by-seq-at j x =
+      let w = find-at from to q j rows x in
+      let u : from + (j - from) ≡ j = omega arith in
+      let row : getD (slice from to rows) (j - from) [] ≡ getD rows j [] =
+      getD-drop from (take to rows) (j - from) [] ∙ ap (λ (n : ℕ). getD (take to rows) n []) u ∙ getD-take to rows j [] (omega arith) in
+      ap (λ (l : List Inflight). dseqOf (find (λ i. eqb (i .entry .seq) q) l)) e
+      ∙ seen-at from q j (slice from to rows) (sym (find-in from to q rows h b) ∙ x)
+      ∙ ap (λ (r : Row). some (getD r 6 0)) row
+
+  pub by-seq-none : findSeq from to q rows ≡ Nothing → bySeq s (some q) ≡ none
+  unfolding bySeq
+  by-seq-none x =
+      ap (λ (l : List Inflight). dseqOf (find (λ i. eqb (i .entry .seq) q) l)) e
+      ∙ seen-none from q (slice from to rows) (sym (find-in from to q rows h b) ∙ x)
+
+-- a number that is given, and one that is not
+module _ (s : Sub) (b : Bool) (q : ℕ) where
+  pub by-seq-given : b ≡ true → bySeq s (present b q) ≡ bySeq s (some q)
+  by-seq-given e = ap (λ (x : Bool). bySeq s (present x q)) e
+
+  pub by-seq-absent : b ≡ false → bySeq s (present b q) ≡ none
+  unfolding bySeq
+  by-seq-absent e = ap (λ (x : Bool). bySeq s (present x q)) e
+
+-- ---- marked and raised
+
+other : {j k : ℕ} → j < k → j ≡ k → ⊥
+other h e = omega arith
+
+above : {j k : ℕ} → k < j → j ≡ k → ⊥
+above h e = omega arith
+
+inflight-eq : {n m : ℕ} {e g : _} {x y u v : Bool} → n ≡ m → e ≡ g → x ≡ y → u ≡ v
+    → _≡_ {A = Inflight} (record { dseq = n; entry = e; freed = x; tx = u }) (record { dseq = m; entry = g; freed = y; tx = v })
+inflight-eq p q r s = λ j. record { dseq = p j; entry = q j; freed = r j; tx = s j }
+
+freed-inflight : (tx : Bool) (r : Row) → 8 < length r
+    → inflightAt (freedRow tx r) ≡ record { dseq = getD r 6 0; entry = entryOf r; freed = true; tx = tx || flag (getD r 8 0) }
+freed-inflight true r h =
+    inflight-eq (word-kept (set r 7 1) 8 1 6 (other (omega arith)) ∙ word-kept r 7 1 6 (other (omega arith))) (freed-entry true r) (freed-is true r (omega arith))
+    (ap flag (getD-set-same (set r 7 1) 8 1 0 (simp length-set (omega arith))))
+freed-inflight false r h =
+    inflight-eq (word-kept r 7 1 6 (other (omega arith))) (freed-entry false r) (freed-is false r (omega arith)) (ap flag (word-kept r 7 1 8 (above (omega arith))))
+
+raised-inflight : (r : Row) → 8 < length r
+    → inflightAt (raisedRow r) ≡ record { dseq = getD r 6 0; entry = redelivered (entryOf r); freed = flag (getD r 7 0); tx = flag (getD r 8 0) }
+raised-inflight r h =
+    let v : ℕ = unsigned (oneMore (int (getD r 5 0))) in
+    inflight-eq (word-kept r 5 v 6 (above (omega arith))) (raised-entry r (omega arith)) (ap flag (word-kept r 5 v 7 (above (omega arith)))) (ap flag (word-kept r 5 v 8 (above (omega arith))))
+
+module _ (p : Span) where
+  mark-inflight : (tx : Bool) (r : Row) → nine r ≡ true → inflightAt (markRow (p .first) (p .last) tx r) ≡ marked (inSpan p) tx (inflightAt r)
+  mark-inflight tx r h = by (inRange (p .first) (p .last) r)
+    where
+      by : (b : Bool) → inflightAt (if b then freedRow tx r else r) ≡ (if b then record { dseq = getD r 6 0; entry = entryOf r; freed = true; tx = tx || flag (getD r 8 0) } else inflightAt r)
+      by true = freed-inflight tx r (omega (arith, eqb-true (length r) 9 h))
+      by false = refl
+
+  raise-inflight : (r : Row) → nine r ≡ true → inflightAt (redeliverRow (p .first) (p .last) r) ≡ bumped (inSpan p) (inflightAt r)
+  raise-inflight r h = by (inRange (p .first) (p .last) r)
+    where
+      by : (b : Bool) → inflightAt (if b then raisedRow r else r) ≡ (if b then record { dseq = getD r 6 0; entry = redelivered (entryOf r); freed = flag (getD r 7 0); tx = flag (getD r 8 0) } else inflightAt r)
+      by true = raised-inflight r (omega (arith, eqb-true (length r) 9 h))
+      by false = refl
+
+-- what is so of each row is so of the list
+changed : (g : Row → Row) (c : Inflight → Inflight) → ((r : Row) → nine r ≡ true → inflightAt (g r) ≡ c (inflightAt r))
+    → (l : List Row) → all nine l ≡ true → map inflightAt (map g l) ≡ map c (map inflightAt l)
+changed g c law [] h = refl
+changed g c law (r ∷ l) h = ap₂ (λ (x : Inflight) (m : List Inflight). x ∷ m) (law r (and-left (nine r) (all nine l) h)) (changed g c law l (and-right (nine r) (all nine l) h))
+
+module _ (p : Span) (l : List Row) where
+  pub mark-flying : (tx : Bool) → all nine l ≡ true → map inflightAt (map (markRow (p .first) (p .last) tx) l) ≡ map (marked (inSpan p) tx) (map inflightAt l)
+  mark-flying tx = changed _ _ (mark-inflight p tx) l
+
+  pub raise-flying : all nine l ≡ true → map inflightAt (map (redeliverRow (p .first) (p .last)) l) ≡ map (bumped (inSpan p)) (map inflightAt l)
+  raise-flying = changed _ _ (raise-inflight p) l
+
+  pub keep-flying : keep (λ i. not (inSpan p i)) (map inflightAt l) ≡ map inflightAt (keep (λ r. not (inRange (p .first) (p .last) r)) l)
+  keep-flying = keep-map inflightAt (λ i. not (inSpan p i)) l
+
+  pub tally-flying : tally (inSpan p) (map inflightAt l) ≡ tally (inRange (p .first) (p .last)) l
+  tally-flying = tally-map inflightAt (inSpan p) l

@@ -1,0 +1,5 @@
+pub mod Rules
+pub mod Flying
+pub mod Parts
+pub mod Telling
+pub mod Whole

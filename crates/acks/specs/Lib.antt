@@ -1,0 +1,3 @@
+pub mod Acks
+pub mod Rules
+pub mod Parts

@@ -1,0 +1,2 @@
+pub mod Browsers
+pub mod Serving

@@ -1,0 +1,4 @@
+pub mod Checks
+pub mod Digits
+pub mod Parts
+pub mod Events

@@ -1,0 +1,30 @@
+-- `callfile::word_at` meets its contract. Assumes nothing.
+use native.Mathlib.Omega.{arith}
+use Rattle.callfile.specs.Blocks.{wordAt}
+use borrow.Author.Needs.{needs}
+use Rattle.callfile.proofs.word_at.Statement.{statement}
+use Rattle.callfile.proofs.word_at.Tie as tie
+
+number-at-requires : tie.Need-number-at-requires
+number-at-requires c κs = search needs
+
+add-number-at : tie.Need-add-number-at
+add-number-at c = search needs
+
+number-at-requires-2 : tie.Need-number-at-requires-2
+number-at-requires-2 c κs = search needs
+
+mul-result : tie.Need-mul-result
+mul-result c = search needs
+
+add-result : tie.Need-add-result
+add-result c = search needs
+
+returns : tie.Need-returns
+unfolding wordAt
+returns c = omega arith
+
+pub word-at-spec : {M : Type 1} → statement M
+word-at-spec =
+    tie.close
+    (tie.spec number-at-requires add-number-at number-at-requires-2 mul-result add-result returns)

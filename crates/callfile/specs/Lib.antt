@@ -1,0 +1,4 @@
+pub mod Blocks
+pub mod Lines
+pub mod Placed
+pub mod Cases

@@ -1,0 +1,292 @@
+// The call file: blocks of 512 bytes, and the lines that a run prints.
+ghost use mathlib.Core.Path.{_≡_};
+ghost use mathlib.Core.List.{[], _∷_};
+ghost use Prim.Native.Nat.{_+_, _≤_, _<_, _^_};
+ghost use lib.Dec.{leb};
+ghost use lib.ListN.{length};
+ghost use Rattle.words.specs.Words.{signed};
+ghost use Rattle.model.specs.Model.{idOf};
+ghost use Rattle.callfile.specs.Blocks.{byteAt, numberAt, wordAt, check, callsIn, callAt};
+ghost use Rattle.callfile.specs.Lines.{decimal, field, signedField, idFields, callLine, eventLine, letterAt, messageAt, nullAt, wordsLine, badLine, countersLine};
+ghost use Rattle.callfile.specs.Placed.{Puts, Line};
+use calls::Call;
+use stats::Stats;
+
+pub const BLOCK: usize = 512;
+
+// The bytes of a call, and those that no line exceeds.
+const CALL_BYTES: usize = 72;
+
+pub const LINE: usize = 128;
+
+// The code of no call.
+const UNKNOWN: u64 = 18446744073709551615;
+
+// From 2^63 on, a word holds a negative number; the last one holds -1.
+const NEGATIVE: u64 = 9223372036854775808;
+
+const MINUS_ONE: u64 = 18446744073709551615;
+
+// ---- blocks
+
+fn wide(b: u8) -> u64
+    ensures { λ r. ⌜ (r ≡ b) × (r < 256) ⌝ }
+{
+    b as u64
+}
+
+fn byte_at(block: &[u8], i: usize) -> u64
+    requires { do ⌜ i < (← ⟦block.len()⟧) ⌝ }
+    ensures { λ r. ⌜ (r ≡ byteAt i (now (block .entry))) × (r < 256) ⌝ }
+{
+    wide(block[i])
+}
+
+// The number of 4 bytes from a place on, little-endian.
+fn number_at(block: &[u8], at: usize) -> u64
+    requires { do ⌜ at + 4 ≤ (← ⟦block.len()⟧) ⌝ }
+    ensures { λ r. ⌜ (r ≡ numberAt at (now (block .entry))) × (r < 2 ^ 32) ⌝ }
+{
+    let low = byte_at(block, at) + 256 * byte_at(block, at + 1);
+    low + 65536 * byte_at(block, at + 2) + 16777216 * byte_at(block, at + 3)
+}
+
+// The word of 8.
+fn word_at(block: &[u8], at: usize) -> u64
+    requires { do ⌜ at + 8 ≤ (← ⟦block.len()⟧) ⌝ }
+    ensures { λ r. ⌜ r ≡ wordAt at (now (block .entry)) ⌝ }
+{
+    number_at(block, at) + 4294967296 * number_at(block, at + 4)
+}
+
+// The sum over bytes 0 to 507 of (position + 1) * byte.
+fn check_of(block: &[u8]) -> u64
+    requires { do ⌜ 512 ≤ (← ⟦block.len()⟧) ⌝ }
+    ensures { λ r. ⌜ r ≡ check (now (block .entry)) ⌝ }
+{
+    let mut sum: u64 = 0;
+    let mut i: usize = 0;
+    while i < 508 {
+        sum = sum + (i as u64 + 1) * byte_at(block, i);
+        i += 1;
+    }
+    sum
+}
+
+// How many calls a block has, of which so many bytes were read: 1 to 7, or 0 where it is short or has a wrong count or check.
+pub fn calls_in(block: &[u8], got: usize) -> usize
+    ensures { λ r. ⌜ r ≡ callsIn (now (block .entry)) got ⌝ }
+{
+    if block.len() < BLOCK {
+        return 0;
+    }
+    if got != BLOCK {
+        return 0;
+    }
+    let count = number_at(block, 504);
+    if 7 < count {
+        return 0;
+    }
+    if number_at(block, 508) != check_of(block) {
+        return 0;
+    }
+    count as usize
+}
+
+// Call k of a block, from 0 to 6; else a call of an unknown code.
+pub fn call_at(block: &[u8], k: usize) -> Call
+    ensures { λ r. ⌜ r ≡ callAt k (now (block .entry)) ⌝ }
+{
+    if block.len() < BLOCK {
+        return Call::new(UNKNOWN, [0; 8]);
+    }
+    if 6 < k {
+        return Call::new(UNKNOWN, [0; 8]);
+    }
+    let at = k * CALL_BYTES;
+    let words = [
+        word_at(block, at + 8),
+        word_at(block, at + 16),
+        word_at(block, at + 24),
+        word_at(block, at + 32),
+        word_at(block, at + 40),
+        word_at(block, at + 48),
+        word_at(block, at + 56),
+        word_at(block, at + 64),
+    ];
+    Call::new(word_at(block, at), words)
+}
+
+// ---- lines
+
+fn put(out: &mut [u8], at: usize, b: u8) -> usize
+    requires { do ⌜ at < (← ⟦out.len()⟧) ⌝ }
+    ensures { λ r. ⌜ Puts (b ∷ []) at (now (out .entry)) r (now (out .exit)) ⌝ }
+{
+    out[at] = b;
+    at + 1
+}
+
+// A number's decimal digits.
+fn put_digits(out: &mut [u8], at: usize, n: u64) -> usize
+    requires { do ⌜ at + length (decimal n) ≤ (← ⟦out.len()⟧) ⌝ }
+    ensures { λ r. ⌜ Puts (decimal n) at (now (out .entry)) r (now (out .exit)) ⌝ }
+{
+    if n < 10 {
+        return put(out, at, (48 + n) as u8);
+    }
+    let next = put_digits(out, at, n / 10);
+    put(out, next, (48 + n % 10) as u8)
+}
+
+// A space and an unsigned number.
+fn put_field(out: &mut [u8], at: usize, n: u64) -> usize
+    requires { do ⌜ at + 21 ≤ (← ⟦out.len()⟧) ⌝ }
+    ensures { λ r. ⌜ Puts (field n) at (now (out .entry)) r (now (out .exit)) × (r ≤ at + 21) ⌝ }
+{
+    let next = put(out, at, b' ');
+    put_digits(out, next, n)
+}
+
+// A space and the signed number of a word.
+fn put_signed(out: &mut [u8], at: usize, w: u64) -> usize
+    requires { do ⌜ at + 21 ≤ (← ⟦out.len()⟧) ⌝ }
+    ensures { λ r. ⌜ Puts (signedField (signed w)) at (now (out .entry)) r (now (out .exit)) × (r ≤ at + 21) ⌝ }
+{
+    if w < NEGATIVE {
+        return put_field(out, at, w);
+    }
+    let space = put(out, at, b' ');
+    let sign = put(out, space, b'-');
+    put_digits(out, sign, MINUS_ONE - w + 1)
+}
+
+// An identifier in three words: connection unsigned, session and value signed.
+fn put_id(out: &mut [u8], at: usize, conn: u64, session: u64, value: u64) -> usize
+    requires { do ⌜ at + 63 ≤ (← ⟦out.len()⟧) ⌝ }
+    ensures { λ r. ⌜ Puts (idFields (idOf conn session value)) at (now (out .entry)) r (now (out .exit)) × (r ≤ at + 63) ⌝ }
+{
+    let a = put_field(out, at, conn);
+    let b = put_signed(out, a, session);
+    put_signed(out, b, value)
+}
+
+// Whether there is room for a line.
+fn room(len: usize, at: usize) -> bool
+    ensures { λ r. ⌜ r ≡ leb (at + 128) len ⌝ }
+{
+    if len < LINE {
+        return false;
+    }
+    at <= len - LINE
+}
+
+fn call_line(out: &mut [u8], at: usize, index: u64, refusal: u64, answer: u64) -> usize
+    requires { do ⌜ at + 128 ≤ (← ⟦out.len()⟧) ⌝ }
+    ensures { λ r. ⌜ Puts (callLine index refusal answer) at (now (out .entry)) r (now (out .exit)) × (r ≤ at + 128) ⌝ }
+{
+    let a = put_digits(out, at, index);
+    let b = put_field(out, a, refusal);
+    let c = put_field(out, b, answer);
+    put(out, c, b'\n')
+}
+
+// A call's line: index, refusal, answer. Without room for the longest line, nothing is put; and so below.
+pub fn put_call(out: &mut [u8], at: usize, index: u64, refusal: u64, answer: u64) -> usize
+    ensures { λ r. ⌜ Line (callLine index refusal answer) at (now (out .entry)) r (now (out .exit)) ⌝ }
+{
+    if !room(out.len(), at) {
+        return at;
+    }
+    call_line(out, at, index, refusal, answer)
+}
+
+fn letter_line(out: &mut [u8], at: usize, e: [u64; 6]) -> usize
+    requires { do ⌜ at + 128 ≤ (← ⟦out.len()⟧) ⌝ }
+    ensures { λ r. ⌜ Puts (eventLine (letterAt e)) at (now (out .entry)) r (now (out .exit)) × (r ≤ at + 128) ⌝ }
+{
+    let cause = e[3] != 0;
+    let a = put(out, at, b'x');
+    let b = put_field(out, a, e[1]);
+    let c = put_signed(out, b, e[2]);
+    let d = put_field(out, c, cause as u64);
+    put(out, d, b'\n')
+}
+
+fn message_line(out: &mut [u8], at: usize, e: [u64; 6]) -> usize
+    requires { do ⌜ at + 128 ≤ (← ⟦out.len()⟧) ⌝ }
+    ensures { λ r. ⌜ Puts (eventLine (messageAt e)) at (now (out .entry)) r (now (out .exit)) × (r ≤ at + 128) ⌝ }
+{
+    let a = put(out, at, b'd');
+    let b = put_id(out, a, e[1], e[2], e[3]);
+    let c = put_field(out, b, e[4]);
+    let d = put_signed(out, c, e[5]);
+    put(out, d, b'\n')
+}
+
+fn null_line(out: &mut [u8], at: usize, e: [u64; 6]) -> usize
+    requires { do ⌜ at + 128 ≤ (← ⟦out.len()⟧) ⌝ }
+    ensures { λ r. ⌜ Puts (eventLine (nullAt e)) at (now (out .entry)) r (now (out .exit)) × (r ≤ at + 128) ⌝ }
+{
+    let a = put(out, at, b'n');
+    let b = put_id(out, a, e[1], e[2], e[3]);
+    put(out, b, b'\n')
+}
+
+// The line of an event in its six words; words of another kind have none.
+pub fn put_event(out: &mut [u8], at: usize, e: [u64; 6]) -> usize
+    ensures { λ r. ⌜ Line (wordsLine e) at (now (out .entry)) r (now (out .exit)) ⌝ }
+{
+    if !room(out.len(), at) {
+        return at;
+    }
+    let kind = e[0];
+    match kind {
+        1 => letter_line(out, at, e),
+        2 => message_line(out, at, e),
+        3 => null_line(out, at, e),
+        _ => at,
+    }
+}
+
+fn bad_line(out: &mut [u8], at: usize, block: u64) -> usize
+    requires { do ⌜ at + 128 ≤ (← ⟦out.len()⟧) ⌝ }
+    ensures { λ r. ⌜ Puts (badLine block) at (now (out .entry)) r (now (out .exit)) × (r ≤ at + 128) ⌝ }
+{
+    let a = put(out, at, b'b');
+    let b = put_field(out, a, block);
+    put(out, b, b'\n')
+}
+
+// The line of a block that ends the reading.
+pub fn put_bad(out: &mut [u8], at: usize, block: u64) -> usize
+    ensures { λ r. ⌜ Line (badLine block) at (now (out .entry)) r (now (out .exit)) ⌝ }
+{
+    if !room(out.len(), at) {
+        return at;
+    }
+    bad_line(out, at, block)
+}
+
+fn counters_line(out: &mut [u8], at: usize, s: Stats) -> usize
+    requires { do ⌜ at + 128 ≤ (← ⟦out.len()⟧) ⌝ }
+    ensures { λ r. ⌜ Puts (countersLine s) at (now (out .entry)) r (now (out .exit)) × (r ≤ at + 128) ⌝ }
+{
+    let a = put(out, at, b'=');
+    let b = put_field(out, a, s.enqueued);
+    let c = put_field(out, b, s.dequeued);
+    let d = put_field(out, c, s.expired);
+    let e = put_field(out, d, s.discarded);
+    let f = put_field(out, e, s.dispatched);
+    put(out, f, b'\n')
+}
+
+// The last line: the five counters.
+pub fn put_counters(out: &mut [u8], at: usize, s: Stats) -> usize
+    ensures { λ r. ⌜ Line (countersLine s) at (now (out .entry)) r (now (out .exit)) ⌝ }
+{
+    if !room(out.len(), at) {
+        return at;
+    }
+    counters_line(out, at, s)
+}

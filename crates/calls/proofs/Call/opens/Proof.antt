@@ -1,0 +1,38 @@
+-- `calls::Call::opens` meets its contract. Assumes nothing.
+use mathlib.Core.Bool.{and-assoc, and-true}
+use borrow.Author.Needs.{needs}
+use Rattle.calls.proofs.Call.opens.Statement.{statement}
+use Rattle.calls.proofs.Call.opens.Tie as tie
+
+array-read-limits : tie.Need-array-read-limits
+array-read-limits c = search needs
+
+array-read-limits-2 : tie.Need-array-read-limits-2
+array-read-limits-2 c = search needs
+
+array-read-limits-3 : tie.Need-array-read-limits-3
+array-read-limits-3 c = search needs
+
+array-read-result : tie.Need-array-read-result
+array-read-result c = search needs
+
+array-read-result-2 : tie.Need-array-read-result-2
+array-read-result-2 c = search needs
+
+unused-requires : tie.Need-unused-requires
+unused-requires c κs = search needs
+
+returns : tie.Need-returns
+returns c = rw (c .unused .ensures) (simp (and-assoc, and-true))
+
+pub opens-spec : {M : Type 1} → statement M
+opens-spec =
+    tie.close
+    (tie.spec
+    array-read-limits
+    array-read-limits-2
+    array-read-limits-3
+    array-read-result
+    array-read-result-2
+    unused-requires
+    returns)

@@ -1,0 +1,4 @@
+pub mod Fitting
+pub mod Rest
+pub mod Decoded
+pub mod Ranges

@@ -1,0 +1,5 @@
+pub mod Reword
+pub mod Parts
+pub mod Tested
+pub mod Outcomes
+pub mod Rises

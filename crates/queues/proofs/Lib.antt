@@ -1,0 +1,9 @@
+pub mod Looking
+pub mod Giving
+pub mod Viewing
+pub mod Onward
+pub mod Visiting
+pub mod Empty
+pub mod Scanning
+pub mod Guard
+pub mod Parts

@@ -1,0 +1,59 @@
+-- Turns one after the other: what the numbers may become, and what stays. Assumes nothing.
+use mathlib.Core.Path.{_≡_, refl, ap, sym, _∙_}
+use mathlib.Core.List.{List}
+use Prim.Native.Nat.{ℕ, _+_, _-_, _≤_}
+use native.Mathlib.Omega.{arith}
+use lib.ListN.{drop}
+use lib.Seq.{drop-drop}
+use Rattle.definition.specs.Layout.{Row}
+use Rattle.state.specs.declared.Head.{Head}
+use Rattle.queues.specs.Scan.{Onward}
+
+pub onward-same : (d : Head) (subs rows events : List Row) → Onward d d subs rows events subs rows events
+onward-same d subs rows events = record {
+  consumers = refl;
+  producers = refl;
+  audits = refl;
+  reserved = refl;
+  queue = refl;
+  waiting = omega arith;
+  used = omega arith;
+  more = omega arith;
+  room = omega arith;
+  expired = omega arith;
+  dispatched = omega arith;
+  later = refl;
+  subs-past = refl;
+  rows-past = refl;
+  subs-length = refl;
+  rows-length = refl;
+  events-length = refl;
+}
+
+-- lists that agree from a place on agree from a later one on
+rise : (m n : ℕ) (x y : List Row) → m ≤ n → drop m x ≡ drop m y → drop n x ≡ drop n y
+rise m n x y h q =
+    let e : m + (n - m) ≡ n = omega arith in
+    ap (λ (k : ℕ). drop k x) (sym e) ∙ sym (drop-drop (n - m) m x) ∙ ap (drop (n - m)) q ∙ drop-drop (n - m) m y ∙ ap (λ (k : ℕ). drop k y) e
+
+pub onward-then : (d₀ d r : Head) (subs₀ rows₀ events₀ subs rows events subs′ rows′ events′ : List Row)
+    → Onward d₀ d subs₀ rows₀ events₀ subs rows events → Onward d r subs rows events subs′ rows′ events′ → Onward d₀ r subs₀ rows₀ events₀ subs′ rows′ events′
+onward-then d₀ d r subs₀ rows₀ events₀ subs rows events subs′ rows′ events′ o p = record {
+  consumers = p .consumers ∙ o .consumers;
+  producers = p .producers ∙ o .producers;
+  audits = p .audits ∙ o .audits;
+  reserved = p .reserved ∙ o .reserved;
+  queue = p .queue ∙ o .queue;
+  waiting = omega arith;
+  used = omega arith;
+  more = omega arith;
+  room = omega arith;
+  expired = omega arith;
+  dispatched = omega arith;
+  later = p .later ∙ rise (d .events) (r .events) events events₀ (p .more) (o .later);
+  subs-past = p .subs-past ∙ o .subs-past;
+  rows-past = p .rows-past ∙ o .rows-past;
+  subs-length = p .subs-length ∙ o .subs-length;
+  rows-length = p .rows-length ∙ o .rows-length;
+  events-length = p .events-length ∙ o .events-length;
+}

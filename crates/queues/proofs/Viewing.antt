@@ -1,0 +1,89 @@
+-- A queue in the parts of its table: the consumers' rows, reserved ones, waiting ones, and those not in use. Assumes nothing.
+use mathlib.Core.Path.{_≡_, refl, ap, _∙_}
+use mathlib.Core.Bool.{Bool, true}
+use mathlib.Core.List.{List, [], _∷_, _++_, map}
+use mathlib.Core.Option.{none, some}
+use Prim.Native.Nat.{ℕ, zero, suc, _+_, _-_, _≤_, _<_}
+use native.Mathlib.Omega.{arith}
+use lib.ListN.{length, take, drop, getD, set, length-append, length-drop}
+use lib.Seq.{take-at, drop-at, drop-drop}
+use Rattle.words.specs.Pick.{if_then_else_}
+use Rattle.entry.specs.Entry.{entryOf}
+use Rattle.definition.specs.Base.{all}
+use Rattle.definition.specs.Types.{Kind, queue, Id, Audit, Dest}
+use Rattle.definition.specs.Layout.{Row, heldAt, subsAt, subRows}
+use Rattle.definition.proofs.Tests.{and-left, and-right, and-both}
+use Rattle.table.proofs.Lists.{drop-parts}
+use Rattle.consumers.proofs.View.{subs-before}
+use Rattle.state.specs.declared.Head.{Head}
+use Rattle.state.specs.State.{headView, kindBy}
+
+abbrev pub partsView : Head → List Row → List Row → List Row → List Row → List Id → List Audit → Dest
+partsView d ws a b c ps qs = record {
+  kind = queue;
+  topicLimit = d .«topic_limit»;
+  callLimit = d .«call_limit»;
+  callsUsed = d .«calls_used»;
+  pending = map entryOf c;
+  subs = subsAt queue ws a;
+  rr = d .turn;
+  producers = ps;
+  audits = qs;
+  stats = d .stats;
+  idle = if d .idle then some (d .«idle_since») else none;
+  reserved = map heldAt b;
+}
+
+pub view-parts : (d : Head) (subs a b c z : List Row) → d .queue ≡ true → length a ≡ subRows (take (d .consumers) subs) → length b ≡ d .reserved → length c ≡ d .waiting
+    → (ps : List Id) (qs : List Audit) → headView d subs (a ++ (b ++ (c ++ z))) ps qs ≡ partsView d (take (d .consumers) subs) a b c ps qs
+unfolding headView
+view-parts d subs a b c z e p q r ps qs =
+    let ws : List Row = take (d .consumers) subs in
+    let rows : List Row = a ++ (b ++ (c ++ z)) in
+    let others : drop (subRows ws) rows ≡ b ++ (c ++ z) = drop-at a (b ++ (c ++ z)) (subRows ws) p in
+    let waits : take (d .waiting) (drop (d .reserved) (drop (subRows ws) rows)) ≡ c =
+    ap (λ (x : List Row). take (d .waiting) (drop (d .reserved) x)) others ∙ ap (take (d .waiting)) (drop-at b (c ++ z) (d .reserved) q) ∙ take-at c z (d .waiting) r in
+    let held : take (d .reserved) (drop (subRows ws) rows) ≡ b = ap (take (d .reserved)) others ∙ take-at b (c ++ z) (d .reserved) q in
+    let mine : subsAt (kindBy (d .queue)) ws rows ≡ subsAt queue ws a =
+    ap (λ (k : Kind). subsAt k ws rows) (ap kindBy e) ∙ subs-before queue ws a (b ++ (c ++ z)) (omega (arith, p)) in
+    λ j. record {
+      kind = kindBy (e j);
+      topicLimit = d .«topic_limit»;
+      callLimit = d .«call_limit»;
+      callsUsed = d .«calls_used»;
+      pending = map entryOf (waits j);
+      subs = mine j;
+      rr = d .turn;
+      producers = ps;
+      audits = qs;
+      stats = d .stats;
+      idle = if d .idle then some (d .«idle_since») else none;
+      reserved = map heldAt (held j);
+    }
+
+-- rows that stand before those not in use: how many there are in all, and those past a later place
+module _ (u : ℕ) (x rows : List Row) (e : length x ≡ u) (l : u ≤ length rows) where
+  pub behind-length : length (x ++ drop u rows) ≡ length rows
+  behind-length = simp (length-append, length-drop) (omega arith)
+
+  pub behind-past : (m : ℕ) → u ≤ m → drop m (x ++ drop u rows) ≡ drop m rows
+  behind-past m h =
+      let n : u + (m - u) ≡ m = omega arith in
+      drop-parts u (m - u) m x (drop u rows) e n ∙ drop-drop (m - u) u rows ∙ ap (λ (k : ℕ). drop k rows) n
+
+-- ---- a test of every consumer
+
+module _ {A : Type 0} where
+  pub all-set : (p : A → Bool) (l : List A) (i : ℕ) (x : A) → all p l ≡ true → p x ≡ true → all p (set l i x) ≡ true
+  all-set p [] i x h k = refl
+  all-set p (y ∷ l) zero x h k = and-both (p x) (all p l) k (and-right (p y) (all p l) h)
+  all-set p (y ∷ l) (suc i) x h k = and-both (p y) (all p (set l i x)) (and-left (p y) (all p l) h) (all-set p l i x (and-right (p y) (all p l) h) k)
+
+  pub all-weaker : (p q : A → Bool) → ((x : A) → p x ≡ true → q x ≡ true) → (l : List A) → all p l ≡ true → all q l ≡ true
+  all-weaker p q f [] h = refl
+  all-weaker p q f (y ∷ l) h = and-both (q y) (all q l) (f y (and-left (p y) (all p l) h)) (all-weaker p q f l (and-right (p y) (all p l) h))
+
+pub all-at : (p : Row → Bool) (l : List Row) (i : ℕ) → all p l ≡ true → i < length l → p (getD l i []) ≡ true
+all-at p [] i h k = absurd (omega arith)
+all-at p (y ∷ l) zero h k = and-left (p y) (all p l) h
+all-at p (y ∷ l) (suc i) h k = all-at p l i (and-right (p y) (all p l) h) (omega arith)

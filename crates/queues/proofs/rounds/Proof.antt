@@ -1,0 +1,160 @@
+-- `queues::rounds` meets its contract. Assumes nothing.
+use mathlib.Core.Path.{_≡_, sym, ap₂}
+use Prim.Native.Nat.{ℕ, _+_, _-_, _%_, _<_}
+use native.Mathlib.Omega.{arith}
+use borrow.Author.Needs.{needs}
+use denote.Ref.{now}
+use Rattle.queues.proofs.Scanning.{Seeking, seeking-start, seeking-on, place-within, Going, going-start, going-empty, going-stop, going-less, going-on}
+use Rattle.queues.proofs.rounds.Statement.{statement}
+use Rattle.queues.proofs.rounds.Tie as tie
+
+abbrev Inv-loop : tie.InvT-loop
+Inv-loop subs₁ rows₁ events₁ clock n d₁ k₁ subs rows events d k = Seeking clock subs₁ rows₁ events₁ d₁ subs rows events d k
+
+abbrev μ-loop : tie.MeasureT-loop
+μ-loop subs₁ rows₁ events₁ clock n d₁ k₁ subs rows events d k = n - k
+
+abbrev Inv-dispatch : tie.InvT-dispatch
+Inv-dispatch subs₀ rows₀ events₀ clock n d₀ subs rows events d = Going clock subs₀ rows₀ events₀ d₀ subs rows events d
+
+abbrev μ-dispatch : tie.MeasureT-dispatch
+μ-dispatch subs₀ rows₀ events₀ clock n d₀ subs rows events d = d .waiting
+
+dispatch-holds : tie.Need-dispatch-holds Inv-loop μ-loop Inv-dispatch μ-dispatch
+dispatch-holds c =
+    let a = c .args in
+    going-start (a .clock) (now (a .subs)) (now (a .rows)) (now (a .events)) (a .before) (c .pre .0)
+
+loop-holds : tie.Need-loop-holds Inv-loop μ-loop Inv-dispatch μ-dispatch
+loop-holds c =
+    let a = c .before .before .before .args in
+    let o = c .before .before .dispatch in
+    seeking-start (a .clock) (o .subs) (o .rows) (o .events) (o .d) (o .inv .scans)
+
+add-i : tie.Need-add-i Inv-loop μ-loop Inv-dispatch μ-dispatch
+add-i c =
+    let l = c .before .before .loop in
+    let x = l .inv .scans .turn in
+    let y = c .before .before .before .before .before .before .pre .0 .consumers in
+    omega arith
+
+rem-i : tie.Need-rem-i Inv-loop μ-loop Inv-dispatch μ-dispatch
+rem-i c =
+    omega arith
+
+visit-requires : tie.Need-visit-requires Inv-loop μ-loop Inv-dispatch μ-dispatch
+visit-requires c κs =
+    let a = c .before .before .before .before .before .before .before .before .before .args in
+    let o = c .before .before .before .before .before .before .before .before .dispatch in
+    let l = c .before .before .before .before .before .loop in
+    let same : o .d .consumers ≡ a .before .consumers = o .inv .onward .consumers in
+    let less : l .k < o .d .consumers = omega (arith, c .before .before .before .before .loop-test .taken) in
+    let place : (l .d .turn + l .k) % a .before .consumers ≡ (o .d .turn + l .k) % o .d .consumers = ap₂ (λ (x n : ℕ). (x + l .k) % n) (l .inv .turn) (sym same) in
+    let pre = c .before .before .before .before .before .before .before .before .before .pre in
+    (l .inv .scans, rw place (place-within (a .clock) (o .subs) (o .rows) (o .events) (o .d) (l .subs) (l .rows) (l .events) (l .d) (l .k) (l .inv) less), pre .1)
+
+dispatch-less : tie.Need-dispatch-less Inv-loop μ-loop Inv-dispatch μ-dispatch
+dispatch-less c =
+    let a = c .before .before .before .before .before .before .before .before .before .before .before .before .before .before .before .args in
+    let o = c .before .before .before .before .before .before .before .before .before .before .before .before .before .before .dispatch in
+    let l = c .before .before .before .before .before .before .before .before .before .before .before .loop in
+    let same : o .d .consumers ≡ a .before .consumers = o .inv .onward .consumers in
+    let less : l .k < o .d .consumers = omega (arith, c .before .before .before .before .before .before .before .before .before .before .loop-test .taken) in
+    let place : (l .d .turn + l .k) % a .before .consumers ≡ (o .d .turn + l .k) % o .d .consumers = ap₂ (λ (x n : ℕ). (x + l .k) % n) (l .inv .turn) (sym same) in
+    let v = c .before .before .before .before .before .visit in
+    let t = rw (c .if2 .taken) at (v .ensures) in
+    going-less (a .clock) (now (a .subs)) (now (a .rows)) (now (a .events)) (a .before) (o .subs) (o .rows) (o .events) (o .d) (l .subs) (l .rows) (l .events) (l .d) (l .k) (o .inv) (l .inv) less _ _ _ _ (rw place at t)
+
+dispatch-again : tie.Need-dispatch-again Inv-loop μ-loop Inv-dispatch μ-dispatch
+dispatch-again c =
+    let a = c .before .before .before .before .before .before .before .before .before .before .before .before .before .before .before .args in
+    let o = c .before .before .before .before .before .before .before .before .before .before .before .before .before .before .dispatch in
+    let l = c .before .before .before .before .before .before .before .before .before .before .before .loop in
+    let same : o .d .consumers ≡ a .before .consumers = o .inv .onward .consumers in
+    let less : l .k < o .d .consumers = omega (arith, c .before .before .before .before .before .before .before .before .before .before .loop-test .taken) in
+    let place : (l .d .turn + l .k) % a .before .consumers ≡ (o .d .turn + l .k) % o .d .consumers = ap₂ (λ (x n : ℕ). (x + l .k) % n) (l .inv .turn) (sym same) in
+    let v = c .before .before .before .before .before .visit in
+    let t = rw (c .if2 .taken) at (v .ensures) in
+    going-on (a .clock) (now (a .subs)) (now (a .rows)) (now (a .events)) (a .before) (o .subs) (o .rows) (o .events) (o .d) (l .subs) (l .rows) (l .events) (l .d) (l .k) (o .inv) (l .inv) less _ _ _ _ (rw place at t)
+
+add-k : tie.Need-add-k Inv-loop μ-loop Inv-dispatch μ-dispatch
+add-k c =
+    let y = c .before .before .before .before .before .before .before .before .before .before .before .before .before .before .before .pre .0 .consumers in
+    let h = c .before .before .before .before .before .before .before .before .before .before .loop-test .taken in
+    omega arith
+
+loop-less : tie.Need-loop-less Inv-loop μ-loop Inv-dispatch μ-dispatch
+loop-less c =
+    let h = c .before .before .before .before .before .before .before .before .before .before .loop-test .taken in
+    omega arith
+
+loop-again : tie.Need-loop-again Inv-loop μ-loop Inv-dispatch μ-dispatch
+loop-again c =
+    let a = c .before .before .before .before .before .before .before .before .before .before .before .before .before .before .before .args in
+    let o = c .before .before .before .before .before .before .before .before .before .before .before .before .before .before .dispatch in
+    let l = c .before .before .before .before .before .before .before .before .before .before .before .loop in
+    let same : o .d .consumers ≡ a .before .consumers = o .inv .onward .consumers in
+    let less : l .k < o .d .consumers = omega (arith, c .before .before .before .before .before .before .before .before .before .before .loop-test .taken) in
+    let place : (l .d .turn + l .k) % a .before .consumers ≡ (o .d .turn + l .k) % o .d .consumers = ap₂ (λ (x n : ℕ). (x + l .k) % n) (l .inv .turn) (sym same) in
+    let v = c .before .before .before .before .before .visit in
+    let t = v .ensures in
+    seeking-on (a .clock) (o .subs) (o .rows) (o .events) (o .d) (l .subs) (l .rows) (l .events) (l .d) (l .k) (l .inv) less _ _ _ _ _ (rw place at t) (c .if2 .left)
+
+same-length : tie.Need-same-length Inv-loop μ-loop Inv-dispatch μ-dispatch
+same-length c = search needs
+
+same-length-2 : tie.Need-same-length-2 Inv-loop μ-loop Inv-dispatch μ-dispatch
+same-length-2 c = search needs
+
+same-length-3 : tie.Need-same-length-3 Inv-loop μ-loop Inv-dispatch μ-dispatch
+same-length-3 c = search needs
+
+returns : tie.Need-returns Inv-loop μ-loop Inv-dispatch μ-dispatch
+returns c =
+    let a = c .before .before .before .before .before .args in
+    let o = c .before .before .before .before .dispatch in
+    let l = c .before .loop in
+    let same : o .d .consumers ≡ a .before .consumers = o .inv .onward .consumers in
+    going-stop (a .clock) (now (a .subs)) (now (a .rows)) (now (a .events)) (a .before) (o .subs) (o .rows) (o .events) (o .d) (l .subs) (l .rows) (l .events) (l .d) (l .k) (o .inv) (l .inv) (omega (arith, c .loop-test .left))
+
+same-length-4 : tie.Need-same-length-4 Inv-loop μ-loop Inv-dispatch μ-dispatch
+same-length-4 c = search needs
+
+same-length-5 : tie.Need-same-length-5 Inv-loop μ-loop Inv-dispatch μ-dispatch
+same-length-5 c = search needs
+
+same-length-6 : tie.Need-same-length-6 Inv-loop μ-loop Inv-dispatch μ-dispatch
+same-length-6 c = search needs
+
+returns-2 : tie.Need-returns-2 Inv-loop μ-loop Inv-dispatch μ-dispatch
+returns-2 c =
+    let a = c .before .before .before .args in
+    let o = c .before .before .dispatch in
+    going-empty (a .clock) (now (a .subs)) (now (a .rows)) (now (a .events)) (a .before) (o .subs) (o .rows) (o .events) (o .d) (o .inv) (c .if1 .left)
+
+pub rounds-spec : {M : Type 1} → statement M
+rounds-spec =
+    tie.close
+    (tie.spec
+    Inv-loop
+    μ-loop
+    Inv-dispatch
+    μ-dispatch
+    dispatch-holds
+    loop-holds
+    add-i
+    rem-i
+    visit-requires
+    dispatch-less
+    dispatch-again
+    add-k
+    loop-less
+    loop-again
+    same-length
+    same-length-2
+    same-length-3
+    returns
+    same-length-4
+    same-length-5
+    same-length-6
+    returns-2)

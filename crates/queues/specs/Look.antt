@@ -1,0 +1,45 @@
+-- A look along the waiting rows, on the table. Assumes nothing.
+use mathlib.Core.Path.{_≡_}
+use mathlib.Core.Bool.{Bool, true, false}
+use mathlib.Core.List.{List, [], _∷_, _++_, map}
+use mathlib.Core.Option.{none, some}
+use Prim.Native.Nat.{ℕ, _+_}
+use lib.ListN.{length, take, drop}
+use lib.Seq.{slice}
+use Rattle.entry.specs.Entry.{entryOf}
+use Rattle.definition.specs.Types.{queue}
+use Rattle.definition.specs.Types as Def
+use Rattle.definition.specs.Destination.{look}
+use Rattle.definition.specs.Layout.{Row}
+use Rattle.consumers.specs.declared.Sub.{Sub}
+use Rattle.consumers.specs.Consumers.{subView}
+
+-- a queue's consumer without its rows: they make no difference to what it accepts
+abbrev pub lone : Sub → Def.Sub
+lone s = subView queue s [] []
+
+-- of the rows from..to the one at a place is chosen: the waiting rows before and after it, and as many spare rows as have expired
+pub record Found (now : ℕ) (s : Sub) (from to : ℕ) (rows rows′ : List Row) (at end : ℕ) : Type 0 where
+  pub before : List Row
+  pub row : Row
+  pub after : List Row
+  pub spare : List Row
+  pub parts : rows′ ≡ take from rows ++ (before ++ row ∷ (after ++ (spare ++ drop to rows)))
+  pub place : from + length before ≡ at
+  pub last : at + 1 + length after ≡ end
+  pub size : end + length spare ≡ to
+  pub said : look now (lone s) (s .cursor) (map entryOf (slice from to rows))
+      ≡ record { pending = map entryOf (before ++ after); chosen = some (entryOf row); cursor = entryOf row .seq; gone = length spare }
+
+-- none is chosen
+pub record Missed (now : ℕ) (s : Sub) (from to : ℕ) (rows rows′ : List Row) (end cursor : ℕ) : Type 0 where
+  pub left : List Row
+  pub spare : List Row
+  pub parts : rows′ ≡ take from rows ++ (left ++ (spare ++ drop to rows))
+  pub last : from + length left ≡ end
+  pub size : end + length spare ≡ to
+  pub said : look now (lone s) (s .cursor) (map entryOf (slice from to rows)) ≡ record { pending = map entryOf left; chosen = none; cursor = cursor; gone = length spare }
+
+abbrev pub Looks : Bool → ℕ → Sub → ℕ → ℕ → List Row → List Row → ℕ → ℕ → ℕ → Type 0
+Looks true now s from to rows rows′ at end cursor = Found now s from to rows rows′ at end
+Looks false now s from to rows rows′ at end cursor = Missed now s from to rows rows′ end cursor

@@ -1,0 +1,10 @@
+pub mod Insert
+pub mod Used
+pub mod Refusals
+pub mod Parts
+pub mod Leave
+pub mod Queue
+pub mod Copy
+pub mod Spread
+pub mod Round
+pub mod Stored

@@ -1,0 +1,67 @@
+-- An entry that is counted and then stored by the kind, as `store` promises it. Assumes nothing.
+use mathlib.Core.Path.{_≡_, subst}
+use mathlib.Core.Bool.{true, false}
+use mathlib.Core.List.{List}
+use Prim.Native.Nat.{_+_, _<_}
+use native.Mathlib.Omega.{arith}
+use borrow.Author.Tests.{leb-true}
+use lib.ListN.{length, take}
+use Rattle.stats.specs.Counted.{top, withEnqueued}
+use Rattle.entry.specs.Entry.{entryOf, rowOf}
+use Rattle.definition.specs.Types.{Id, Entry, Audit, Dest}
+use Rattle.definition.specs.Layout.{Row}
+use Rattle.table.specs.Table.{placeOf, insertRow}
+use Rattle.consumers.specs.Table.{onFirst, heldBackRow}
+use Rattle.state.specs.declared.Head.{Head}
+use Rattle.state.specs.State.{headView, withStats, firstWaiting}
+use Rattle.state.specs.Fits.{fits, Fits}
+use Rattle.state.specs.Leaves.{silent, LeavesIf}
+use Rattle.state.proofs.Fitting.{fits-facts}
+use Rattle.state.proofs.Leaves.{when-leaves}
+use Rattle.storing.specs.Storing.{holds, rowsNeeded, roomFor, stores, queuedHead, kept, waits, spread, Room}
+use Rattle.storing.specs.Arrivals.{Arrives, Arrived}
+use Rattle.storing.proofs.Refusals.{stores-yes}
+use Rattle.storing.proofs.Leave.{leaves-counted, counted-queue, counted-topic}
+use Rattle.storing.proofs.Queue.{queued-arrived}
+
+abbrev pub counted : Head → Head
+counted d = withStats (withEnqueued (d .stats)) d
+
+module _ (e : Entry) (d : Head) (subs rows events : List Row) (row : entryOf (rowOf e 0 0 0) ≡ e) (fit : fits subs d (length rows) (length events) ≡ true)
+    (free : holds (e .seq) (take (d .used) rows) ≡ false) (room : roomFor e d subs ≡ true)
+  where
+    abbrev f : Fits subs d (length rows) (length events)
+    f = fits-facts subs d (length rows) (length events) fit
+
+    few : d .stats .enqueued < top
+    few = omega (arith, f .enqueued)
+
+    pub arrives : Arrives e (counted d) subs rows
+    arrives = record {
+      row = row;
+      subs-long = f .subs-long;
+      rows-long = f .rows-long;
+      consumers = f .consumers;
+      room = leb-true (d .events + d .used + rowsNeeded e d subs) 512 room;
+      discarded = f .discarded;
+      rows-used = f .rows-used;
+      absent = free;
+    }
+
+    module _ (r : Head) (subs′ rows′ : List Row) where
+      abbrev Stored : Type 0
+      Stored = LeavesIf (stores e d subs rows (length events)) (Room d r) (silent (kept e)) d r subs rows events subs′ rows′ events
+
+      by : (f : Dest → Dest) → ((producers : List Id) (audits : List Audit) → f (headView (counted d) subs rows producers audits) ≡ kept e (headView d subs rows producers audits))
+          → Arrived f (counted d) r subs rows subs′ rows′ → Stored
+      by f same x =
+          when-leaves (stores e d subs rows (length events)) (Room d r) (silent (kept e)) d r subs rows events subs′ rows′ events (stores-yes e d subs rows (length events) fit free room)
+          (leaves-counted f (kept e) (withEnqueued (d .stats)) d r subs rows events subs′ rows′ events same (x events .0), x events .1)
+
+      pub stored-topic : (h : Head) → h ≡ counted d → d .queue ≡ false → Arrived (spread e) h r subs rows subs′ rows′ → Stored
+      stored-topic h p q x =
+          by (spread e) (λ ps qs. counted-topic e d subs rows few ps qs q) (subst (λ (z : Head). Arrived (spread e) z r subs rows subs′ rows′) p x)
+
+      pub stored-queue : d .queue ≡ true → r ≡ queuedHead (counted d) → subs′ ≡ onFirst (heldBackRow (e .seq)) (d .consumers) subs
+          → rows′ ≡ insertRow (placeOf (firstWaiting d) (d .used) (e .seq) rows) (d .used) (rowOf e 0 0 0) rows → Stored
+      stored-queue q p o l = by (waits e) (λ ps qs. counted-queue e d subs rows few ps qs q) (rw (p, o, l) (queued-arrived e (counted d) subs rows arrives q))

@@ -1,0 +1,71 @@
+-- An entry that arrives, before the dispatch: when it is refused, when it is stored, and what that means. Assumes nothing.
+use mathlib.Core.Path.{_≡_}
+use Prim.Native.Nat.{ℕ, _+_, _≤_}
+use mathlib.Core.Bool.{Bool, _&&_}
+use mathlib.Core.List.{List, [], map}
+use mathlib.Core.Option.{none}
+use lib.Dec.{leb, eqb}
+use lib.ListN.{length, take}
+use Rattle.entry.specs.Entry.{entryOf}
+use Rattle.definition.specs.Base.{if_then_else_, tally, member}
+use Rattle.definition.specs.Types.{Kind, queue, topic, Entry, Dest, withPending, withSubs, withIdle}
+use Rattle.definition.specs.Destination.{insert, holdBack, fanOutAll, count, stored, fannedOut}
+use Rattle.definition.specs.Calls.{seqs, enqueuing, ownRefusal}
+use Rattle.definition.specs.Layout.{Row}
+use Rattle.consumers.specs.Table.{takes}
+use Rattle.state.specs.declared.Head.{Head}
+use Rattle.state.specs.State.{headView, withUsed, withWaiting, notIdle}
+use Rattle.state.specs.Fits.{fits}
+
+-- ---- what it means
+
+-- `enqueue` before its dispatch: stored on a queue, fanned out on a topic
+abbrev pub storedBy : Entry → Dest → Kind → Dest
+storedBy e t queue = stored e t
+storedBy e t topic = fannedOut e t
+
+abbrev pub kept : Entry → Dest → Dest
+kept e t = storedBy e t (t .kind)
+
+-- the same two after the entry was counted
+abbrev pub waits : Entry → Dest → Dest
+waits e t = withIdle none (withPending (insert e (t .pending)) (withSubs (map (holdBack (e .seq)) (t .subs)) t))
+
+abbrev pub spread : Entry → Dest → Dest
+spread e t = let r = fanOutAll (t .topicLimit) e (t .subs) in count (r .counts) (withSubs (r .subs) t)
+
+-- ---- when
+
+-- whether one of these rows has a sequence number
+abbrev pub holds : ℕ → List Row → Bool
+holds seq rows = member seq (seqs (map entryOf rows))
+
+-- the rows that an entry needs: one on a queue, one for each consumer that accepts it on a topic
+abbrev pub rowsNeeded : Entry → Head → List Row → ℕ
+rowsNeeded e d subs = if d .queue then 1 else tally (takes e) (take (d .consumers) subs)
+
+-- the refusal that is the entry's own. It looks at no producer, no audit and no clock.
+abbrev pub ownRefusalOf : Entry → Head → List Row → List Row → ℕ
+ownRefusalOf e d subs rows = ownRefusal (headView d subs rows [] []) (enqueuing e 0)
+
+-- 2 where the numbers do not fit the tables
+unfoldable pub refusalOf : Entry → Head → List Row → List Row → ℕ
+refusalOf e d subs rows = if fits subs d (length rows) 545 then ownRefusalOf e d subs rows else 2
+
+-- its rows are free beside the events that were sent
+abbrev pub roomFor : Entry → Head → List Row → Bool
+roomFor e d subs = leb (d .events + d .used + rowsNeeded e d subs) 512
+
+-- whether it is stored: the numbers fit, it is not refused, and there is room
+unfoldable pub stores : Entry → Head → List Row → List Row → ℕ → Bool
+stores e d subs rows events = fits subs d (length rows) events && (eqb (ownRefusalOf e d subs rows) 0 && roomFor e d subs)
+
+-- ---- the numbers
+
+-- on a queue one more waits, and the destination is not idle
+abbrev pub queuedHead : Head → Head
+queuedHead d = notIdle (withWaiting (d .waiting + 1) (withUsed (d .used + 1) d))
+
+-- what a dispatch sends still has room, and the consumers are as many
+abbrev pub Room : Head → Head → Type 0
+Room d r = (r .events + r .used ≤ 512) × (r .consumers ≡ d .consumers)

@@ -1,0 +1,183 @@
+// An entry that arrives (`enqueue` of destination.rs, before its dispatch): refused, or stored on a queue or fanned out on a topic.
+ghost use mathlib.Core.Path.{_≡_};
+ghost use mathlib.Core.Bool.{true, false};
+ghost use Prim.Native.Nat.{_+_, _≤_, _<_, _^_};
+ghost use lib.ListN.{length, take};
+ghost use Rattle.entry.specs.Entry.{rowOf};
+ghost use Rattle.consumers.specs.Table.{onFirst, heldBackRow};
+ghost use Rattle.state.specs.State.{firstWaiting};
+ghost use Rattle.state.specs.Leaves.{silent, LeavesIf};
+ghost use Rattle.table.specs.Table.{placeOf, insertRow, closeGap};
+ghost use Rattle.storing.specs.Storing.{holds, rowsNeeded, refusalOf, roomFor, stores, Room, queuedHead, kept, spread};
+ghost use Rattle.storing.specs.Copies.{overLimit, limitedSub, limitedHead, copiedSub, copiedHead, copiedRows};
+ghost use Rattle.storing.specs.Arrivals.{Arrives, Arrived};
+use consumers::Sub;
+use consumers::SubRow;
+use entry::Entry;
+use entry::Row;
+use state::Event;
+use state::Head;
+
+// ---- refusals
+
+// Whether a row in use has a sequence number.
+fn is_held(rows: &[Row], used: usize, seq: u64) -> bool
+    requires { ⌜ used ≤ length (now rows) ⌝ }
+    ensures { λ r. ⌜ r ≡ holds seq (take used (now (rows .entry))) ⌝ }
+{
+    let found = table::find_seq(rows, 0, used, seq);
+    match found {
+        table::Found::At(_) => true,
+        table::Found::Nothing => false,
+    }
+}
+
+// The rows that an entry needs.
+fn rows_for(subs: &[SubRow], d: Head, e: Entry) -> usize
+    ensures { λ r. ⌜ r ≡ rowsNeeded e d (now (subs .entry)) ⌝ }
+{
+    if d.queue {
+        return 1;
+    }
+    consumers::accepting(subs, d.consumers, e)
+}
+
+// The refusal that is an entry's own: 4 where its number is held, 5 where too few rows are free, else 0. Where the numbers do not
+// fit the tables, 2.
+pub fn refusal(subs: &[SubRow], rows: &[Row], d: Head, e: Entry) -> u64
+    ensures { λ r. ⌜ r ≡ refusalOf e d (now (subs .entry)) (now (rows .entry)) ⌝ }
+{
+    if !state::fits(subs, d, rows.len(), state::EVENTS) {
+        return 2;
+    }
+    if is_held(rows, d.used, e.seq) {
+        return 4;
+    }
+    if d.free_rows() < rows_for(subs, d, e) {
+        return 5;
+    }
+    0
+}
+
+// Whether the rows that an entry needs are free beside the events that were sent.
+fn has_room(subs: &[SubRow], d: Head, e: Entry) -> bool
+    requires { ⌜ d .events + d .used ≤ 512 ⌝ }
+    ensures { λ r. ⌜ r ≡ roomFor e d (now (subs .entry)) ⌝ }
+{
+    rows_for(subs, d, e) <= state::ROWS - d.used - d.events
+}
+
+// ---- stored on a queue
+
+fn queued(subs: &mut [SubRow], rows: &mut [Row], mut d: Head, e: Entry) -> Head
+    requires { ⌜ (d .used < 2 ^ 63) × (d .waiting < 2 ^ 63) ⌝ }
+    ensures { λ r. ⌜ r ≡ queuedHead d ⌝ }
+    ensures { λ _. ⌜ now (subs .exit) ≡ onFirst (heldBackRow (e .seq)) (d .consumers) (now (subs .entry)) ⌝ }
+    ensures { λ _. ⌜ now (rows .exit) ≡ insertRow (placeOf (firstWaiting d) (d .used) (e .seq) (now (rows .entry))) (d .used) (rowOf e 0 0 0) (now (rows .entry)) ⌝ }
+{
+    consumers::hold_back(subs, d.consumers, e.seq);
+    let place = table::place_of(rows, d.first_waiting(), d.used, e.seq);
+    table::insert_row(rows, place, d.used, entry::held_row(e));
+    d.used = d.used + 1;
+    d.waiting = d.waiting + 1;
+    d.not_idle()
+}
+
+// ---- fanned out on a topic
+
+// What a copy for one consumer leaves.
+struct Copied {
+    sub: Sub,
+    head: Head,
+}
+
+// How many of n held rows are over the topic limit; 0 is no limit.
+fn over_of(limit: u64, n: usize) -> usize
+    ensures { λ r. ⌜ r ≡ overLimit limit n ⌝ }
+{
+    if limit == 0 {
+        return 0;
+    }
+    if n as u64 <= limit {
+        return 0;
+    }
+    n - limit as usize
+}
+
+// Over the topic limit a consumer loses its lowest numbers; its held rows begin at from.
+fn limited(rows: &mut [Row], from: usize, mut s: Sub, mut d: Head) -> Copied
+    requires { ⌜ (s .held ≤ d .used) × (d .stats .discarded < 2 ^ 63) ⌝ }
+    ensures { λ r. ⌜ (r .sub ≡ limitedSub s d) × (r .head ≡ limitedHead s d) ⌝ }
+    ensures { λ _. ⌜ now (rows .exit) ≡ closeGap from (overLimit (d .«topic_limit») (s .held)) (d .used) (now (rows .entry)) ⌝ }
+{
+    let over = over_of(d.topic_limit, s.held);
+    if over == 0 {
+        return Copied { sub: s, head: d };
+    }
+    table::close_gap(rows, from, over, d.used);
+    s.held = s.held - over;
+    d.used = d.used - over;
+    d = d.count_discarded(over as u64);
+    Copied { sub: s, head: d }
+}
+
+// The copy for one consumer, whose rows begin at base, if it accepts the entry.
+fn fan_out(rows: &mut [Row], base: usize, mut s: Sub, mut d: Head, e: Entry) -> Copied
+    requires { ⌜ (base + s .inflight + s .held ≤ d .used) × (d .used ≤ 512) × (d .stats .discarded < 2 ^ 63) ⌝ }
+    ensures { λ r. ⌜ (r .sub ≡ copiedSub e s d) × (r .head ≡ copiedHead e s d) ⌝ }
+    ensures { λ _. ⌜ now (rows .exit) ≡ copiedRows e base s d (now (rows .entry)) ⌝ }
+{
+    if !s.accepts(e) {
+        return Copied { sub: s, head: d };
+    }
+    let from = base + s.inflight;
+    let place = table::place_of(rows, from, from + s.held, e.seq);
+    table::insert_row(rows, place, d.used, entry::held_row(e));
+    s.held = s.held + 1;
+    d.used = d.used + 1;
+    limited(rows, from, s, d)
+}
+
+// Each consumer in turn; base is where its rows begin.
+fn fan_out_all(subs: &mut [SubRow], rows: &mut [Row], before: Head, e: Entry) -> Head
+    requires { ⌜ Arrives e before (now subs) (now rows) × (before .queue ≡ false) ⌝ }
+    ensures { λ r. ⌜ Arrived (spread e) before r (now (subs .entry)) (now (rows .entry)) (now (subs .exit)) (now (rows .exit)) ⌝ }
+{
+    let n = before.consumers;
+    let mut d = before;
+    let mut base = 0;
+    let mut i = 0;
+    while i < n {
+        let s = consumers::load(subs, i);
+        let r = fan_out(rows, base, s, d, e);
+        let t = r.sub;
+        d = r.head;
+        base = base + t.inflight + t.held;
+        consumers::store(subs, i, t);
+        i += 1;
+    }
+    d
+}
+
+// ---- stored by the kind
+
+// Stores an entry on a queue, or fans it out on a topic; nothing is dispatched yet. Where the numbers do not fit, where it is
+// refused, or where its rows are not free beside the events that were sent, nothing happens.
+pub fn store(subs: &mut [SubRow], rows: &mut [Row], events: &[Event], d: Head, e: Entry) -> Head
+    ensures { λ r. ⌜ LeavesIf (stores e d (now (subs .entry)) (now (rows .entry)) (length (now (events .entry)))) (Room d r) (silent (kept e)) d r (now (subs .entry)) (now (rows .entry)) (now (events .entry)) (now (subs .exit)) (now (rows .exit)) (now (events .entry)) ⌝ }
+{
+    if !state::fits(subs, d, rows.len(), events.len()) {
+        return d;
+    }
+    if is_held(rows, d.used, e.seq) {
+        return d;
+    }
+    if !has_room(subs, d, e) {
+        return d;
+    }
+    let counted = d.count_enqueued();
+    if d.queue {
+        return queued(subs, rows, counted, e);
+    }
+    fan_out_all(subs, rows, counted, e)
+}
