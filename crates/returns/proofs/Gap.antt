@@ -1,0 +1,158 @@
+-- A gap as its rows go: what stays, rows that are forgotten, and that nothing is left of it. Assumes nothing.
+use mathlib.Core.Path.{_≡_, refl, sym, ap, ap₂, _∙_}
+use mathlib.Core.List.{List, _++_, append-nil, map}
+use Prim.Native.Nat.{ℕ, _+_, _-_, _≤_, _<_}
+use native.Mathlib.Nat.{add-zero}
+use native.Mathlib.Omega.{arith}
+use lib.ListN.{length, take, drop, take-append-drop}
+use lib.Seq.{slice, drop-drop, take-take}
+use Rattle.entry.specs.Entry.{entryOf}
+use Rattle.definition.specs.Types.{Id, Audit, Dest}
+use Rattle.definition.specs.Types as Def
+use Rattle.definition.specs.Words.{kindBy}
+use Rattle.definition.specs.Layout.{Row, heldAt, subRows}
+use Rattle.table.specs.Table.{closeGap}
+use Rattle.table.proofs.Lists.{slice-take}
+use Rattle.table.proofs.Laws.{close-length, close-after}
+use Rattle.consumers.proofs.View.{subs-front}
+use Rattle.state.specs.declared.Head.{Head}
+use Rattle.state.specs.State.{headView, withUsed, firstWaiting}
+use Rattle.state.specs.Leaves.{silent, Leaves}
+use Rattle.returns.specs.Gaps.{destOf, cut, waitingIn, around, settled, Open, Moves, Same, Gap}
+use Rattle.returns.proofs.Rows.{cut-less, closed-low, closed-high}
+use Rattle.returns.proofs.Moving.{dest-counts}
+
+-- ---- what stays
+
+pub same-rest : (d : Head) (subs rows : List Row) → Same d d subs rows subs rows
+same-rest d subs rows = record { head = refl; used = omega arith; own = refl; subs-past = refl; subs-length = refl; rows-past = refl; rows-length = refl }
+
+pub same-consumers : {d r : Head} {subs rows subs′ rows′ : List Row} → Same d r subs rows subs′ rows′ → r .consumers ≡ d .consumers
+same-consumers s = ap (λ (x : Head). x .consumers) (s .head)
+
+-- the rows of the consumers, as the later head counts them
+pub same-own : {d r : Head} {subs rows subs′ rows′ : List Row} → Same d r subs rows subs′ rows′ → subRows (take (r .consumers) subs′) ≡ subRows (take (d .consumers) subs)
+same-own {d} {r} {subs} {rows} {subs′} {rows′} s = ap (λ (n : ℕ). subRows (take n subs′)) (same-consumers s) ∙ s .own
+
+pub same-both : {d r q : Head} {subs rows subs′ rows′ subs″ rows″ : List Row} → Same d r subs rows subs′ rows′ → Same r q subs′ rows′ subs″ rows″ → Same d q subs rows subs″ rows″
+same-both {d} {r} {q} {subs} {rows} {subs′} {rows′} {subs″} {rows″} s t = record {
+  head = t .head ∙ ap (λ (x : Head). settled x q) (s .head);
+  used = omega (arith, s .used, t .used);
+  own = ap (λ (n : ℕ). subRows (take n subs″)) (sym (same-consumers s)) ∙ t .own ∙ same-own s;
+  subs-past = t .subs-past ∙ s .subs-past;
+  subs-length = t .subs-length ∙ s .subs-length;
+  rows-past = t .rows-past ∙ s .rows-past;
+  rows-length = t .rows-length ∙ s .rows-length;
+}
+
+-- ---- one row less
+
+pub gap-open : {from k : ℕ} {d : Head} {subs rows : List Row} → Gap from k d subs rows → 0 < k → Open from d (length rows)
+gap-open g h = record { before = omega (arith, g .sum, g .low); consumers = g .consumers; used = g .used; long = g .long; expired = g .expired }
+
+pub gap-moves : {from k : ℕ} {f : Dest → Dest} {d r : Head} {subs rows subs′ rows′ : List Row} → Gap from k d subs rows → 0 < k → Moves from f d r subs rows subs′ rows′ → Gap from (k - 1) r subs′ rows′
+gap-moves {from} {k} {f} {d} {r} {subs} {rows} {subs′} {rows′} g h m =
+    let own : subRows (take (r .consumers) subs′) ≡ subRows (take (d .consumers) subs) = same-own (m .same) in
+    record {
+      sum = omega (arith, own, g .sum, m .counts);
+      low = omega (arith, own, g .low, m .reserved);
+      consumers = omega (arith, same-consumers (m .same), g .consumers);
+      used = omega (arith, m .same .used, g .used);
+      long = omega (arith, m .same .rows-length, g .long);
+      expired = omega (arith, m .expired, g .expired);
+    }
+
+-- ---- rows of the gap are forgotten
+
+module _ (from j k g : ℕ) (d : Head) (subs rows : List Row) (a : Gap from g d subs rows) (h : j + k ≤ g) where
+  abbrev rows′ : List Row
+  rows′ = closeGap (from + j) k (d .used) rows
+
+  abbrev r : Head
+  r = withUsed (d .used - k) d
+
+  pub forgets : (p : List Id) (u : List Audit) → around from (g - k) r subs rows′ p u ≡ around from g d subs rows p u
+  forgets p u =
+      let n : ℕ = firstWaiting d in
+      let fits : d .used ≤ length rows = omega (arith, a .used, a .long) in
+      let within : from + g ≤ n = omega (arith, a .sum, a .low) in
+      let less : d .used - k - d .waiting ≡ n - k = omega arith in
+      let low : take (n - k) rows′ ≡ cut (from + j) k n rows = closed-low (from + j) k n (d .used) rows (omega arith) (omega arith) fits in
+      let high : slice (n - k) (d .used - k) rows′ ≡ waitingIn d rows = closed-high (from + j) k n (d .used) rows (omega arith) (omega arith) fits in
+      ap (λ (m : ℕ). destOf r subs (cut from (g - k) m rows′) (slice m (d .used - k) rows′) p u) less
+      ∙ ap₂ (λ (x y : List Row). destOf r subs x y p u) (cut-less from j k g n rows rows′ h within (omega arith) low) high
+      ∙ dest-counts d subs (cut from g n rows) (waitingIn d rows) p u (d .reserved) (d .waiting) (d .used - k)
+
+  pub forgets-same : Same d r subs rows subs rows′
+  forgets-same = record {
+    head = refl;
+    used = omega arith;
+    own = refl;
+    subs-past = refl;
+    subs-length = refl;
+    rows-past = close-after (from + j) k (d .used) rows 512 (omega (arith, a .used));
+    rows-length = close-length (from + j) k (d .used) rows;
+  }
+
+  pub forgets-gap : Gap from (g - k) r subs rows′
+  forgets-gap = record {
+    sum = omega (arith, a .sum);
+    low = a .low;
+    consumers = a .consumers;
+    used = omega (arith, a .used);
+    long = omega (arith, a .long, close-length (from + j) k (d .used) rows);
+    expired = omega (arith, a .expired);
+  }
+
+-- ---- no gap
+
+module _ (d : Head) (subs rows : List Row) (sum : subRows (take (d .consumers) subs) + (d .reserved + d .waiting) ≡ d .used) (fits : d .used ≤ length rows) (p : List Id) (u : List Audit) where
+  pub head-dest : headView d subs rows p u ≡ destOf d subs (take (firstWaiting d) rows) (waitingIn d rows) p u
+  unfolding headView destOf
+  head-dest =
+      let ws : List Row = take (d .consumers) subs in
+      let n : ℕ = firstWaiting d in
+      let m : ℕ = subRows ws in
+      let e : m + d .reserved ≡ n = omega (arith, sum) in
+      let a : n - m ≡ d .reserved = omega (arith, sum) in
+      let b : d .used - n ≡ d .waiting = omega (arith, sum) in
+      let others : take (d .reserved) (drop m rows) ≡ drop m (take n rows) = ap (λ (k : ℕ). take k (drop m rows)) (sym a) ∙ sym (slice-take m n rows (omega arith)) in
+      let waits : take (d .waiting) (drop (d .reserved) (drop m rows)) ≡ waitingIn d rows =
+      ap₂ (λ (k : ℕ) (l : List Row). take k l) (sym b) (drop-drop (d .reserved) m rows ∙ ap (λ (k : ℕ). drop k rows) e) ∙ sym (slice-take n (d .used) rows (omega arith)) in
+      let t : Dest = headView d subs rows p u in
+      λ i. Def.withPending (map entryOf (waits i)) (Def.withReserved (map heldAt (others i)) (Def.withSubs (sym (subs-front (kindBy (d .queue)) ws n rows (omega arith)) i) t))
+
+  pub no-gap : (from : ℕ) → from ≤ firstWaiting d → around from 0 d subs rows p u ≡ headView d subs rows p u
+  no-gap from h =
+      let n : ℕ = firstWaiting d in
+      let front : take from rows ++ slice from n rows ≡ take n rows = ap (λ (x : List Row). x ++ slice from n rows) (sym (take-take from n rows h)) ∙ take-append-drop from (take n rows) in
+      ap (λ (m : ℕ). destOf d subs (take from rows ++ slice m n rows) (waitingIn d rows) p u) (add-zero from)
+      ∙ ap (λ (x : List Row). destOf d subs x (waitingIn d rows) p u) front
+      ∙ sym head-dest
+
+-- a gap that has closed is a part of a call done
+pub gap-leaves : (f : Dest → Dest) (from : ℕ) (d b r : Head) (subs rows events subs₁ rows₁ subs′ rows′ : List Row) → Gap from 0 r subs′ rows′ → Same b r subs₁ rows₁ subs′ rows′
+    → b .events ≡ d .events → b .producers ≡ d .producers → b .audits ≡ d .audits → b .queue ≡ d .queue → drop 32 subs₁ ≡ drop 32 subs → length subs₁ ≡ length subs → drop 512 rows₁ ≡ drop 512 rows → length rows₁ ≡ length rows
+    → ((p : List Id) (u : List Audit) → length p ≡ d .producers → around from 0 r subs′ rows′ p u ≡ f (headView d subs rows p u))
+    → Leaves (silent f) d r subs rows events subs′ rows′ events
+gap-leaves f from d b r subs rows events subs₁ rows₁ subs′ rows′ g s e p a q h i j k v =
+    let sum : subRows (take (r .consumers) subs′) + (r .reserved + r .waiting) ≡ r .used = omega (arith, g .sum) in
+    let fits : r .used ≤ length rows′ = omega (arith, g .used, g .long) in
+    let same : r .events ≡ d .events = ap (λ (x : Head). x .events) (s .head) ∙ e in
+    record {
+      view = λ x y l. sym (no-gap r subs′ rows′ sum fits x y from (omega (arith, g .low, g .sum))) ∙ v x y l;
+      sent = λ x y l. ap (λ (n : ℕ). take n events) same ∙ sym (append-nil (take (d .events) events));
+      later = refl;
+      more = omega (arith, same);
+      producers = ap (λ (x : Head). x .producers) (s .head) ∙ p;
+      audits = ap (λ (x : Head). x .audits) (s .head) ∙ a;
+      queue = ap (λ (x : Head). x .queue) (s .head) ∙ q;
+      consumers = g .consumers;
+      used = g .used;
+      rows-used = sum;
+      subs-past = s .subs-past ∙ h;
+      rows-past = s .rows-past ∙ j;
+      subs-length = s .subs-length ∙ i;
+      rows-length = s .rows-length ∙ k;
+      events-length = refl;
+    }

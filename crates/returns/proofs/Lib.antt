@@ -1,0 +1,11 @@
+pub mod Rows
+pub mod Insert
+pub mod Reinsert
+pub mod Placing
+pub mod Moving
+pub mod Gap
+pub mod Giving
+pub mod Leaving
+pub mod Answers
+pub mod Freeing
+pub mod Unmarking

@@ -1,0 +1,20 @@
+-- `returns::reserved_row` meets its contract. Assumes nothing.
+use mathlib.Core.Path.{ap, _∙_}
+use borrow.Author.Needs.{needs}
+use Rattle.entry.proofs.Rows.{EntryFits}
+use Rattle.definition.specs.Layout.{heldAt}
+use Rattle.returns.proofs.Moving.{held-row-at}
+use Rattle.returns.proofs.reserved_row.Statement.{statement}
+use Rattle.returns.proofs.reserved_row.Tie as tie
+
+reserved-row-requires : tie.Need-reserved-row-requires
+reserved-row-requires c κs = search needs
+
+returns : tie.Need-returns
+returns c =
+    let a = c .before .args in
+    let f : EntryFits (a .e) = search needs in
+    ap heldAt (c .reserved-row .ensures) ∙ held-row-at (a .e) (a .s .conn) (a .s .session) (a .s .value) f
+
+pub reserved-row-spec : {M : Type 1} → statement M
+reserved-row-spec = tie.close (tie.spec reserved-row-requires returns)
