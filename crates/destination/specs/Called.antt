@@ -1,0 +1,54 @@
+-- What a call leaves of the lent buffers and answers, where q is what its definition gives. Assumes nothing.
+use mathlib.Core.Path.{_≡_}
+use mathlib.Core.Bool.{true}
+use mathlib.Core.List.{List, map}
+use Prim.Native.Nat.{ℕ, _≤_}
+use lib.ListN.{length, take, drop}
+use Rattle.definition.specs.Types.{Id, Audit, Dest}
+use Rattle.definition.specs.Destination.{Out}
+use Rattle.definition.specs.Calls.{Call, Result, ownRefusal, perform}
+use Rattle.definition.specs.Layout.{Row, Buffers, eventWords, view, soundBuffers}
+use Rattle.state.specs.declared.Head.{Head}
+use Rattle.state.specs.declared.Answer.{Answer}
+use Rattle.state.specs.State.{headView}
+use Rattle.state.specs.Leaves.{Leaves, Untouched}
+use Rattle.destination.specs.declared.Outcome.{Outcome}
+
+abbrev pub outcome : ℕ → ℕ → ℕ → Outcome
+outcome refusal answer events = record { refusal = refusal; answer = answer; events = events }
+
+-- what is no part of the state is as it was
+pub record Past (b b′ : Buffers) (events events′ : List Row) : Type 0 where
+  pub head-past : drop 8345 (b′ .head) ≡ drop 8345 (b .head)
+  pub subs-past : drop 32 (b′ .subs) ≡ drop 32 (b .subs)
+  pub rows-past : drop 512 (b′ .rows) ≡ drop 512 (b .rows)
+  pub head-length : length (b′ .head) ≡ length (b .head)
+  pub subs-length : length (b′ .subs) ≡ length (b .subs)
+  pub rows-length : length (b′ .rows) ≡ length (b .rows)
+  pub events-length : length events′ ≡ length events
+
+-- refusal, answer, events and state are q's; a refused call changes nothing, and an accepted one leaves sound buffers
+pub record Called (q : Result) (b b′ : Buffers) (events events′ : List Row) (r : Outcome) : Type 0 where
+  pub refusal : r .refusal ≡ q .refusal
+  pub answer : r .answer ≡ q .answer
+  pub count : r .events ≡ length (q .events)
+  pub sent : take (r .events) events′ ≡ map eventWords (q .events)
+  pub later : drop (r .events) events′ ≡ drop (r .events) events
+  pub shows : view b′ ≡ q .dest
+  pub leaves-sound : q .refusal ≡ 0 → soundBuffers b′ ≡ true
+  pub kept : (q .refusal ≡ 0 → ⊥) → (b′ ≡ b) × (events′ ≡ events)
+  pub past : Past b b′ events events′
+
+-- ---- a call whose arguments are c, on a destination by value and in its tables, before one more is counted
+
+-- what it means
+abbrev pub performed : Call → Dest → Out
+performed c t = record { dest = perform t c .dest; events = perform t c .events }
+
+-- it is refused for its own reasons, and nothing has happened; or it is done
+pub record Performs (c : Call) (d : Head) (a : Answer) (subs rows events subs′ rows′ events′ : List Row) : Type 0 where
+  pub refusal : (producers : List Id) (audits : List Audit) → length producers ≡ d .producers → a .refusal ≡ ownRefusal (headView d subs rows producers audits) c
+  pub kept : (a .refusal ≡ 0 → ⊥) → Untouched d (a .head) subs rows events subs′ rows′ events′
+  pub answer : a .refusal ≡ 0 → (producers : List Id) (audits : List Audit) → length producers ≡ d .producers → a .answer ≡ perform (headView d subs rows producers audits) c .answer
+  pub few : a .refusal ≡ 0 → a .head .events ≤ 545
+  pub leaves : a .refusal ≡ 0 → Leaves (performed c) d (a .head) subs rows events subs′ rows′ events′

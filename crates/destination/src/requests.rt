@@ -1,0 +1,86 @@
+// What a consumer asks (codes 4 to 7), on a sound destination with a call left.
+ghost use Prim.Native.Nat.{_≤_, _^_};
+ghost use Rattle.definition.specs.Destination.{ack, pullTimeout};
+ghost use Rattle.acks.specs.Acks.{ackOf, acked};
+ghost use Rattle.state.specs.Ready.{Ready};
+ghost use Rattle.destination.specs.Requests.{sentOn, Absent, Sends};
+use acks::Ack;
+use consumers::SubRow;
+use entry::Row;
+use model::Id;
+use state::Event;
+use state::Head;
+
+// The ack of a consumer that is there, `touch_idle`, and the dispatch.
+fn ack_present(
+    subs: &mut [SubRow],
+    rows: &mut [Row],
+    events: &mut [Event],
+    d: Head,
+    id: Id,
+    a: Ack,
+    clock: u64,
+) -> Head
+    requires { ⌜ Ready d (now subs) (now rows) (now events) × (clock ≤ 2 ^ 62) ⌝ }
+    ensures { λ r. ⌜ Sends (sentOn clock (acked id (ackOf a))) d r (now (subs .entry)) (now (rows .entry)) (now (events .entry)) (now (subs .exit)) (now (rows .exit)) (now (events .exit)) ⌝ }
+{
+    let acked = acks::ack_sub(subs, rows, events, d, id, a);
+    dispatch::dispatch(subs, rows, events, acked.touch_idle(clock), clock)
+}
+
+// The ack of a consumer that is not there: of what is reserved for it.
+fn ack_absent(
+    subs: &mut [SubRow],
+    rows: &mut [Row],
+    events: &mut [Event],
+    d: Head,
+    id: Id,
+    a: Ack,
+    clock: u64,
+) -> Head
+    requires { ⌜ Ready d (now subs) (now rows) (now events) × (clock ≤ 2 ^ 62) × Absent id d (now subs) (now rows) ⌝ }
+    ensures { λ r. ⌜ Sends (ack clock id (ackOf a)) d r (now (subs .entry)) (now (rows .entry)) (now (events .entry)) (now (subs .exit)) (now (rows .exit)) (now (events .exit)) ⌝ }
+{
+    if a.transacted {
+        return d;
+    }
+    if !reserved::has_reserved(rows, d, id) {
+        return d;
+    }
+    let taken = reserved::ack_reserved(subs, rows, events, d, id, a);
+    dispatch::dispatch(subs, rows, events, taken.touch_idle(clock), clock)
+}
+
+// `Dest::ack`.
+pub fn ack(
+    subs: &mut [SubRow],
+    rows: &mut [Row],
+    events: &mut [Event],
+    d: Head,
+    id: Id,
+    a: Ack,
+    clock: u64,
+) -> Head
+    requires { ⌜ Ready d (now subs) (now rows) (now events) × (clock ≤ 2 ^ 62) ⌝ }
+    ensures { λ r. ⌜ Sends (ack clock id (ackOf a)) d r (now (subs .entry)) (now (rows .entry)) (now (events .entry)) (now (subs .exit)) (now (rows .exit)) (now (events .exit)) ⌝ }
+{
+    if returns::is_present(subs, d, id) {
+        return ack_present(subs, rows, events, d, id, a, clock);
+    }
+    ack_absent(subs, rows, events, d, id, a, clock)
+}
+
+// `Dest::pull_timeout`.
+pub fn pull_timeout(
+    subs: &mut [SubRow],
+    rows: &[Row],
+    events: &mut [Event],
+    d: Head,
+    id: Id,
+    generation: u64,
+) -> Head
+    requires { ⌜ Ready d (now subs) (now rows) (now events) ⌝ }
+    ensures { λ r. ⌜ Sends (pullTimeout id generation) d r (now (subs .entry)) (now (rows .entry)) (now (events .entry)) (now (subs .exit)) (now (rows .entry)) (now (events .exit)) ⌝ }
+{
+    pulls::pull_timeout(subs, rows, events, d, id, generation)
+}
