@@ -1,0 +1,304 @@
+-- The whole sweep: those that wait, those that the consumers hold, the count and the idle mark, as the definition has them. Assumes nothing.
+use mathlib.Core.Path.{_≡_, refl, sym, ap, ap₂, _∙_, subst, subst⁻¹}
+use mathlib.Core.Bool.{Bool, true}
+use mathlib.Core.List.{List, [], append-nil, map}
+use Prim.Native.Nat.{ℕ, _+_, _-_, _≤_, _<_, _^_}
+use native.Mathlib.Omega.{arith}
+use borrow.Author.Tests.{lt-ltb, le-ltb, ltb-true, ltb-false}
+use lib.Dec.{ltb}
+use lib.ListN.{length, take, drop}
+use lib.Seq.{slice, drop-drop}
+use Rattle.words.proofs.Tests.{by-test}
+use Rattle.entry.specs.Entry.{entryOf}
+use Rattle.stats.specs.declared.Stats.{Stats}
+use Rattle.stats.specs.Counted.{withExpiredBy}
+use Rattle.definition.specs.Types.{Kind, Id, Audit, Dest, Entry, withPending, withSubs}
+use Rattle.definition.specs.Types as Def
+use Rattle.definition.specs.Consumer.{addExpired}
+use Rattle.definition.specs.Destination as Destination
+use Rattle.definition.specs.Destination.{Out, count, touchIdle, sweepList, sweepSubs, sweepExpired}
+use Rattle.definition.specs.Layout.{Row, heldAt, subsAt, subRows}
+use Rattle.definition.proofs.Tests.{if-true, if-false}
+use Rattle.definition.proofs.Local.{⊕-zero}
+use Rattle.table.proofs.Lists.{slice-take, agree-drop, agree-later}
+use Rattle.consumers.proofs.View.{subs-agree}
+use Rattle.state.specs.declared.Head.{Head}
+use Rattle.state.specs.declared.Answer as State
+use Rattle.state.specs.State.{headView, kindBy, withStats, withUsed, withWaiting, firstWaiting, touched, doneAs}
+use Rattle.state.specs.Fits.{Fits}
+use Rattle.state.specs.Leaves.{silent, both, Leaves, LeavesIf}
+use Rattle.state.specs.Ready.{Stands}
+use Rattle.state.proofs.View.{touched-mark}
+use Rattle.state.proofs.Counts.{expired-view}
+use Rattle.state.proofs.Leaves.{leaves-as, leaves-both, leaves-touch, when-leaves}
+use Rattle.expiry.specs.declared.Swept.{Swept}
+use Rattle.expiry.specs.Expiry.{sweepOut, finished, Kept, Answers}
+use Rattle.expiry.specs.Sweep.{Listed, listed, swept, waitingSwept, subsSwept, Fine, Shorter, Able, SubsSwept}
+
+-- ---- what the definition says
+
+module _ (now most : ℕ) (t : Dest) where
+  -- of those that wait, and of the consumers
+  abbrev pub waits : Destination.Swept
+  waits = sweepList most now (t .pending)
+
+  abbrev pub holds : Destination.SweptSubs
+  holds = sweepSubs (most - waits .gone) now (t .subs)
+
+  abbrev pub total : ℕ
+  total = waits .gone + holds .gone
+
+  abbrev pub lessened : Dest
+  lessened = withPending (waits .list) (withSubs (holds .subs) t)
+
+  pub sweep-counts : 0 < total → sweepExpired now most t ≡ record { answer = total; dest = touchIdle now (count (addExpired total) lessened); events = [] }
+  unfolding sweepExpired
+  sweep-counts h = if-true _ _ (lt-ltb 0 total h)
+
+  pub sweep-rests : total ≡ 0 → sweepExpired now most t ≡ record { answer = 0; dest = lessened; events = [] }
+  unfolding sweepExpired
+  sweep-rests z =
+      if-false _ _ (le-ltb 0 total (omega arith))
+      ∙ ap (λ (n : ℕ). record { answer = 0; dest = count (addExpired n) lessened; events = [] }) z
+      ∙ ap (λ (s : Stats). record { answer = 0; dest = Def.withStats s lessened; events = [] }) (⊕-zero (t .stats))
+
+-- ---- the count
+
+leaves-counted : (d : Head) (subs rows events : List Row) → Stands d subs → (g : ℕ) → d .stats .expired ≤ 2 ^ 62 → g ≤ 512
+    → Leaves (silent (count (addExpired g))) d (withStats (withExpiredBy (d .stats) g) d) subs rows events subs rows events
+leaves-counted d subs rows events s g h b = record {
+  view = λ ps qs _. expired-view subs rows ps qs d g (omega arith);
+  sent = λ ps qs _. sym (append-nil (take (d .events) events));
+  later = refl;
+  more = omega arith;
+  producers = refl;
+  audits = refl;
+  queue = refl;
+  consumers = s .consumers;
+  used = s .used;
+  rows-used = s .rows-used;
+  subs-past = refl;
+  rows-past = refl;
+  subs-length = refl;
+  rows-length = refl;
+  events-length = refl;
+}
+
+-- ---- those that wait
+
+module _ (most now : ℕ) (d : Head) (subs rows events : List Row) (f : Fits subs d (length rows) (length events)) (clock : now ≤ 2 ^ 62) (few : most ≤ 512) (from : ℕ) (begins : from ≡ firstWaiting d) where
+  abbrev n : ℕ
+  n = subRows (take (d .consumers) subs)
+
+  abbrev start : Swept
+  start = record { used = d .used; length = d .waiting; gone = 0 }
+
+  from-is : from ≡ n + d .reserved
+  from-is = omega (arith, begins, f .rows-used)
+
+  pub waiting-fine : Fine (length rows) from start most now
+  waiting-fine = record { rows = omega (arith, from-is, f .rows-used); used = f .used; room = f .rows-long; gone = omega arith; few = few; clock = clock }
+
+  -- the rows of the list are those that wait
+  list-is : (k : ℕ) (l : List Row) → slice from (from + k) l ≡ take k (drop (d .reserved) (drop n l))
+  list-is k l =
+      let e : from + k - from ≡ k = omega arith in
+      slice-take from (from + k) l (omega arith)
+      ∙ ap₂ (λ (x y : ℕ). take x (drop y l)) e from-is
+      ∙ ap (take k) (sym (drop-drop (d .reserved) n l))
+
+  module _ (w : Swept) (rows′ : List Row) (same : length rows′ ≡ length rows) (said : listed from w rows′ ≡ swept most now (listed from start rows)) (short : Shorter most start w) (past : drop (d .used) rows′ ≡ drop (d .used) rows) where
+    abbrev left : Head
+    left = withUsed (w .used) (withWaiting (w .length) d)
+
+    used-less : w .used ≤ d .used
+    used-less = omega (arith, short .tail, short .length)
+
+    rows-left : n + (d .reserved + w .length) ≡ w .used
+    rows-left = omega (arith, short .tail, f .rows-used)
+
+    able : Able subs left (length rows′) (w .gone) most now
+    able = record {
+      subs-long = f .subs-long;
+      rows-long = omega (arith, same, f .rows-long);
+      consumers = f .consumers;
+      used = omega (arith, used-less, f .used);
+      rows-used = rows-left;
+      gone = short .gone;
+      few = few;
+      clock = clock;
+    }
+
+    pub able-at : (x : Head) → x ≡ left → Able subs x (length rows′) (w .gone) most now
+    able-at x e = subst⁻¹ (λ (y : Head). Able subs y (length rows′) (w .gone) most now) e able
+
+    -- the whole budget is left
+    all-left : most - 0 ≡ most
+    all-left = omega arith
+
+    before-same : take from rows′ ≡ take from rows
+    unfolding listed swept
+    before-same = ap (λ (v : Listed). v .before) said
+
+    module _ (ps : List Id) (qs : List Audit) where
+      abbrev t : Dest
+      t = headView d subs rows ps qs
+
+      pending-is : listed from start rows .list ≡ t .pending
+      unfolding listed headView
+      pending-is = ap (map entryOf) (list-is (d .waiting) rows)
+
+      list-left : listed from w rows′ .list ≡ waits now most t .list
+      unfolding listed swept
+      list-left = ap (λ (v : Listed). v .list) said ∙ ap₂ (λ (x : ℕ) (l : List Entry). sweepList x now l .list) all-left pending-is
+
+      pub gone-waiting : w .gone ≡ waits now most t .gone
+      unfolding listed swept
+      gone-waiting =
+          let z : (g : ℕ) → 0 + g ≡ g = λ g. omega arith in
+          ap (λ (v : Listed). v .gone) said ∙ z (sweepList (most - 0) now (listed from start rows .list) .gone) ∙ ap₂ (λ (x : ℕ) (l : List Entry). sweepList x now l .gone) all-left pending-is
+
+      pub waiting-view : headView left subs rows′ ps qs ≡ waitingSwept most now t
+      unfolding listed headView
+      waiting-view =
+          let k : Kind = kindBy (d .queue) in
+          let ws : List Row = take (d .consumers) subs in
+          let mine : subsAt k ws rows′ ≡ subsAt k ws rows = subs-agree k ws from rows′ rows (omega (arith, from-is)) before-same in
+          let m : from - n ≡ d .reserved = omega (arith, from-is) in
+          let kept : take (d .reserved) (drop n rows′) ≡ take (d .reserved) (drop n rows) =
+          ap (λ (x : ℕ). take x (drop n rows′)) (sym m) ∙ agree-drop n from rows′ rows before-same (omega (arith, from-is)) ∙ ap (λ (x : ℕ). take x (drop n rows)) m in
+          let list : map entryOf (take (w .length) (drop (d .reserved) (drop n rows′))) ≡ waits now most t .list = ap (map entryOf) (sym (list-is (w .length) rows′)) ∙ list-left in
+          λ j. record {
+            kind = k;
+            topicLimit = d .«topic_limit»;
+            callLimit = d .«call_limit»;
+            callsUsed = d .«calls_used»;
+            pending = list j;
+            subs = mine j;
+            rr = d .turn;
+            producers = ps;
+            audits = qs;
+            stats = d .stats;
+            idle = t .idle;
+            reserved = map heldAt (kept j);
+          }
+
+    leaves-waiting : Leaves (silent (waitingSwept most now)) d left subs rows events subs rows′ events
+    leaves-waiting = record {
+      view = λ ps qs _. waiting-view ps qs;
+      sent = λ ps qs _. sym (append-nil (take (d .events) events));
+      later = refl;
+      more = omega arith;
+      producers = refl;
+      audits = refl;
+      queue = refl;
+      consumers = f .consumers;
+      used = able .used;
+      rows-used = rows-left;
+      subs-past = refl;
+      rows-past = agree-later (d .used) 512 rows′ rows (f .used) past;
+      subs-length = refl;
+      rows-length = same;
+      events-length = refl;
+    }
+
+    -- ---- and those that the consumers hold
+
+    module _ (r : Swept) (subs′ rows″ : List Row) (g : SubsSwept most now left (w .gone) subs rows′ subs′ rows″ r) where
+      abbrev right : Head
+      right = withUsed (r .used) left
+
+      abbrev parts : Dest → Out
+      parts = both (silent (waitingSwept most now)) (silent (subsSwept (most - w .gone) now))
+
+      leaves-parts : Leaves parts d right subs rows events subs′ rows″ events
+      leaves-parts = leaves-both (silent (waitingSwept most now)) (silent (subsSwept (most - w .gone) now)) d left right subs rows events subs rows′ events subs′ rows″ events leaves-waiting (g .leaves events)
+
+      stands : Stands right subs′
+      stands = record { consumers = f .consumers; used = leaves-parts .used; rows-used = leaves-parts .rows-used }
+
+      module _ (ps : List Id) (qs : List Audit) where
+        abbrev u : Dest
+        u = headView d subs rows ps qs
+
+        parts-are : parts u .dest ≡ lessened now most u
+        parts-are = ap (λ (x : ℕ). withPending (waits now most u .list) (withSubs (sweepSubs (most - x) now (u .subs) .subs) u)) (gone-waiting ps qs)
+
+        total-is : r .gone ≡ total now most u
+        total-is =
+            g .gone ps qs
+            ∙ ap₂ (λ (x : ℕ) (l : List Def.Sub). x + sweepSubs (most - x) now l .gone) (gone-waiting ps qs) (ap (λ (x : Dest). x .subs) (waiting-view ps qs))
+
+      used-right : r .used ≤ d .used
+      used-right = omega (arith, g .used, used-less)
+
+      -- some went
+      abbrev counted : Head
+      counted = withStats (withExpiredBy (d .stats) (r .gone)) right
+
+      abbrev ending : Dest → Out
+      ending = both (both parts (silent (count (addExpired (r .gone))))) (silent (touchIdle now))
+
+      leaves-some : 0 < r .gone → Leaves (sweepOut now most) d (touched now counted) subs rows events subs′ rows″ events
+      leaves-some h =
+          let ls : 32 ≤ length subs′ = omega (arith, leaves-parts .subs-length, f .subs-long) in
+          let lr : 512 ≤ length rows″ = omega (arith, leaves-parts .rows-length, f .rows-long) in
+          let one = leaves-counted right subs′ rows″ events stands (r .gone) (f .expired) (omega (arith, g .few)) in
+          let two = leaves-touch counted subs′ rows″ events (record { consumers = stands .consumers; used = stands .used; rows-used = stands .rows-used }) now ls lr in
+          let three = leaves-both parts (silent (count (addExpired (r .gone)))) d right counted subs rows events subs′ rows″ events subs′ rows″ events leaves-parts one in
+          let four = leaves-both (both parts (silent (count (addExpired (r .gone))))) (silent (touchIdle now)) d counted (touched now counted) subs rows events subs′ rows″ events subs′ rows″ events three two in
+          leaves-as ending (sweepOut now most) d (touched now counted) subs rows events subs′ rows″ events
+          (λ ps qs _.
+          (λ j. record { dest = touchIdle now (count (addExpired (total-is ps qs j)) (parts-are ps qs j)); events = [] })
+          ∙ (λ j. record { dest = sym (sweep-counts now most (u ps qs) (omega (arith, h, total-is ps qs))) j .dest; events = [] }))
+          four
+
+      -- none went
+      leaves-none : r .gone ≡ 0 → Leaves (sweepOut now most) d right subs rows events subs′ rows″ events
+      leaves-none z = leaves-as parts (sweepOut now most) d right subs rows events subs′ rows″ events
+          (λ ps qs _.
+          (λ j. record { dest = parts-are ps qs j; events = [] })
+          ∙ (λ j. record { dest = sym (sweep-rests now most (u ps qs) (sym (total-is ps qs) ∙ z)) j .dest; events = [] }))
+          leaves-parts
+
+      -- what `sweep` leaves and answers, where its test holds
+      module _ (test : Bool) (holds-test : test ≡ true) where
+        Done : State.Answer → Type 0
+        Done a = LeavesIf test (Kept d (a .head)) (sweepOut now most) d (a .head) subs rows events subs′ rows″ events × Answers test (sweepExpired now most) d subs rows a
+
+        answers : (a : State.Answer) → a .refusal ≡ 0 → ((ps : List Id) (qs : List Audit) → a .answer ≡ sweepExpired now most (headView d subs rows ps qs) .answer) → Answers test (sweepExpired now most) d subs rows a
+        answers a e h = record {
+          refusal = e ∙ sym (if-true 0 2 holds-test);
+          answer = λ ps qs _. h ps qs ∙ sym (if-true _ 0 holds-test);
+        }
+
+        some-went : 0 < r .gone → Done (doneAs (r .gone) (touched now counted))
+        unfolding Done
+        some-went h =
+            let m = touched-mark now counted in
+            let k : Kept d (touched now counted) = record { room = rw m (omega (arith, used-right, f .sent)); as-many = ap (λ (x : Head). x .consumers) m } in (
+              when-leaves test (Kept d (touched now counted)) (sweepOut now most) d (touched now counted) subs rows events subs′ rows″ events holds-test (leaves-some h, k),
+              answers (doneAs (r .gone) (touched now counted)) refl (λ ps qs. total-is ps qs ∙ sym (ap (λ (x : Destination.Answer). x .answer) (sweep-counts now most (u ps qs) (omega (arith, h, total-is ps qs))))),
+            )
+
+        none-went : r .gone ≡ 0 → Done (doneAs 0 right)
+        unfolding Done
+        none-went z = (
+          when-leaves test (Kept d right) (sweepOut now most) d right subs rows events subs′ rows″ events holds-test (leaves-none z, record { room = omega (arith, used-right, f .sent); as-many = refl }),
+          answers (doneAs 0 right) refl (λ ps qs. sym (ap (λ (x : Destination.Answer). x .answer) (sweep-rests now most (u ps qs) (sym (total-is ps qs) ∙ z)))),
+        )
+
+        sweep-ends : (a : State.Answer) → a ≡ finished (r .gone) now right
+            → LeavesIf test (Kept d (a .head)) (sweepOut now most) d (a .head) subs rows events subs′ rows″ events × Answers test (sweepExpired now most) d subs rows a
+        unfolding Done
+        sweep-ends a e = by-test (ltb 0 (r .gone))
+            (λ h. let q : a ≡ doneAs (r .gone) (touched now counted) = e ∙ if-true _ _ h in rw q (some-went (ltb-true 0 (r .gone) h)))
+            (λ h. let q : a ≡ doneAs 0 right = e ∙ if-false _ _ h in rw q (none-went (let b : r .gone ≤ 0 = ltb-false 0 (r .gone) h in omega arith)))
+
+    -- the same from the head that the first part leaves
+    pub sweep-from : (x : Head) → x ≡ left → (r : Swept) (subs′ rows″ : List Row) → SubsSwept most now x (w .gone) subs rows′ subs′ rows″ r → (test : Bool) → test ≡ true
+        → (a : State.Answer) → a ≡ finished (r .gone) now (withUsed (r .used) (withWaiting (x .waiting) x))
+        → LeavesIf test (Kept d (a .head)) (sweepOut now most) d (a .head) subs rows events subs′ rows″ events × Answers test (sweepExpired now most) d subs rows a
+    sweep-from x e r subs′ rows″ g test sure a q =
+        sweep-ends r subs′ rows″ (subst (λ (y : Head). SubsSwept most now y (w .gone) subs rows′ subs′ rows″ r) e g) test sure a
+        (q ∙ ap (λ (y : Head). finished (r .gone) now (withUsed (r .used) (withWaiting (y .waiting) y))) e)

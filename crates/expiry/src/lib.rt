@@ -1,0 +1,252 @@
+// Entries that are deleted: `sweep_expired` and `clear` of destination.rs.
+ghost use mathlib.Core.Path.{_≡_};
+ghost use mathlib.Core.Bool.{_&&_};
+ghost use mathlib.Core.List.{map};
+ghost use Prim.Native.Nat.{_≤_, _^_};
+ghost use lib.Dec.{leb};
+ghost use lib.ListN.{length, drop};
+ghost use lib.Seq.{slice};
+ghost use lib.IntN.{pos};
+ghost use Rattle.entry.specs.Entry.{entryOf};
+ghost use Rattle.definition.specs.Base.{if_then_else_};
+ghost use Rattle.definition.specs.Consumer.{expired};
+ghost use Rattle.definition.specs.Destination.{sooner, soonest, sweepExpired, clear};
+ghost use Rattle.state.specs.State.{withWaiting, withUsed};
+ghost use Rattle.state.specs.Fits.{fits};
+ghost use Rattle.state.specs.Leaves.{LeavesIf};
+ghost use Rattle.expiry.specs.Expiry.{emptied, clearOut, sweepOut, finished, Kept, Answers};
+ghost use Rattle.expiry.specs.Sweep.{isSooner, nextOf, Fine, Shorter, listed, swept, sweptUnless, holding, Able, SubsSwept};
+use consumers::Sub;
+use consumers::SubRow;
+use entry::Entry;
+use entry::Row;
+use state::Answer;
+use state::Event;
+use state::Head;
+
+// The soonest expired entry that was met, if one was.
+struct Next {
+    found: bool,
+    entry: Entry,
+}
+
+// What sweeping a list leaves: the rows in use, the list's length, how many went.
+struct Swept {
+    used: usize,
+    length: usize,
+    gone: usize,
+}
+
+// By expiration, and then by sequence number.
+fn is_sooner(e: Entry, f: Entry) -> bool
+    ensures { λ r. ⌜ r ≡ isSooner e f ⌝ }
+{
+    let a = e.expiration;
+    let b = f.expiration;
+    (a < b) | ((a <= b) & (e.seq < f.seq))
+}
+
+// One more entry is met.
+fn met(n: Next, e: Entry, clock: u64) -> Next
+    requires { ⌜ clock ≤ 2 ^ 62 ⌝ }
+    ensures { λ r. ⌜ nextOf r ≡ (if expired (pos clock) e then sooner e (nextOf n) else nextOf n) ⌝ }
+{
+    if !topics::expired_by(e, clock) {
+        return n;
+    }
+    if !n.found {
+        return Next {
+            found: true,
+            entry: e,
+        };
+    }
+    if is_sooner(e, n.entry) {
+        return Next {
+            found: true,
+            entry: e,
+        };
+    }
+    n
+}
+
+// The soonest of the expired rows of from..to, from the last row on.
+fn soonest(rows: &[Row], from: usize, to: usize, clock: u64) -> Next
+    requires { ⌜ (from ≤ to) × (to ≤ length (now rows)) × (clock ≤ 2 ^ 62) ⌝ }
+    ensures { λ r. ⌜ nextOf r ≡ soonest clock (map entryOf (slice from to (now (rows .entry)))) ⌝ }
+{
+    let mut n = Next {
+        found: false,
+        entry: entry::entry_of([0; 9]),
+    };
+    let mut i = to;
+    while from < i {
+        i = i - 1;
+        n = met(n, entry::entry_of(rows[i]), clock);
+    }
+    n
+}
+
+// Of the list at from at most so many expired rows go, soonest first.
+fn sweep_list(rows: &mut [Row], from: usize, start: Swept, most: usize, clock: u64) -> Swept
+    requires { ⌜ Fine (length (now rows)) from start most clock ⌝ }
+    ensures { λ r. ⌜ listed from r (now (rows .exit)) ≡ swept most clock (listed from start (now (rows .entry))) ⌝ }
+    ensures { λ r. ⌜ Shorter most start r ⌝ }
+    ensures { λ _. ⌜ drop (start .used) (now (rows .exit)) ≡ drop (start .used) (now (rows .entry)) ⌝ }
+{
+    let mut w = start;
+    while w.gone < most {
+        let to = from + w.length;
+        let n = soonest(rows, from, to, clock);
+        if !n.found {
+            return w;
+        }
+        let e = n.entry;
+        let k = table::remove_seq(rows, from, to, w.used, e.seq);
+        w.used = w.used - k;
+        w.length = w.length - k;
+        w.gone = w.gone + 1;
+    }
+    w
+}
+
+// What a consumer holds is swept, where it is no snapshot of a queue. The list begins at from.
+fn sweep_held(
+    rows: &mut [Row],
+    from: usize,
+    start: Swept,
+    snapshot: bool,
+    most: usize,
+    clock: u64,
+) -> Swept
+    requires { ⌜ Fine (length (now rows)) from start most clock ⌝ }
+    ensures { λ r. ⌜ listed from r (now (rows .exit)) ≡ sweptUnless snapshot most clock (listed from start (now (rows .entry))) ⌝ }
+    ensures { λ r. ⌜ Shorter most start r ⌝ }
+    ensures { λ _. ⌜ drop (start .used) (now (rows .exit)) ≡ drop (start .used) (now (rows .entry)) ⌝ }
+{
+    if snapshot {
+        return start;
+    }
+    sweep_list(rows, from, start, most, clock)
+}
+
+// A consumer that holds so many.
+fn holding(mut s: Sub, held: usize) -> Sub
+    ensures { λ r. ⌜ r ≡ holding held s ⌝ }
+{
+    s.held = held;
+    s
+}
+
+// Each consumer in turn; base is where its rows begin. So many went before.
+fn sweep_subs(
+    subs: &mut [SubRow],
+    rows: &mut [Row],
+    d: Head,
+    gone: usize,
+    most: usize,
+    clock: u64,
+) -> Swept
+    requires { ⌜ Able (now subs) d (length (now rows)) gone most clock ⌝ }
+    ensures { λ r. ⌜ SubsSwept most clock d gone (now (subs .entry)) (now (rows .entry)) (now (subs .exit)) (now (rows .exit)) r ⌝ }
+{
+    let n = d.consumers;
+    let mut w = Swept {
+        used: d.used,
+        length: 0,
+        gone,
+    };
+    let mut base = 0;
+    let mut i = 0;
+    while i < n {
+        let s = consumers::load(subs, i);
+        let from = base + s.inflight;
+        let start = Swept {
+            used: w.used,
+            length: s.held,
+            gone: w.gone,
+        };
+        w = sweep_held(rows, from, start, d.queue & s.browser, most, clock);
+        let held = w.length;
+        base = from + held;
+        consumers::store(subs, i, holding(s, held));
+        i += 1;
+    }
+    w
+}
+
+// With so many rows in use and waiting.
+fn shorter(mut d: Head, used: usize, waiting: usize) -> Head
+    ensures { λ r. ⌜ r ≡ withUsed used (withWaiting waiting d) ⌝ }
+{
+    d.used = used;
+    d.waiting = waiting;
+    d
+}
+
+// How many went, counted, and the idle mark.
+fn finished(d: Head, gone: usize, clock: u64) -> Answer
+    ensures { λ r. ⌜ r ≡ finished gone clock d ⌝ }
+{
+    if 0 < gone {
+        let counted = d.count_expired(gone as u64);
+        return Answer::done(gone as u64, counted.touch_idle(clock));
+    }
+    Answer::done(0, d)
+}
+
+// Deletes expired entries, at most so many, and answers how many: those that wait first, then those that each consumer holds, browsers'
+// snapshots apart. Where the numbers do not fit the tables, with a clock above 2^62 or a budget above 512, refused with 2.
+pub fn sweep(
+    subs: &mut [SubRow],
+    rows: &mut [Row],
+    events: &[Event],
+    d: Head,
+    most: usize,
+    clock: u64,
+) -> Answer
+    ensures { λ r. ⌜ LeavesIf (fits (now (subs .entry)) d (length (now (rows .entry))) (length (now (events .entry))) && (leb clock (2 ^ 62) && leb most 512)) (Kept d (r .head)) (sweepOut clock most) d (r .head) (now (subs .entry)) (now (rows .entry)) (now (events .entry)) (now (subs .exit)) (now (rows .exit)) (now (events .entry)) ⌝ }
+    ensures { λ r. ⌜ Answers (fits (now (subs .entry)) d (length (now (rows .entry))) (length (now (events .entry))) && (leb clock (2 ^ 62) && leb most 512)) (sweepExpired clock most) d (now (subs .entry)) (now (rows .entry)) r ⌝ }
+{
+    if !state::fits(subs, d, rows.len(), events.len()) {
+        return Answer::refused(2, d);
+    }
+    if topics::CLOCK_MOST < clock {
+        return Answer::refused(2, d);
+    }
+    if state::ROWS < most {
+        return Answer::refused(2, d);
+    }
+    let start = Swept {
+        used: d.used,
+        length: d.waiting,
+        gone: 0,
+    };
+    let w = sweep_list(rows, d.first_waiting(), start, most, clock);
+    let left = shorter(d, w.used, w.length);
+    let r = sweep_subs(subs, rows, left, w.gone, most, clock);
+    finished(shorter(left, r.used, left.waiting), r.gone, clock)
+}
+
+// With no row in use.
+fn emptied(mut d: Head) -> Head
+    ensures { λ r. ⌜ r ≡ emptied d ⌝ }
+{
+    d.waiting = 0;
+    d.reserved = 0;
+    d.used = 0;
+    d
+}
+
+// Drops every entry, and answers how many, browsers' snapshots apart. Where the numbers do not fit the tables, refused with 2.
+pub fn clear(subs: &mut [SubRow], rows: &[Row], events: &[Event], d: Head) -> Answer
+    ensures { λ r. ⌜ LeavesIf (fits (now (subs .entry)) d (length (now (rows .entry))) (length (now (events .entry)))) (Kept d (r .head)) clearOut d (r .head) (now (subs .entry)) (now (rows .entry)) (now (events .entry)) (now (subs .exit)) (now (rows .entry)) (now (events .entry)) ⌝ }
+    ensures { λ r. ⌜ Answers (fits (now (subs .entry)) d (length (now (rows .entry))) (length (now (events .entry)))) clear d (now (subs .entry)) (now (rows .entry)) r ⌝ }
+{
+    if !state::fits(subs, d, rows.len(), events.len()) {
+        return Answer::refused(2, d);
+    }
+    let held = consumers::held_rows(subs, d.consumers, d.queue);
+    let total = d.waiting + d.reserved + held;
+    consumers::clear(subs, d.consumers);
+    Answer::done(total as u64, emptied(d))
+}
