@@ -154,6 +154,10 @@ module _ (now : ℕ) (i : Id) (timeout : ℤ) (t : Dest) where
   unfolding pull pulls
   pull-rests h = rests-at (subOf i t) h
 
+  rested-at : (o : Option Def.Sub) → pullsAt o ≡ false → registeredAt i t o ≡ t
+  rested-at none h = refl
+  rested-at (some s) h = if-true t (putSub i (pulling s) t) (not-false (ltb 0 (s .prefetch)) h)
+
   registered-at : (o : Option Def.Sub) → subOf i t ≡ o → Keeps 1 t (silent (λ u. registeredAt i u o) t)
   registered-at none e g = fine-more (t .callLimit) (t .callsUsed) (t .kind) (bound (t .callsUsed)) (bound (t .callsUsed) + 1) t (omega arith) g
   registered-at (some s) e g = by-if (λ (u : Dest). Fine (t .callLimit) (t .callsUsed) (t .kind) (bound (t .callsUsed) + 1) u) (ltb 0 (s .prefetch)) t (putSub i (pulling s) t)
@@ -163,3 +167,7 @@ module _ (now : ℕ) (i : Id) (timeout : ℤ) (t : Dest) where
   pub registered-keeps : Keeps 1 t (silent (registered i) t)
   unfolding registered
   registered-keeps = registered-at (subOf i t) refl
+
+pub registered-rests : (i : Id) (t : Dest) → pulls i t ≡ false → registered i t ≡ t
+unfolding registered pulls
+registered-rests i t h = rested-at 0 i (pos 0) t (subOf i t) h

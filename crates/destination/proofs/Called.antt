@@ -19,13 +19,11 @@ use Rattle.state.specs.declared.Answer.{Answer}
 use Rattle.state.specs.State.{headView, loaded, stored, withCallsUsed}
 use Rattle.state.proofs.View.{stored-view, stored-formed, stored-producers, stored-length}
 use Rattle.state.proofs.Fitting.{not-short}
+pub use Rattle.sound.specs.Sound.{lent}
 use Rattle.destination.specs.Called.{outcome, Past, Called, Performs, performed}
 use Rattle.destination.specs.Opened.{openedHead}
 use Rattle.destination.proofs.Refusing.{step-opens, opens-sound, step-refused, step-done, done-sound}
 use Rattle.destination.proofs.Ending as Ending
-
-abbrev pub lent : List ℕ → List Row → List Row → Buffers
-lent h subs rows = record { head = h; subs = subs; rows = rows }
 
 -- nothing has changed
 pub refused-called : (k : ℕ) (b : Buffers) (events : List Row) (q : Result) → q ≡ refused (suc k) (view b) → Called q b b events events (outcome (suc k) 0 0)

@@ -85,7 +85,7 @@ module _ (h : List ℕ) (subs rows events : List Row)
     pub ready : eqb (view b .callsUsed) (view b .callLimit) ≡ false → Ready d subs rows events
     ready e = subst⁻¹ (λ (x : Head). Ready x subs rows events) d-is (plain-ready e)
 
-    none-sent : d .events ≡ 0
+    pub none-sent : d .events ≡ 0
     unfolding headOf
     none-sent = ap (λ (x : Head). x .events) d-is
 

@@ -31,6 +31,20 @@ use Rattle.destination.proofs.Refusing.{step-refused, step-done, done-s
 use Rattle.destination.proofs.Called.{lent, refused-called}
 use Rattle.destination.proofs.Ending as Ending
 
+-- the numbers that are loaded from sound buffers fit the head
+module _ (h : List ℕ) (subs rows events : List Row) (roomy : short (lengthsOf (lent h subs rows) (length events)) ≡ false) (s : soundBuffers (lent h subs rows) ≡ true) where
+  counted-numbers : (at 12 h ≤ 32) × (at 13 h ≤ 32) × (at 14 h ≤ 8) × (usedRows (lent h subs rows) ≤ 512) × (ringsFormed (at 14 h) (drop 113 h) ≡ true)
+  unfolding soundBuffers formed
+  counted-numbers =
+      let g = every-all (leb (at 12 h) 32 ∷ leb (at 13 h) 32 ∷ leb (at 14 h) 8 ∷ leb (usedRows (lent h subs rows)) 512 ∷ ringsFormed (at 14 h) (drop 113 h) ∷ []) (and-left _ _ s) in
+      (leb-true _ _ (g .0), leb-true _ _ (g .1 .0), leb-true _ _ (g .1 .1 .0), leb-true _ _ (g .1 .1 .1 .0), g .1 .1 .1 .1 .0)
+
+  pub loaded-fit : headFits (length h) (loaded h subs) ≡ true
+  unfolding headOf
+  loaded-fit =
+      ap (headFits (length h)) (Ending.d-is h subs rows events roomy s)
+      ∙ all-every (leb 8345 (length h) ∷ leb (at 13 h) 32 ∷ leb (at 14 h) 8 ∷ []) (le-leb _ _ (Ending.long h subs rows events roomy s .head), (le-leb _ _ (counted-numbers .1), (le-leb _ _ (counted-numbers .2), tt)))
+
 module _ (h : List ℕ) (subs rows events : List Row) (code : ℕ) (ws : List ℕ) (roomy : short (lengthsOf (lent h subs rows) (length events)) ≡ false)
     (coded : eqb code 0 ≡ false) (s : soundBuffers (lent h subs rows) ≡ true) (c : Call) (decoded : decode code ws ≡ some c) (ok : argumentsOk c ≡ true)
     (left : eqb (view (lent h subs rows) .callsUsed) (view (lent h subs rows) .callLimit) ≡ false)
@@ -52,18 +66,14 @@ module _ (h : List ℕ) (subs rows events : List Row) (code : ℕ) (ws : List �
     long = Ending.long h subs rows events roomy s .head
 
     numbers : (at 12 h ≤ 32) × (at 13 h ≤ 32) × (at 14 h ≤ 8) × (usedRows b ≤ 512) × (ringsFormed (at 14 h) (drop 113 h) ≡ true)
-    unfolding soundBuffers formed
-    numbers =
-        let g = every-all (leb (at 12 h) 32 ∷ leb (at 13 h) 32 ∷ leb (at 14 h) 8 ∷ leb (usedRows b) 512 ∷ ringsFormed (at 14 h) (drop 113 h) ∷ []) (and-left _ _ s) in
-        (leb-true _ _ (g .0), leb-true _ _ (g .1 .0), leb-true _ _ (g .1 .1 .0), leb-true _ _ (g .1 .1 .1 .0), g .1 .1 .1 .1 .0)
+    numbers = counted-numbers h subs rows events roomy s
 
     shown : destOf d h subs rows ≡ view b
     unfolding headOf
     shown = ap (λ (x : Head). destOf x h subs rows) d-is ∙ loaded-view subs rows h (usedRows b)
 
     fit : headFits (length h) d ≡ true
-    unfolding headOf
-    fit = ap (headFits (length h)) d-is ∙ all-every (leb 8345 (length h) ∷ leb (at 13 h) 32 ∷ leb (at 14 h) 8 ∷ []) (le-leb _ _ long, (le-leb _ _ (numbers .1), (le-leb _ _ (numbers .2), tt)))
+    fit = loaded-fit h subs rows events roomy s
 
     rings : ringsFormed (d .audits) (drop 113 h) ≡ true
     unfolding headOf

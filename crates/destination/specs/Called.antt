@@ -1,13 +1,15 @@
 -- What a call leaves of the lent buffers and answers, where q is what its definition gives. Assumes nothing.
 use mathlib.Core.Path.{_≡_}
 use mathlib.Core.Bool.{true}
-use mathlib.Core.List.{List, map}
+use mathlib.Core.List.{List, [], map}
+use mathlib.Core.Option.{Option, none, some}
 use Prim.Native.Nat.{ℕ, _≤_}
 use lib.ListN.{length, take, drop}
 use Rattle.definition.specs.Types.{Id, Audit, Dest}
 use Rattle.definition.specs.Destination.{Out}
 use Rattle.definition.specs.Calls.{Call, Result, ownRefusal, perform}
 use Rattle.definition.specs.Layout.{Row, Buffers, eventWords, view, soundBuffers}
+use Rattle.producers.specs.Producers as Producers
 use Rattle.state.specs.declared.Head.{Head}
 use Rattle.state.specs.declared.Answer.{Answer}
 use Rattle.state.specs.State.{headView}
@@ -52,3 +54,18 @@ pub record Performs (c : Call) (d : Head) (a : Answer) (subs rows events subs′
   pub answer : a .refusal ≡ 0 → (producers : List Id) (audits : List Audit) → length producers ≡ d .producers → a .answer ≡ perform (headView d subs rows producers audits) c .answer
   pub few : a .refusal ≡ 0 → a .head .events ≤ 545
   pub leaves : a .refusal ≡ 0 → Leaves (performed c) d (a .head) subs rows events subs′ rows′ events′
+
+-- the same of what a call's words give; of words that are no arguments nothing is said
+abbrev pub PerformsBy : Option Call → Head → Answer → List Row → List Row → List Row → List Row → List Row → List Row → Type 0
+PerformsBy none d a subs rows events subs′ rows′ events′ = Unit {0}
+PerformsBy (some c) d a subs rows events subs′ rows′ events′ = Performs c d a subs rows events subs′ rows′ events′
+
+-- a call in the head's words: it performs, what is no part of the state is as it was, and it sends nothing
+pub record InHead (c : Call) (d : Head) (h : List ℕ) (a : Answer) (k : List ℕ) : Type 0 where
+  pub performs : Producers.Performs c d h a k
+  pub past : drop 8345 k ≡ drop 8345 h
+  pub silent : (t : Dest) → perform t c .events ≡ []
+
+abbrev pub HeadBy : Option Call → Head → List ℕ → Answer → List ℕ → Type 0
+HeadBy none d h a k = Unit {0}
+HeadBy (some c) d h a k = InHead c d h a k

@@ -1,16 +1,32 @@
 // The public calls of a destination on lent buffers, total, with refusals in the paper's order.
 ghost use mathlib.Core.Path.{_≡_};
+ghost use mathlib.Core.Bool.{true, false};
+ghost use Prim.Native.Nat.{_<_};
 ghost use lib.Dec.{eqb};
+ghost use lib.ListN.{length};
 ghost use Rattle.definition.specs.Base.{if_then_else_};
 ghost use Rattle.definition.specs.Words.{openWords};
+ghost use Rattle.definition.specs.Base.{is-some};
+ghost use Rattle.definition.specs.Calls.{short};
+ghost use Rattle.definition.specs.Words.{decode};
+ghost use Rattle.definition.specs.Layout.{soundBuffers, lengthsOf, bufferStep};
+ghost use Rattle.sound.specs.Sound.{lent};
 ghost use Rattle.state.specs.State.{stored};
-ghost use Rattle.destination.specs.Called.{outcome};
+ghost use Rattle.destination.specs.Called.{outcome, Called};
 ghost use Rattle.destination.specs.Opened.{openedHead, counted, finished};
 
+mod arrivals;
+mod asking;
+mod departures;
+mod handling;
+mod perform;
 mod requests;
 
 use calls::Call;
+use consumers::SubRow;
+use entry::Row;
 use state::Answer;
+use state::Event;
 use state::Head;
 use stats::Stats;
 
@@ -97,4 +113,56 @@ fn finish(head: &mut [u64], a: Answer) -> Outcome
         answer: a.answer,
         events: d.events,
     }
+}
+
+// A call on sound buffers, whose arguments are in range.
+fn run(
+    head: &mut [u64],
+    subs: &mut [SubRow],
+    rows: &mut [Row],
+    events: &mut [Event],
+    c: Call,
+) -> Outcome
+    requires { ⌜ (short (lengthsOf (lent (now head) (now subs) (now rows)) (length (now events))) ≡ false) × (soundBuffers (lent (now head) (now subs) (now rows)) ≡ true) × (0 < c .code) × (is-some (decode (c .code) (c .words)) ≡ true) ⌝ }
+    ensures { λ r. ⌜ Called (bufferStep (lent (now (head .entry)) (now (subs .entry)) (now (rows .entry))) (length (now (events .entry))) (c .code) (c .words)) (lent (now (head .entry)) (now (subs .entry)) (now (rows .entry))) (lent (now (head .exit)) (now (subs .exit)) (now (rows .exit))) (now (events .entry)) (now (events .exit)) r ⌝ }
+{
+    let d = state::load(head, subs);
+    if d.calls_used == d.call_limit {
+        return Outcome::refused(9);
+    }
+    if c.code < Call::ADD_PRODUCER {
+        let a = perform::perform(subs, rows, events, d, c);
+        return finish(head, a);
+    }
+    let a = perform::perform_head(head, d, c);
+    finish(head, a)
+}
+
+// A call of document 01, by its code and its eight words, on a lent state and a lent event list: its refusal (0: accepted), its answer,
+// and how many events it has written. A refused call changes nothing.
+pub fn call(
+    head: &mut [u64],
+    subs: &mut [SubRow],
+    rows: &mut [Row],
+    events: &mut [Event],
+    c: Call,
+) -> Outcome
+    ensures { λ r. ⌜ Called (bufferStep (lent (now (head .entry)) (now (subs .entry)) (now (rows .entry))) (length (now (events .entry))) (c .code) (c .words)) (lent (now (head .entry)) (now (subs .entry)) (now (rows .entry))) (lent (now (head .exit)) (now (subs .exit)) (now (rows .exit))) (now (events .entry)) (now (events .exit)) r ⌝ }
+{
+    if !sound::whole(head, subs, rows) {
+        return Outcome::refused(1);
+    }
+    if events.len() < state::EVENTS {
+        return Outcome::refused(1);
+    }
+    if c.code == Call::OPEN {
+        return open(head, c);
+    }
+    if !sound::sound(head, subs, rows) {
+        return Outcome::refused(2);
+    }
+    if !c.in_range() {
+        return Outcome::refused(3);
+    }
+    run(head, subs, rows, events, c)
 }

@@ -1,13 +1,17 @@
 // What a consumer asks (codes 4 to 7), on a sound destination with a call left.
+ghost use mathlib.Core.Path.{_≡_};
+ghost use mathlib.Core.Bool.{true};
 ghost use Prim.Native.Nat.{_≤_, _^_};
-ghost use Rattle.definition.specs.Destination.{ack, pullTimeout};
+ghost use Rattle.definition.specs.Calls.{within};
+ghost use Rattle.definition.specs.Destination.{ack, setPrefetch, pullTimeout};
 ghost use Rattle.acks.specs.Acks.{ackOf, acked};
 ghost use Rattle.state.specs.Ready.{Ready};
-ghost use Rattle.destination.specs.Requests.{sentOn, Absent, Sends};
+ghost use Rattle.destination.specs.Requests.{sentOn, Absent, Sends, Pulled};
 use acks::Ack;
 use consumers::SubRow;
 use entry::Row;
 use model::Id;
+use state::Answer;
 use state::Event;
 use state::Head;
 
@@ -83,4 +87,41 @@ pub fn pull_timeout(
     ensures { λ r. ⌜ Sends (pullTimeout id generation) d r (now (subs .entry)) (now (rows .entry)) (now (events .entry)) (now (subs .exit)) (now (rows .entry)) (now (events .exit)) ⌝ }
 {
     pulls::pull_timeout(subs, rows, events, d, id, generation)
+}
+
+// `Dest::set_prefetch`.
+pub fn set_prefetch(
+    subs: &mut [SubRow],
+    rows: &mut [Row],
+    events: &mut [Event],
+    d: Head,
+    id: Id,
+    prefetch: i32,
+    clock: u64,
+) -> Head
+    requires { ⌜ Ready d (now subs) (now rows) (now events) × (clock ≤ 2 ^ 62) × (within 2147483648 prefetch ≡ true) ⌝ }
+    ensures { λ r. ⌜ Sends (setPrefetch clock id prefetch) d r (now (subs .entry)) (now (rows .entry)) (now (events .entry)) (now (subs .exit)) (now (rows .exit)) (now (events .exit)) ⌝ }
+{
+    pulls::set_prefetch(subs, rows, events, d, id, prefetch);
+    dispatch::dispatch(subs, rows, events, d, clock)
+}
+
+// `Dest::pull`.
+pub fn pull(
+    subs: &mut [SubRow],
+    rows: &mut [Row],
+    events: &mut [Event],
+    d: Head,
+    id: Id,
+    timeout: i64,
+    clock: u64,
+) -> Answer
+    requires { ⌜ Ready d (now subs) (now rows) (now events) × (clock ≤ 2 ^ 62) ⌝ }
+    ensures { λ r. ⌜ Pulled clock id timeout d r (now (subs .entry)) (now (rows .entry)) (now (events .entry)) (now (subs .exit)) (now (rows .exit)) (now (events .exit)) ⌝ }
+{
+    if !pulls::register(subs, rows, events, d, id) {
+        return Answer::done(0, d);
+    }
+    let sent = dispatch::dispatch(subs, rows, events, d, clock);
+    pulls::answer_pull(subs, rows, events, sent, id, timeout)
 }
