@@ -1,10 +1,10 @@
--- `runcalls::print_events` is safe and ends. Assumes nothing.
+-- `running::print_events` is safe and ends. Assumes nothing.
 use mathlib.Core.Path.{_≡_}
 use Prim.Native.Nat.{_-_}
 use lib.ListN.{length}
 use borrow.Author.Needs.{needs}
-use Rattle.runcalls.proofs.print_events.Statement.{statement}
-use Rattle.runcalls.proofs.print_events.Tie as tie
+use Rattle.running.proofs.print_events.Statement.{statement}
+use Rattle.running.proofs.print_events.Tie as tie
 
 abbrev Inv-loop : tie.InvT-loop
 Inv-loop out₀ from events n at₀ i₀ out at i = length out ≡ length out₀

@@ -1,10 +1,10 @@
--- `runcalls::run_block` is safe and ends. Assumes nothing.
+-- `running::run_block` is safe and ends. Assumes nothing.
 use mathlib.Core.Path.{_≡_}
 use Prim.Native.Nat.{_-_}
 use lib.ListN.{length}
 use borrow.Author.Needs.{needs}
-use Rattle.runcalls.proofs.run_block.Statement.{statement}
-use Rattle.runcalls.proofs.run_block.Tie as tie
+use Rattle.running.proofs.run_block.Statement.{statement}
+use Rattle.running.proofs.run_block.Tie as tie
 
 abbrev Inv-loop : tie.InvT-loop
 Inv-loop head₀ subs₀ rows₀ events₀ block count from text₀ index₀ at₀ k₀ head subs rows events text index at k =

@@ -1,9 +1,9 @@
--- `runcalls::run_all` is safe and ends. Assumes nothing.
+-- `running::run_all` is safe and ends. Assumes nothing.
 use mathlib.Core.Path.{_≡_}
 use lib.ListN.{length}
 use borrow.Author.Needs.{needs}
-use Rattle.runcalls.proofs.run_all.Statement.{statement}
-use Rattle.runcalls.proofs.run_all.Tie as tie
+use Rattle.running.proofs.run_all.Statement.{statement}
+use Rattle.running.proofs.run_all.Tie as tie
 
 abbrev Inv-loop : tie.InvT-loop
 Inv-loop head₀ subs₀ rows₀ events₀ index₀ number₀ turns₀ head subs rows events index number turns =
