@@ -15,7 +15,7 @@ use state::Event;
 use state::Head;
 
 // `Dest::enqueue`.
-pub fn enqueue(
+pub(crate) fn enqueue(
     subs: &mut [SubRow],
     rows: &mut [Row],
     events: &mut [Event],
@@ -36,7 +36,7 @@ pub fn enqueue(
 }
 
 // `Dest::add_sub`.
-pub fn join(
+pub(crate) fn join(
     subs: &mut [SubRow],
     rows: &mut [Row],
     events: &mut [Event],

@@ -38,7 +38,7 @@ fn ack_of(w: [u64; 8]) -> Ack
 }
 
 // Code 4.
-pub fn ask_ack(
+pub(crate) fn ask_ack(
     subs: &mut [SubRow],
     rows: &mut [Row],
     events: &mut [Event],
@@ -55,7 +55,7 @@ pub fn ask_ack(
 }
 
 // Code 5.
-pub fn ask_pull(
+pub(crate) fn ask_pull(
     subs: &mut [SubRow],
     rows: &mut [Row],
     events: &mut [Event],
@@ -71,7 +71,7 @@ pub fn ask_pull(
 }
 
 // Code 6.
-pub fn ask_timeout(
+pub(crate) fn ask_timeout(
     subs: &mut [SubRow],
     rows: &[Row],
     events: &mut [Event],
@@ -87,7 +87,7 @@ pub fn ask_timeout(
 }
 
 // Code 7.
-pub fn ask_prefetch(
+pub(crate) fn ask_prefetch(
     subs: &mut [SubRow],
     rows: &mut [Row],
     events: &mut [Event],

@@ -12,7 +12,7 @@ use state::Event;
 use state::Head;
 
 // `Dest::remove_sub`: answers whether the consumer was there.
-pub fn leave(
+pub(crate) fn leave(
     subs: &mut [SubRow],
     rows: &mut [Row],
     events: &mut [Event],
@@ -33,7 +33,7 @@ pub fn leave(
 }
 
 // `Dest::release_reserved`: the dispatch only where something was reserved.
-pub fn release(
+pub(crate) fn release(
     subs: &mut [SubRow],
     rows: &mut [Row],
     events: &mut [Event],
@@ -54,7 +54,7 @@ pub fn release(
 }
 
 // `Dest::sweep_expired`, of at most so many.
-pub fn sweep(
+pub(crate) fn sweep(
     subs: &mut [SubRow],
     rows: &mut [Row],
     events: &[Event],
@@ -69,7 +69,7 @@ pub fn sweep(
 }
 
 // `Dest::clear`.
-pub fn clear(subs: &mut [SubRow], rows: &[Row], events: &[Event], d: Head) -> Answer
+pub(crate) fn clear(subs: &mut [SubRow], rows: &[Row], events: &[Event], d: Head) -> Answer
     requires { ⌜ Ready d (now subs) (now rows) (now events) ⌝ }
     ensures { λ r. ⌜ Performs clearing d r (now (subs .entry)) (now (rows .entry)) (now (events .entry)) (now (subs .exit)) (now (rows .entry)) (now (events .entry)) ⌝ }
 {

@@ -19,7 +19,7 @@ use state::Event;
 use state::Head;
 
 // Code 1.
-pub fn enqueue(
+pub(crate) fn enqueue(
     subs: &mut [SubRow],
     rows: &mut [Row],
     events: &mut [Event],
@@ -56,7 +56,7 @@ fn spec_of(w: [u64; 8]) -> SubSpec
 }
 
 // Code 2.
-pub fn join(
+pub(crate) fn join(
     subs: &mut [SubRow],
     rows: &mut [Row],
     events: &mut [Event],
@@ -71,7 +71,7 @@ pub fn join(
 }
 
 // Code 3.
-pub fn leave(
+pub(crate) fn leave(
     subs: &mut [SubRow],
     rows: &mut [Row],
     events: &mut [Event],
@@ -87,7 +87,7 @@ pub fn leave(
 }
 
 // Code 8.
-pub fn release(
+pub(crate) fn release(
     subs: &mut [SubRow],
     rows: &mut [Row],
     events: &mut [Event],
@@ -102,7 +102,7 @@ pub fn release(
 }
 
 // Code 9.
-pub fn sweep(
+pub(crate) fn sweep(
     subs: &mut [SubRow],
     rows: &mut [Row],
     events: &[Event],
@@ -117,7 +117,13 @@ pub fn sweep(
 }
 
 // Code 10.
-pub fn clear(subs: &mut [SubRow], rows: &[Row], events: &[Event], d: Head, w: [u64; 8]) -> Answer
+pub(crate) fn clear(
+    subs: &mut [SubRow],
+    rows: &[Row],
+    events: &[Event],
+    d: Head,
+    w: [u64; 8],
+) -> Answer
     requires { ⌜ Ready d (now subs) (now rows) (now events) × (is-some (decode 10 w) ≡ true) ⌝ }
     ensures { λ r. ⌜ PerformsBy (decode 10 w) d r (now (subs .entry)) (now (rows .entry)) (now (events .entry)) (now (subs .exit)) (now (rows .entry)) (now (events .entry)) ⌝ }
 {

@@ -18,7 +18,7 @@ use state::Event;
 use state::Head;
 
 // Codes 1 to 10.
-pub fn perform(
+pub(crate) fn perform(
     subs: &mut [SubRow],
     rows: &mut [Row],
     events: &mut [Event],
@@ -45,7 +45,7 @@ pub fn perform(
 }
 
 // Codes 11 to 14.
-pub fn perform_head(head: &mut [u64], d: Head, c: Call) -> Answer
+pub(crate) fn perform_head(head: &mut [u64], d: Head, c: Call) -> Answer
     requires { ⌜ (headFits (length (now head)) d ≡ true) × (is-some (decode (c .code) (c .words)) ≡ true) × (10 < c .code) ⌝ }
     ensures { λ r. ⌜ HeadBy (decode (c .code) (c .words)) d (now (head .entry)) r (now (head .exit)) ⌝ }
 {

@@ -56,7 +56,7 @@ fn ack_absent(
 }
 
 // `Dest::ack`.
-pub fn ack(
+pub(crate) fn ack(
     subs: &mut [SubRow],
     rows: &mut [Row],
     events: &mut [Event],
@@ -75,7 +75,7 @@ pub fn ack(
 }
 
 // `Dest::pull_timeout`.
-pub fn pull_timeout(
+pub(crate) fn pull_timeout(
     subs: &mut [SubRow],
     rows: &[Row],
     events: &mut [Event],
@@ -90,7 +90,7 @@ pub fn pull_timeout(
 }
 
 // `Dest::set_prefetch`.
-pub fn set_prefetch(
+pub(crate) fn set_prefetch(
     subs: &mut [SubRow],
     rows: &mut [Row],
     events: &mut [Event],
@@ -107,7 +107,7 @@ pub fn set_prefetch(
 }
 
 // `Dest::pull`.
-pub fn pull(
+pub(crate) fn pull(
     subs: &mut [SubRow],
     rows: &mut [Row],
     events: &mut [Event],
