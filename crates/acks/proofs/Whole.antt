@@ -295,12 +295,3 @@ module _ (subs rows events : List Row) (d : Head) (fits : Fits subs d (length ro
 
   pub place-within : (id : Id) (i : ℕ) → positionFrom 0 id ws ≡ At i → i < d .consumers
   place-within id i e = omega (arith, position-within id ws i e, size)
-
--- ---- by a test
-
-module _ (b : Bool) (also : Type 0) (f : Dest → Out) (d r : Head) (subs rows events subs′ rows′ events′ : List Row) where
-  pub leaves-yes : b ≡ true → Leaves f d r subs rows events subs′ rows′ events′ × also → LeavesIf b also f d r subs rows events subs′ rows′ events′
-  leaves-yes h x = rw h x
-
-pub leaves-no : (b : Bool) (also : Type 0) (f : Dest → Out) (d : Head) (subs rows events : List Row) → b ≡ false → LeavesIf b also f d d subs rows events subs rows events
-leaves-no b also f d subs rows events h = rw h (record { same-head = refl; same-subs = refl; same-rows = refl; same-events = refl })

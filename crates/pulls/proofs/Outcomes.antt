@@ -28,9 +28,10 @@ use Rattle.state.specs.State.{headView, kindBy, withEvents, pushed, refusedAs, 
 use Rattle.state.specs.Fits.{fits}
 use Rattle.state.specs.Leaves.{silent, LeavesIf}
 use Rattle.state.proofs.Fitting.{fits-facts}
+use Rattle.state.proofs.Leaves.{when-leaves, unless-touched}
 use Rattle.state.proofs.Events.{pushed-room, events-up-to, events-after}
 use Rattle.pulls.specs.Pulls.{withPrefetch, withPull, prefetched, pulls, registered, answered, answeredOut, OneMore, Waits, Answers, risable}
-use Rattle.pulls.proofs.Reword.{Within, leaves-same, none-view, own, ownFlying, ownHeld, own-view, own-fitting, own-test, put-fits, leaves-put, leaves-if, leaves-not}
+use Rattle.pulls.proofs.Reword.{Within, leaves-same, none-view, own, ownFlying, ownHeld, own-view, own-fitting, own-test, put-fits, leaves-put}
 use Rattle.pulls.proofs.Parts.{quiet, prefetched-none, registered-none, pulls-none, answered-none, timeout-none, prefetched-here, registered-not, pulls-not, registered-here, pulls-here, answered-satisfied, answered-null, answered-timed, answered-waits, timeout-satisfied, timeout-other, timeout-null}
 
 -- no event more
@@ -44,7 +45,7 @@ waits-not b id d subs rows h = record { exact = λ ps qs. sym (ap (λ (y : Bool)
 pub answer-refused : (b : Bool) → b ≡ false → (id : Id) (d : Head) (subs rows events : List Row) (timeout : ℤ) (r : State.Answer) → r ≡ refusedAs 2 d
     → LeavesIf b (OneMore d (r .head)) (answeredOut id timeout) d (r .head) subs rows events subs rows events × Answers b id timeout d subs rows r
 answer-refused b h id d subs rows events timeout r e = (
-  leaves-not b _ (answeredOut id timeout) d (r .head) subs rows events subs rows events h (record { same-head = ap (λ (y : State.Answer). y .head) e; same-subs = refl; same-rows = refl; same-events = refl }),
+  unless-touched b _ (answeredOut id timeout) d (r .head) subs rows events subs rows events h (record { same-head = ap (λ (y : State.Answer). y .head) e; same-subs = refl; same-rows = refl; same-events = refl }),
   record {
     refusal = ap (λ (y : State.Answer). y .refusal) e ∙ sym (ap (λ (y : Bool). if_then_else_ {A = ℕ} y 0 2) h);
     answer = λ ps qs. ap (λ (y : State.Answer). y .answer) e ∙ sym (ap (λ (y : Bool). if y then answered id timeout (headView d subs rows ps qs) .answer else 0) h);
@@ -58,7 +59,7 @@ module _ (b : Bool) (t : b ≡ true) (id : Id) (d : Head) (subs rows events : Li
   -- nothing is to be done
   same : (also : Type 0) (f : Dest → Out) → also → ((ps : List Id) (qs : List Audit) → f (viewed ps qs) ≡ quiet (viewed ps qs))
       → LeavesIf b also f d d subs rows events subs rows events
-  same also f a says = leaves-if b also f d d subs rows events subs rows events t (leaves-same f d subs rows events w says) a
+  same also f a says = when-leaves b also f d d subs rows events subs rows events t (leaves-same f d subs rows events w says, a)
 
   waits-by : (x : Bool) → ((ps : List Id) (qs : List Audit) → pulls id (viewed ps qs) ≡ x) → Waits b id d subs rows x
   waits-by x says = record { exact = λ ps qs. sym (ap (λ (y : Bool). y && pulls id (viewed ps qs)) t ∙ says ps qs) }
@@ -114,10 +115,11 @@ module _ (b : Bool) (t : b ≡ true) (id : Id) (d : Head) (subs rows events : Li
         let c : fits subs d (length rows) (length events) ≡ true = sym g ∙ t in
         let o = own-fitting d subs rows id i long e (fits-facts subs d (length rows) (length events) c .fitted) in
         let x : subs′ ≡ set subs i (subWords z) = r ∙ ap (λ (y : Sub). set subs i (subWords (withPrefetch (room p) y))) q in
-        rw x (leaves-if b _ (silent (prefetched id p)) d d subs rows events (set subs i (subWords z)) rows events t
-        (leaves-put d subs rows id i long e z refl refl (silent (prefetched id p)) [] (d .events) events events w
-        (λ v n. prefetched-here id k here f h v n p) (omega arith) (sym (append-nil (take (d .events) events))) refl refl)
-        (put-fits d subs rows id i long e z refl refl (length rows) (length events) c refl refl (o .2)))
+        rw x (when-leaves b _ (silent (prefetched id p)) d d subs rows events (set subs i (subWords z)) rows events t (
+          leaves-put d subs rows id i long e z refl refl (silent (prefetched id p)) [] (d .events) events events w
+              (λ v n. prefetched-here id k here f h v n p) (omega arith) (sym (append-nil (take (d .events) events))) refl refl,
+          put-fits d subs rows id i long e z refl refl (length rows) (length events) c refl refl (o .2),
+        ))
 
     pub generation-low : b ≡ fits subs d (length rows) (length events) → s .generation < 2 ^ 63
     generation-low g =
@@ -139,10 +141,11 @@ module _ (b : Bool) (t : b ≡ true) (id : Id) (d : Head) (subs rows events : Li
         let z : Sub = withPull true (here .generation + 1) (here .generation + 1) here in
         let y : ltb 0 (here .prefetch) ≡ false = ap (λ (v : Sub). ltb 0 (v .prefetch)) (sym q) ∙ le-ltb 0 (s .prefetch) c in
         let x : subs′ ≡ set subs i (subWords z) = r ∙ ap (λ (v : Sub). set subs i (subWords (withPull true (v .generation + 1) (v .generation + 1) v))) q in (
-          rw x (leaves-if b _ (silent (registered id)) d d subs rows events (set subs i (subWords z)) rows events t
-              (leaves-put d subs rows id i long e z refl refl (silent (registered id)) [] (d .events) events events w
-              (λ v n. registered-here id k here f h v n y) (omega arith) (sym (append-nil (take (d .events) events))) refl refl)
-              (λ a. put-fits d subs rows id i long e z refl refl (length rows) (length events) (sym g ∙ t) refl refl (omega (arith, ltb-true (at 12 (getD subs i [])) 72057594037927937 (own-test d subs rows id i long e risable a))))),
+          rw x (when-leaves b _ (silent (registered id)) d d subs rows events (set subs i (subWords z)) rows events t (
+            leaves-put d subs rows id i long e z refl refl (silent (registered id)) [] (d .events) events events w
+                (λ v n. registered-here id k here f h v n y) (omega arith) (sym (append-nil (take (d .events) events))) refl refl,
+            λ a. put-fits d subs rows id i long e z refl refl (length rows) (length events) (sym g ∙ t) refl refl (omega (arith, ltb-true (at 12 (getD subs i [])) 72057594037927937 (own-test d subs rows id i long e risable a))),
+          )),
           waits-by true (λ ps qs. pulls-here id k here f h (viewed ps qs) (found ps qs) y),
         )
 
@@ -163,10 +166,11 @@ module _ (b : Bool) (t : b ≡ true) (id : Id) (d : Head) (subs rows events : Li
             let x : subs′ ≡ set subs i (subWords z) = ps ∙ ap (λ (y : Sub). set subs i (subWords (withPull false 0 (y .generation) y))) q in
             let y : events′ ≡ set events (d .events) v = pe ∙ ap (λ (u : Sub). set events (d .events) (eventWords (null (idOf (u .conn) (u .session) (u .value))))) q in
             let o : r ≡ withEvents n d = pr ∙ pushed-room d (length events) room in
-            rw (o, x, y) (leaves-if b _ g d (withEvents n d) subs rows events (set subs i (subWords z)) rows (set events (d .events) v) t
-            (leaves-put d subs rows id i long e z refl refl g (null (idOf (here .conn) (here .session) (here .value)) ∷ []) n events (set events (d .events) v) w says
-            (omega arith) (events-up-to (d .events) events v room) (events-after (d .events) events v) (length-set events (d .events) v))
-            (record { head = refl; few = omega arith }))
+            rw (o, x, y) (when-leaves b _ g d (withEvents n d) subs rows events (set subs i (subWords z)) rows (set events (d .events) v) t (
+              leaves-put d subs rows id i long e z refl refl g (null (idOf (here .conn) (here .session) (here .value)) ∷ []) n events (set events (d .events) v) w says
+                  (omega arith) (events-up-to (d .events) events v room) (events-after (d .events) events v) (length-set events (d .events) v),
+              record { head = refl; few = omega arith },
+            ))
 
     -- the timer fires
     module _ (generation : ℕ) where

@@ -231,15 +231,3 @@ module _ (d : Head) (subs rows : List Row) (id : Id) (i : ℕ) (long : d .consum
           rows-length = refl;
           events-length = same;
         }
-
--- ---- by a test
-
-module _ (b : Bool) (also : Type 0) (f : Dest → Out) (d r : Head) (subs rows events subs′ rows′ events′ : List Row) where
-  pub leaves-if : b ≡ true → Leaves f d r subs rows events subs′ rows′ events′ → also → LeavesIf b also f d r subs rows events subs′ rows′ events′
-  leaves-if h x y = subst (λ (t : Bool). LeavesIf t also f d r subs rows events subs′ rows′ events′) (sym h) (x, y)
-
-  pub leaves-not : b ≡ false → Untouched d r subs rows events subs′ rows′ events′ → LeavesIf b also f d r subs rows events subs′ rows′ events′
-  leaves-not h x = subst (λ (t : Bool). LeavesIf t also f d r subs rows events subs′ rows′ events′) (sym h) x
-
-pub untouched : (d : Head) (subs rows events : List Row) → Untouched d d subs rows events subs rows events
-untouched d subs rows events = record { same-head = refl; same-subs = refl; same-rows = refl; same-events = refl }

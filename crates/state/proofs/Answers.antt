@@ -6,7 +6,7 @@ use Rattle.definition.specs.Types.{Dest}
 use Rattle.definition.specs.Destination.{Out}
 use Rattle.definition.specs.Layout.{Row}
 use Rattle.state.specs.declared.Head.{Head}
-use Rattle.state.specs.Leaves.{LeavesIf}
+use Rattle.state.specs.Leaves.{LeavesIf, Untouched}
 use Rattle.state.proofs.Leaves.{unless-touched}
 
 -- ---- a test of three
@@ -27,6 +27,9 @@ module _ (a b c : Bool) where
 -- ---- the answer
 
 -- nothing has happened
+pub untouched : (d : Head) (subs rows events : List Row) → Untouched d d subs rows events subs rows events
+untouched d subs rows events = record { same-head = refl; same-subs = refl; same-rows = refl; same-events = refl }
+
 pub leaves-no : (test : Bool) (also : Type 0) (f : Dest → Out) (d : Head) (subs rows events : List Row) → test ≡ false → LeavesIf test also f d d subs rows events subs rows events
 leaves-no test also f d subs rows events h =
-    unless-touched test also f d d subs rows events subs rows events h (record { same-head = refl; same-subs = refl; same-rows = refl; same-events = refl })
+    unless-touched test also f d d subs rows events subs rows events h (untouched d subs rows events)

@@ -9,12 +9,9 @@ use Rattle.definition.specs.Types.{Kind, queue, topic, Id, Entry, Audit, Dest}
 use Rattle.definition.specs.Layout.{Row}
 use Rattle.state.specs.declared.Head.{Head}
 use Rattle.state.specs.State.{headView, kindBy, withStats}
-use Rattle.state.specs.Leaves.{silent, Leaves, Untouched}
+use Rattle.state.specs.Leaves.{silent, Leaves}
 use Rattle.state.proofs.Counts.{enqueued-view}
 use Rattle.storing.specs.Storing.{storedBy, kept, waits, spread}
-
-pub untouched : (d : Head) (subs rows events : List Row) → Untouched d d subs rows events subs rows events
-untouched d subs rows events = record { same-head = refl; same-subs = refl; same-rows = refl; same-events = refl }
 
 -- what f means with other counters, g means with these
 pub leaves-counted : (f g : Dest → Dest) (s : Stats) (d r : Head) (subs rows events subs′ rows′ events′ : List Row)

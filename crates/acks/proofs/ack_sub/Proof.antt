@@ -5,7 +5,9 @@ use lib.ListN.{length}
 use denote.Ref.{now}
 use Rattle.state.proofs.Fitting.{fits-facts}
 use Rattle.acks.specs.Acks.{ackOf}
-use Rattle.acks.proofs.Whole.{place-within, acked-none, leaves-yes, leaves-no}
+use Rattle.state.proofs.Leaves.{when-leaves}
+use Rattle.state.proofs.Answers.{leaves-no}
+use Rattle.acks.proofs.Whole.{place-within, acked-none}
 use borrow.Author.Needs.{needs}
 use borrow.Author.Needs.{needs}
 use Rattle.acks.proofs.ack_sub.Statement.{statement}
@@ -49,7 +51,7 @@ same-length-4 c = search needs
 returns-2 : tie.Need-returns-2
 returns-2 c =
     let a = c .before .before .before .before .before .before .before .before .before .before .before .before .before .before .before .args in
-    leaves-yes _ _ _ (a .d) _ (now (a .subs)) (now (a .rows)) (now (a .events)) _ _ _ (sym (c .before .before .before .before .before .before .before .before .before .before .before .before .before .fits2 .ensures) ∙ not-false _ (c .before .before .before .before .before .before .before .before .before .before .before .before .if1 .left)) (c .before .before .before .ack-at .ensures (a .id) (sym (c .before .before .before .before .before .before .before .before .before .before .position .ensures) ∙ c .before .before .before .before .before .before .before .before .i .given .1))
+    when-leaves _ _ _ (a .d) _ (now (a .subs)) (now (a .rows)) (now (a .events)) _ _ _ (sym (c .before .before .before .before .before .before .before .before .before .before .before .before .before .fits2 .ensures) ∙ not-false _ (c .before .before .before .before .before .before .before .before .before .before .before .before .if1 .left)) (c .before .before .before .ack-at .ensures (a .id) (sym (c .before .before .before .before .before .before .before .before .before .before .position .ensures) ∙ c .before .before .before .before .before .before .before .before .i .given .1))
 
 same-length-5 : tie.Need-same-length-5
 same-length-5 c = search needs
@@ -59,7 +61,7 @@ returns-3 c =
     let a = c .before .before .before .before .before .before .before .args in
     let y = sym (c .before .before .before .before .before .fits2 .ensures) ∙ not-false _ (c .before .before .before .before .if1 .left) in
     let f = fits-facts (now (a .subs)) (a .d) (length (now (a .rows))) (length (now (a .events))) y in
-    leaves-yes _ _ _ (a .d) _ (now (a .subs)) (now (a .rows)) (now (a .events)) _ _ _ y (acked-none (now (a .subs)) (now (a .rows)) (now (a .events)) (a .d) f (a .id) (ackOf (a .a)) (sym (c .before .before .position .ensures) ∙ c .enum-told .given .1))
+    when-leaves _ _ _ (a .d) _ (now (a .subs)) (now (a .rows)) (now (a .events)) _ _ _ y (acked-none (now (a .subs)) (now (a .rows)) (now (a .events)) (a .d) f (a .id) (ackOf (a .a)) (sym (c .before .before .position .ensures) ∙ c .enum-told .given .1))
 
 pub ack-sub-spec : {M : Type 1} → statement M
 ack-sub-spec =

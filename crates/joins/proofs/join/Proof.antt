@@ -7,7 +7,7 @@ use denote.Ref.{now}
 use lib.ListN.{length}
 use Rattle.state.proofs.Fitting.{fits-facts}
 use Rattle.state.proofs.Leaves.{unless-touched}
-use Rattle.pulls.proofs.Reword.{untouched}
+use Rattle.state.proofs.Answers.{untouched}
 use Rattle.joins.proofs.Outcomes.{joins-late, joins-unfit, joins-refused, joins-topic, joins-full, less, join-browses, join-done}
 use borrow.Author.Needs.{needs}
 use Rattle.joins.proofs.join.Statement.{statement}

@@ -6,7 +6,9 @@ use lib.ListN.{length}
 use native.Mathlib.Omega.{arith}
 use borrow.Author.Tests.{eq-eqb, ne-eqb}
 use Rattle.state.proofs.Fitting.{fits-facts}
-use Rattle.pulls.proofs.Reword.{within-fits, leaves-not, untouched}
+use Rattle.state.proofs.Leaves.{unless-touched}
+use Rattle.state.proofs.Answers.{untouched}
+use Rattle.pulls.proofs.Reword.{within-fits}
 use Rattle.pulls.proofs.Outcomes.{none-more, timeout-missing, timeout-idle, timeout-late, timeout-sent}
 use borrow.Author.Needs.{needs}
 use Rattle.pulls.proofs.pull_timeout.Statement.{statement}
@@ -22,7 +24,7 @@ returns : tie.Need-returns
 returns c =
     let a = c .before .before .before .args in
     let f = sym (c .before .fits2 .ensures) ∙ not-true _ (c .if1 .taken) in
-    leaves-not _ _ _ (a .d) (a .d) (now (a .subs)) (now (a .rows)) (now (a .events)) (now (a .subs)) (now (a .rows)) (now (a .events)) f (untouched (a .d) (now (a .subs)) (now (a .rows)) (now (a .events)))
+    unless-touched _ _ _ (a .d) (a .d) (now (a .subs)) (now (a .rows)) (now (a .events)) (now (a .subs)) (now (a .rows)) (now (a .events)) f (untouched (a .d) (now (a .subs)) (now (a .rows)) (now (a .events)))
 
 position-requires : tie.Need-position-requires
 position-requires c κs = search needs

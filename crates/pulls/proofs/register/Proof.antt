@@ -5,7 +5,9 @@ use denote.Ref.{now}
 use lib.ListN.{length, set}
 use Rattle.consumers.specs.declared.Sub.{Sub}
 use Rattle.consumers.specs.Consumers.{subWords}
-use Rattle.pulls.proofs.Reword.{within-fits, leaves-not, untouched}
+use Rattle.state.proofs.Leaves.{unless-touched}
+use Rattle.state.proofs.Answers.{untouched}
+use Rattle.pulls.proofs.Reword.{within-fits}
 use Rattle.pulls.proofs.Outcomes.{waits-not, generation-low, register-missing, register-not, register-put}
 use borrow.Author.Needs.{needs}
 use Rattle.pulls.proofs.register.Statement.{statement}
@@ -21,7 +23,7 @@ returns : tie.Need-returns
 returns c =
     let a = c .before .before .before .args in
     let f = sym (c .before .fits2 .ensures) ∙ not-true _ (c .if1 .taken) in
-    (leaves-not _ _ _ (a .d) (a .d) (now (a .subs)) (now (a .rows)) (now (a .events)) (now (a .subs)) (now (a .rows)) (now (a .events)) f (untouched (a .d) (now (a .subs)) (now (a .rows)) (now (a .events))), waits-not _ (a .id) (a .d) (now (a .subs)) (now (a .rows)) f)
+    (unless-touched _ _ _ (a .d) (a .d) (now (a .subs)) (now (a .rows)) (now (a .events)) (now (a .subs)) (now (a .rows)) (now (a .events)) f (untouched (a .d) (now (a .subs)) (now (a .rows)) (now (a .events))), waits-not _ (a .id) (a .d) (now (a .subs)) (now (a .rows)) f)
 
 position-requires : tie.Need-position-requires
 position-requires c κs = search needs

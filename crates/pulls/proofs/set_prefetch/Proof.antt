@@ -10,7 +10,9 @@ use Prim.Native.Nat.{ℕ}
 use Rattle.consumers.specs.declared.Sub.{Sub}
 use Rattle.consumers.specs.Consumers.{subWords}
 use Rattle.pulls.specs.Pulls.{withPrefetch}
-use Rattle.pulls.proofs.Reword.{within-fits, leaves-not, untouched}
+use Rattle.state.proofs.Leaves.{unless-touched}
+use Rattle.state.proofs.Answers.{untouched}
+use Rattle.pulls.proofs.Reword.{within-fits}
 use Rattle.pulls.proofs.Outcomes.{prefetch-missing, prefetch-put}
 use borrow.Author.Needs.{needs}
 use Rattle.pulls.proofs.set_prefetch.Statement.{statement}
@@ -26,7 +28,7 @@ returns : tie.Need-returns
 returns c =
     let a = c .before .before .before .args in
     let f = sym (c .before .fits2 .ensures) ∙ not-true _ (c .if1 .taken) in
-    leaves-not _ _ _ (a .d) (a .d) (now (a .subs)) (now (a .rows)) (now (a .events)) (now (a .subs)) (now (a .rows)) (now (a .events)) f (untouched (a .d) (now (a .subs)) (now (a .rows)) (now (a .events)))
+    unless-touched _ _ _ (a .d) (a .d) (now (a .subs)) (now (a .rows)) (now (a .events)) (now (a .subs)) (now (a .rows)) (now (a .events)) f (untouched (a .d) (now (a .subs)) (now (a .rows)) (now (a .events)))
 
 position-requires : tie.Need-position-requires
 position-requires c κs = search needs

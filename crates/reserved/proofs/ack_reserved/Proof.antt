@@ -7,7 +7,8 @@ use denote.Ref.{now}
 use Rattle.definition.specs.Words.{present}
 use Rattle.state.proofs.Fitting.{fits-facts}
 use Rattle.acks.specs.Acks.{ackOf}
-use Rattle.acks.proofs.Whole.{leaves-yes, leaves-no}
+use Rattle.state.proofs.Leaves.{when-leaves}
+use Rattle.state.proofs.Answers.{leaves-no}
 use Rattle.reserved.proofs.Taking.{holds, acks-reserved, acks-nothing}
 use borrow.Author.Needs.{needs}
 use borrow.Author.Needs.{needs}
@@ -28,7 +29,7 @@ returns-2 c =
     let y = sym (c .before .before .before .fits2 .ensures) ∙ not-false _ (c .before .before .if1 .left) in
     let f = fits-facts (now (a .subs)) (a .d) (length (now (a .rows))) (length (now (a .events))) y in
     let no : a .a .«has_last» ≡ false = not-true _ (c .if2 .taken) in
-    leaves-yes _ _ _ (a .d) _ (now (a .subs)) (now (a .rows)) (now (a .events)) _ _ _ y (acks-nothing (a .id) (ackOf (a .a)) (now (a .subs)) (now (a .rows)) (now (a .events)) (a .d) f (ackOf (a .a) .last) (ap (λ (b : Bool). present b (a .a .last)) no))
+    when-leaves _ _ _ (a .d) _ (now (a .subs)) (now (a .rows)) (now (a .events)) _ _ _ y (acks-nothing (a .id) (ackOf (a .a)) (now (a .subs)) (now (a .rows)) (now (a .events)) (a .d) f (ackOf (a .a) .last) (ap (λ (b : Bool). present b (a .a .last)) no))
 
 of-requires : tie.Need-of-requires
 of-requires c κs = search needs
@@ -55,7 +56,7 @@ returns-3 c =
     let y = sym (c .before .before .before .before .before .before .before .before .before .before .fits2 .ensures) ∙ not-false _ (c .before .before .before .before .before .before .before .before .before .if1 .left) in
     let f = fits-facts (now (a .subs)) (a .d) (length (now (a .rows))) (length (now (a .events))) y in
     let yes : a .a .«has_last» ≡ true = not-false _ (c .before .before .before .before .before .before .before .if2 .left) in
-    leaves-yes _ _ _ (a .d) _ (now (a .subs)) (now (a .rows)) (now (a .events)) _ _ _ y
+    when-leaves _ _ _ (a .d) _ (now (a .subs)) (now (a .rows)) (now (a .events)) _ _ _ y
     (acks-reserved (a .id) (ackOf (a .a)) (now (a .subs)) (now (a .rows)) (now (a .events)) (a .d) f _ _ _ (c .before .before .before .before .before .before .of .result) _ (a .a .last) (ackOf (a .a) .last) (c .before .before .before .before .before .before .of .ensures) (c .before .before .before .before .before .numbers .ensures) (ap (λ (b : Bool). present b (a .a .last)) yes) (c .before .before .take-out .ensures (now (a .subs)) f))
 
 pub ack-reserved-spec : {M : Type 1} → statement M

@@ -17,7 +17,7 @@ use Rattle.consumers.specs.Table.{onFirst, heldBackRow}
 use Rattle.storing.specs.Storing.{holds, roomFor, kept, queuedHead, Room}
 use Rattle.storing.specs.Arrivals.{Arrives}
 use Rattle.storing.proofs.Refusals.{stores-unfit, stores-held, stores-full}
-use Rattle.storing.proofs.Leave.{untouched}
+use Rattle.state.proofs.Answers.{untouched}
 use Rattle.storing.proofs.Stored.{counted, arrives, stored-queue, stored-topic}
 use native.Mathlib.Omega.{arith}
 use borrow.Author.Needs.{needs}
