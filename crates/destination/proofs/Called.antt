@@ -22,7 +22,7 @@ use Rattle.state.proofs.Fitting.{not-short}
 pub use Rattle.sound.specs.Sound.{lent}
 use Rattle.destination.specs.Called.{outcome, Past, Called, Performs, performed}
 use Rattle.destination.specs.Opened.{openedHead}
-use Rattle.destination.proofs.Refusing.{step-opens, opens-sound, step-refused, step-done, done-sound}
+use Rattle.destination.proofs.Refusing.{done, step-opens, opens-sound, step-refused, step-done, done-sound}
 use Rattle.destination.proofs.Ending as Ending
 
 -- nothing has changed
@@ -38,6 +38,35 @@ refused-called k b events q e = subst⁻¹ (λ (q : Result). Called q b b events
   kept = λ _. (refl, refl);
   past = record { head-past = refl; subs-past = refl; rows-past = refl; head-length = refl; subs-length = refl; rows-length = refl; events-length = refl };
 })
+
+-- a call that is done, where q is what it means
+module _ (h : List ℕ) (subs rows events : List Row) (roomy : short (lengthsOf (lent h subs rows) (length events)) ≡ false) (s : soundBuffers (lent h subs rows) ≡ true)
+    (c : Call) (q : Result) (is : q ≡ done c (view (lent h subs rows))) (z : sound (used (perform (view (lent h subs rows)) c .dest)) ≡ true)
+    (a : Answer) (subs′ rows′ events′ : List Row) (p : Performs c (loaded h subs) a subs rows events subs′ rows′ events′) (e : a .refusal ≡ 0)
+  where
+    abbrev b₀ : Buffers
+    b₀ = lent h subs rows
+
+    abbrev b′ : Buffers
+    b′ = lent (stored (withCallsUsed (more (a .head .«calls_used»)) (a .head)) h) subs′ rows′
+
+    pub performed-called : Called q b₀ b′ events events′ (outcome 0 (a .answer) (a .head .events))
+    performed-called =
+        let l = p .leaves e in
+        let f = performed c in
+        let r = a .head in
+        let few = p .few e in
+        subst⁻¹ (λ (q : Result). Called q b₀ b′ events events′ (outcome 0 (a .answer) (a .head .events))) is (record {
+          refusal = refl;
+          answer = p .answer e (Ending.ids h subs rows events roomy s) (Ending.rings h subs rows events roomy s) (Ending.as-many h subs rows events roomy s) ∙ ap (λ (t : Dest). perform t c .answer) (Ending.shown h subs rows events roomy s);
+          count = Ending.count h subs rows events roomy s f r subs′ rows′ events′ l few z;
+          sent = Ending.sent h subs rows events roomy s f r subs′ rows′ events′ l few z;
+          later = l .later;
+          shows = Ending.shows h subs rows events roomy s f r subs′ rows′ events′ l few z;
+          leaves-sound = λ _. Ending.leaves-sound h subs rows events roomy s f r subs′ rows′ events′ l few z;
+          kept = λ n. absurd (n refl);
+          past = Ending.past h subs rows events roomy s f r subs′ rows′ events′ l few z;
+        })
 
 module _ (h : List ℕ) (subs rows events : List Row) (code : ℕ) (ws : List ℕ) (roomy : short (lengthsOf (lent h subs rows) (length events)) ≡ false) where
   abbrev b : Buffers
@@ -96,30 +125,7 @@ module _ (h : List ℕ) (subs rows events : List Row) (code : ℕ) (ws : List �
       pub own-called : (k : ℕ) → a .refusal ≡ suc k → Called q b b events events (outcome (suc k) 0 0)
       own-called k e = refused-called k b events q (step-refused b (length events) code ws roomy coded s c decoded ok k left (sym own ∙ e))
 
-      module _ (e : a .refusal ≡ 0) where
-        own-none : ownRefusal (view b) c ≡ 0
-        own-none = sym own ∙ e
-
-        z : sound (used (perform (view b) c .dest)) ≡ true
-        z = done-sound b (length events) code ws roomy coded s c decoded ok left own-none
-
-        abbrev b′ : Buffers
-        b′ = lent (stored (withCallsUsed (more (a .head .«calls_used»)) (a .head)) h) subs′ rows′
-
-        pub done-called : Called q b b′ events events′ (outcome 0 (a .answer) (a .head .events))
-        done-called =
-            let l = p .leaves e in
-            let f = performed c in
-            let r = a .head in
-            let few = p .few e in
-            subst⁻¹ (λ (q : Result). Called q b b′ events events′ (outcome 0 (a .answer) (a .head .events))) (step-done b (length events) code ws roomy coded s c decoded ok left own-none) (record {
-              refusal = refl;
-              answer = p .answer e (Ending.ids h subs rows events roomy s) (Ending.rings h subs rows events roomy s) (Ending.as-many h subs rows events roomy s) ∙ ap (λ (t : Dest). perform t c .answer) (Ending.shown h subs rows events roomy s);
-              count = Ending.count h subs rows events roomy s f r subs′ rows′ events′ l few z;
-              sent = Ending.sent h subs rows events roomy s f r subs′ rows′ events′ l few z;
-              later = l .later;
-              shows = Ending.shows h subs rows events roomy s f r subs′ rows′ events′ l few z;
-              leaves-sound = λ _. Ending.leaves-sound h subs rows events roomy s f r subs′ rows′ events′ l few z;
-              kept = λ n. absurd (n refl);
-              past = Ending.past h subs rows events roomy s f r subs′ rows′ events′ l few z;
-            })
+      pub done-called : a .refusal ≡ 0 → Called q b (lent (stored (withCallsUsed (more (a .head .«calls_used»)) (a .head)) h) subs′ rows′) events events′ (outcome 0 (a .answer) (a .head .events))
+      done-called e =
+          let own-none : ownRefusal (view b) c ≡ 0 = sym own ∙ e in
+          performed-called h subs rows events roomy s c q (step-done b (length events) code ws roomy coded s c decoded ok left own-none) (done-sound b (length events) code ws roomy coded s c decoded ok left own-none) a subs′ rows′ events′ p e

@@ -57,6 +57,10 @@ module _ (h : List ℕ) (subs rows events : List Row)
     pub shown : headView d subs rows ids rings ≡ view b
     shown = ap (λ (x : Head). headView x subs rows ids rings) d-is ∙ loaded-view subs rows h (usedRows b)
 
+    pub calls-are : eqb (d .«calls_used») (d .«call_limit») ≡ eqb (view b .callsUsed) (view b .callLimit)
+    unfolding headView
+    calls-are = ap (λ (t : Dest). eqb (t .callsUsed) (t .callLimit)) shown
+
     pub as-many : length ids ≡ d .producers
     unfolding headOf
     as-many = ids-length (at 13 h) (drop 17 h) ∙ sym (ap (λ (x : Head). x .producers) d-is)

@@ -12,3 +12,4 @@ pub mod Going
 pub mod Handled
 pub mod Headed
 pub mod Ran
+pub mod Bare

@@ -66,11 +66,6 @@ module _ (h : List ℕ) (subs rows events : List Row) (code : ℕ) (ws : List �
     pub undecoded-called : is-some (decode code ws) ≡ false → Called q b b events events (outcome 3 0 0)
     undecoded-called t = none-at (decode code ws) refl t
 
-    -- the loaded numbers are the view's
-    pub calls-are : eqb (d .«calls_used») (d .«call_limit») ≡ eqb (view b .callsUsed) (view b .callLimit)
-    unfolding headView
-    calls-are = ap (λ (t : Dest). eqb (t .callsUsed) (t .callLimit)) (Ending.shown h subs rows events roomy s)
-
     -- no call is left
     spent-at : (o : Option Call) → decode code ws ≡ o → is-some o ≡ true → eqb (view b .callsUsed) (view b .callLimit) ≡ true → Called q b b events events (outcome 9 0 0)
     unfolding decode
@@ -78,11 +73,11 @@ module _ (h : List ℕ) (subs rows events : List Row) (code : ℕ) (ws : List �
     spent-at (some c) e t l = refused-called 8 b events q (step-spent b (length events) code ws roomy coded s c e (in-range (read code ws) c e) l)
 
     pub spent-called : is-some (decode code ws) ≡ true → d .«calls_used» ≡ d .«call_limit» → Called q b b events events (outcome 9 0 0)
-    spent-called t e = spent-at (decode code ws) refl t (sym calls-are ∙ eq-eqb _ _ e)
+    spent-called t e = spent-at (decode code ws) refl t (sym (Ending.calls-are h subs rows events roomy s) ∙ eq-eqb _ _ e)
 
     module _ (more : (d .«calls_used» ≡ d .«call_limit» → ⊥)) where
       left : eqb (view b .callsUsed) (view b .callLimit) ≡ false
-      left = sym calls-are ∙ ne-eqb _ _ more
+      left = sym (Ending.calls-are h subs rows events roomy s) ∙ ne-eqb _ _ more
 
       pub run-ready : Ready d subs rows events
       run-ready = Ending.ready h subs rows events roomy s left

@@ -18,11 +18,11 @@ use Rattle.definition.proofs.Claims.{step-leaves-sound}
 abbrev pub done : Call → Dest → Result
 done c t = record { refusal = 0; answer = perform t c .answer; events = perform t c .events; dest = used (perform t c .dest) }
 
-call-refused : (k : ℕ) (l : Lengths) (c : Call) (t : Dest) → refusal l c t ≡ suc k → call l c t ≡ refused (suc k) t
+pub call-refused : (k : ℕ) (l : Lengths) (c : Call) (t : Dest) → refusal l c t ≡ suc k → call l c t ≡ refused (suc k) t
 unfolding call
 call-refused k l c t h = rw (h, eqb·suc-zero k)
 
-call-done : (l : Lengths) (c : Call) (t : Dest) → refusal l c t ≡ 0 → call l c t ≡ done c t
+pub call-done : (l : Lengths) (c : Call) (t : Dest) → refusal l c t ≡ 0 → call l c t ≡ done c t
 unfolding call
 call-done l c t h = rw h
 

@@ -1,3 +1,4 @@
+pub mod Bare
 pub mod Called
 pub mod Opened
 pub mod Requests

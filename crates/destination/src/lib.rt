@@ -18,9 +18,11 @@ ghost use Rattle.destination.specs.Opened.{openedHead, counted, finished
 mod arrivals;
 mod asking;
 mod departures;
+mod exported;
 mod handling;
 mod perform;
 mod requests;
+mod uncoded;
 
 use calls::Call;
 use consumers::SubRow;
@@ -29,6 +31,8 @@ use state::Answer;
 use state::Event;
 use state::Head;
 use stats::Stats;
+pub use uncoded::add_discarded;
+pub use uncoded::expired_before_storing;
 
 // The refusal (0: accepted), the answer, how many events were written.
 #[repr(C)]
