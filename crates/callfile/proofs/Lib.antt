@@ -2,3 +2,4 @@ pub mod Checks
 pub mod Digits
 pub mod Parts
 pub mod Events
+pub mod Sets

@@ -26,6 +26,10 @@ checkFrom k (b ∷ bs) = (k + 1) * b + checkFrom (k + 1) bs
 abbrev pub check : List ℕ → ℕ
 check block = checkFrom 0 (take 508 block)
 
+-- of a block that is long enough
+unfoldable pub checkIn : List ℕ → ℕ
+checkIn block = if leb 512 (length block) then check block else 0
+
 -- whole, with a count of 1 to 7 and its check
 unfoldable pub good : List ℕ → ℕ → Bool
 good block got = leb 512 (length block) && eqb got 512 && leb (numberAt 504 block) 7 && eqb (numberAt 508 block) (check block) && leb 1 (numberAt 504 block)

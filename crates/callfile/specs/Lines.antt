@@ -1,7 +1,7 @@
 -- The lines that a run prints, as bytes. Connections, sequence numbers, answers and counters print unsigned; sessions, values and redelivery
 -- signed. Assumes nothing.
 use Prim.Native.Nat.{ℕ, zero, suc, _+_, _/_, _%_}
-use mathlib.Core.Bool.{not}
+use mathlib.Core.Bool.{Bool, not}
 use mathlib.Core.List.{List, [], _∷_, _++_}
 use mathlib.Core.Option.{Option, none, some}
 use lib.Dec.{ltb, eqb}
@@ -33,6 +33,10 @@ field n = 32 ∷ decimal n
 
 abbrev pub signedField : ℤ → List ℕ
 signedField z = 32 ∷ signedDecimal z
+
+-- a word's number, signed or not
+abbrev pub wordField : Bool → ℕ → List ℕ
+wordField minus w = if minus then signedField (signed w) else field w
 
 abbrev pub idFields : Id → List ℕ
 idFields i = field (i .conn) ++ (signedField (i .session) ++ signedField (i .value))

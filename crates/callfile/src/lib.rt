@@ -6,8 +6,8 @@ ghost use lib.Dec.{leb};
 ghost use lib.ListN.{length};
 ghost use Rattle.words.specs.Words.{signed};
 ghost use Rattle.model.specs.Model.{idOf};
-ghost use Rattle.callfile.specs.Blocks.{byteAt, numberAt, wordAt, check, callsIn, callAt};
-ghost use Rattle.callfile.specs.Lines.{decimal, field, signedField, idFields, callLine, eventLine, letterAt, messageAt, nullAt, wordsLine, badLine, countersLine};
+ghost use Rattle.callfile.specs.Blocks.{byteAt, numberAt, wordAt, check, checkIn, callsIn, callAt};
+ghost use Rattle.callfile.specs.Lines.{decimal, field, signedField, wordField, idFields, callLine, eventLine, letterAt, messageAt, nullAt, wordsLine, badLine, countersLine};
 ghost use Rattle.callfile.specs.Placed.{Puts, Line};
 use calls::Call;
 use stats::Stats;
@@ -71,6 +71,16 @@ fn check_of(block: &[u8]) -> u64
         i += 1;
     }
     sum
+}
+
+// The check that a block should have; 0 for a short one.
+pub fn block_check(block: &[u8]) -> u64
+    ensures { λ r. ⌜ r ≡ checkIn (now (block .entry)) ⌝ }
+{
+    if block.len() < BLOCK {
+        return 0;
+    }
+    check_of(block)
 }
 
 // How many calls a block has, of which so many bytes were read: 1 to 7, or 0 where it is short or has a wrong count or check.
@@ -181,6 +191,26 @@ fn room(len: usize, at: usize) -> bool
     at <= len - LINE
 }
 
+fn word_field(out: &mut [u8], at: usize, w: u64, minus: bool) -> usize
+    requires { do ⌜ at + 128 ≤ (← ⟦out.len()⟧) ⌝ }
+    ensures { λ r. ⌜ Puts (wordField minus w) at (now (out .entry)) r (now (out .exit)) × (r ≤ at + 128) ⌝ }
+{
+    if minus {
+        return put_signed(out, at, w);
+    }
+    put_field(out, at, w)
+}
+
+// A space and a word, as a signed number or not. Without room for the longest line, nothing is put; and so below.
+pub fn put_word(out: &mut [u8], at: usize, w: u64, minus: bool) -> usize
+    ensures { λ r. ⌜ Line (wordField minus w) at (now (out .entry)) r (now (out .exit)) ⌝ }
+{
+    if !room(out.len(), at) {
+        return at;
+    }
+    word_field(out, at, w, minus)
+}
+
 fn call_line(out: &mut [u8], at: usize, index: u64, refusal: u64, answer: u64) -> usize
     requires { do ⌜ at + 128 ≤ (← ⟦out.len()⟧) ⌝ }
     ensures { λ r. ⌜ Puts (callLine index refusal answer) at (now (out .entry)) r (now (out .exit)) × (r ≤ at + 128) ⌝ }
@@ -191,7 +221,7 @@ fn call_line(out: &mut [u8], at: usize, index: u64, refusal: u64, answer: u64) -
     put(out, c, b'\n')
 }
 
-// A call's line: index, refusal, answer. Without room for the longest line, nothing is put; and so below.
+// A call's line: index, refusal, answer.
 pub fn put_call(out: &mut [u8], at: usize, index: u64, refusal: u64, answer: u64) -> usize
     ensures { λ r. ⌜ Line (callLine index refusal answer) at (now (out .entry)) r (now (out .exit)) ⌝ }
 {

@@ -13,9 +13,10 @@ use Rattle.definition.specs.Types.{Dest}
 use Rattle.definition.specs.Consumer.{zeroStats}
 use Rattle.definition.specs.Calls.{Lengths, stateShort, short, sound, Call, discarding, missing, argumentsOk, ownRefusal, Result, refused, refusal, call}
 use Rattle.definition.specs.Words.{provided, read, inRange, decode, openWords, openStep, callStep, step}
-use Rattle.definition.specs.Queries.{queryRefusal, queryOk, query, counters, pageMax, Page, page}
-use Rattle.definition.specs.Layout.{Buffers, view, formed, soundBuffers, lengthsOf, bufferStep}
-use Rattle.definition.specs.Refusals.{Place, table, places, bufferPlaces, uncodedPlaces, queryPlaces, passes, Comes, Exact, Refuses, StepRefuses, BufferRefuses, UncodedRefuses, QueryRefuses, CountersRefuse, PageRefuses}
+use Rattle.definition.specs.Queries.{queryRefusal, queryOk, Asked, query, Counted, counters, pageMax, Page, page}
+use Rattle.definition.specs.Layout.{Buffers, view, formed, soundBuffers, lengthsOf, bufferStep, bufferCall, bufferQuery, bufferCounters, bufferPage}
+use Rattle.definition.specs.Refusals.{Place, _when_, table, places, bufferPlaces, uncodedPlaces, bufferUncodedPlaces, queryTable, queryPlaces, passes, Comes, Exact, Refuses, StepRefuses, BufferRefuses, UncodedRefuses, QueryRefuses, CountersRefuse, PageRefuses}
+use Rattle.definition.specs.Refusals.{BufferUncodedRefuses, BufferQueryRefuses, BufferCountersRefuse, BufferPageRefuses}
 use Rattle.definition.proofs.Tests.{if-true, if-false, by-if, by-test, and-left, and-right, and-both}
 use Rattle.definition.proofs.Lists.{none-some, some-inj}
 use Rattle.definition.proofs.Made.{inRange-ok}
@@ -206,3 +207,47 @@ page-refuses lent lines offset limit t = (
   exact _ _ refl (page-refusal lent lines offset limit t ∙ query-first (stateShort lent || ltb lines pageMax) true t),
   by-if (λ (r : Page). (r .refusal ≡ 0 → ⊥) → (r .total ≡ 0) × (r .lines ≡ [])) (leb (queryRefusal (stateShort lent || ltb lines pageMax) true t) 0) _ _ (λ c n. absurd (n refl)) (λ c n. (refl, refl)),
 )
+
+-- ---- the same on buffers
+
+-- counts that do not fit the tables are refused in the second place, too
+formed-first : {A : Type 0} (of : A → ℕ) (rest : List Place) (s f z : Bool) (x y : A) → of x ≡ 2 → of y ≡ first (1 when s ∷ 2 when not z ∷ rest)
+    → of (if not s && not f then x else y) ≡ first (1 when s ∷ 2 when not (f && z) ∷ rest)
+formed-first of rest true f z x y p q = q
+formed-first of rest false true z x y p q = q
+formed-first of rest false false z x y p q = p
+
+uncoded-on : (b : Buffers) (events : ℕ) (c : Call) → argumentsOk c ≡ true → ownRefusal (view b) c ≡ 0 → Refuses (bufferCall b events c) (bufferUncodedPlaces b events) (view b)
+unfolding bufferCall soundBuffers refusal
+uncoded-on b events c a o = refuses (bufferCall b events c) (bufferUncodedPlaces b events) (view b) refl
+    (formed-first (λ (r : Result). r .refusal) (9 when eqb (view b .callsUsed) (view b .callLimit) ∷ []) (short (lengthsOf b events)) (formed b) (sound (view b)) _ _ refl (call-refusal (lengthsOf b events) c (view b) ∙ rw (a, o)))
+    (by-if (Kept (view b)) (not (short (lengthsOf b events)) && not (formed b)) _ _ (λ e n. refl) (λ e. call-kept (lengthsOf b events) c (view b)))
+
+pub buffer-uncoded-refuses : BufferUncodedRefuses
+unfolding argumentsOk ownRefusal
+buffer-uncoded-refuses b events = (uncoded-on b events discarding refl refl, uncoded-on b events missing refl refl)
+
+pub buffer-query-refuses : BufferQueryRefuses
+unfolding bufferQuery soundBuffers query
+buffer-query-refuses b q =
+    let s = stateShort (lengthsOf b 0) in (
+      exact _ _ refl (formed-first (λ (r : Asked). r .refusal) (3 when not (queryOk q) ∷ []) s (formed b) (sound (view b)) _ _ refl (query-first s (queryOk q) (view b))),
+      by-if (λ (r : Asked). (r .refusal ≡ 0 → ⊥) → r .answer ≡ 0) (not s && not (formed b)) _ _ (λ c n. refl) (λ c. query-refuses (lengthsOf b 0) q (view b) .1),
+    )
+
+pub buffer-counters-refuse : BufferCountersRefuse
+unfolding bufferCounters soundBuffers counters
+buffer-counters-refuse b =
+    let s = stateShort (lengthsOf b 0) in (
+      exact _ _ refl (formed-first (λ (r : Counted). r .refusal) (3 when false ∷ []) s (formed b) (sound (view b)) _ _ refl (query-first s true (view b))),
+      by-if (λ (r : Counted). (r .refusal ≡ 0 → ⊥) → r .stats ≡ zeroStats) (not s && not (formed b)) _ _ (λ c n. refl) (λ c. counters-refuse (lengthsOf b 0) (view b) .1),
+    )
+
+pub buffer-page-refuses : BufferPageRefuses
+unfolding bufferPage soundBuffers
+buffer-page-refuses b lines offset limit =
+    let s = stateShort (lengthsOf b 0) || ltb lines pageMax in
+    let t = view b in (
+      exact _ _ refl (formed-first (λ (r : Page). r .refusal) (3 when false ∷ []) s (formed b) (sound t) _ _ refl (page-refusal (lengthsOf b 0) lines offset limit t ∙ query-first s true t)),
+      by-if (λ (r : Page). (r .refusal ≡ 0 → ⊥) → (r .total ≡ 0) × (r .lines ≡ [])) (not s && not (formed b)) _ _ (λ c n. (refl, refl)) (λ c. page-refuses (lengthsOf b 0) lines offset limit t .1),
+    )

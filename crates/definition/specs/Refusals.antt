@@ -13,7 +13,7 @@ use Rattle.definition.specs.Destination.{subOf, isProducer, auditOf}
 use Rattle.definition.specs.Calls.{Lengths, stateShort, short, sound, seqs, allRows, freeRows, rowsFor, snapshotRows, discarding, missing, Result, call}
 use Rattle.definition.specs.Words.{at, idOf, entryOf, specOf, openWords, decode, step}
 use Rattle.definition.specs.Queries.{Query, queryOk, query, counters, page}
-use Rattle.definition.specs.Layout.{Buffers, view, soundBuffers, lengthsOf, bufferStep}
+use Rattle.definition.specs.Layout.{Buffers, view, soundBuffers, lengthsOf, bufferStep, bufferCall, bufferQuery, bufferCounters, bufferPage}
 
 -- a place of checking: its number, and whether it refuses
 pub record Place : Type 0 where
@@ -62,13 +62,22 @@ places lent code ws t = table (short lent) (sound t) code ws t
 abbrev pub bufferPlaces : Buffers → ℕ → ℕ → List ℕ → List Place
 bufferPlaces b events code ws = table (short (lengthsOf b events)) (soundBuffers b) code ws (view b)
 
--- of add_discarded and expired_before_storing, which have no code and no arguments
-abbrev pub uncodedPlaces : Lengths → Dest → List Place
-uncodedPlaces lent t = 1 when short lent ∷ 2 when not (sound t) ∷ 9 when eqb (t .callsUsed) (t .callLimit) ∷ []
+-- the table for add_discarded and expired_before_storing, which have no code and no arguments
+abbrev pub uncodedTable : Bool → Bool → Dest → List Place
+uncodedTable isShort isSound t = 1 when isShort ∷ 2 when not isSound ∷ 9 when eqb (t .callsUsed) (t .callLimit) ∷ []
 
--- of the queries: whether a lent buffer is short, and whether the arguments are in their ranges
+abbrev pub uncodedPlaces : Lengths → Dest → List Place
+uncodedPlaces lent t = uncodedTable (short lent) (sound t) t
+
+abbrev pub bufferUncodedPlaces : Buffers → ℕ → List Place
+bufferUncodedPlaces b events = uncodedTable (short (lengthsOf b events)) (soundBuffers b) (view b)
+
+-- the table for the queries: whether a lent buffer is short, whether the state is sound, and whether the arguments are in their ranges
+abbrev pub queryTable : Bool → Bool → Bool → List Place
+queryTable isShort isSound inRange = 1 when isShort ∷ 2 when not isSound ∷ 3 when not inRange ∷ []
+
 abbrev pub queryPlaces : Bool → Bool → Dest → List Place
-queryPlaces isShort inRange t = 1 when isShort ∷ 2 when not (sound t) ∷ 3 when not inRange ∷ []
+queryPlaces isShort inRange t = queryTable isShort (sound t) inRange
 
 -- ---- exactly
 
@@ -122,3 +131,26 @@ abbrev pub PageRefuses : Type 0
 PageRefuses = (lent : Lengths) (lines offset limit : ℕ) (t : Dest) →
     let r = page lent lines offset limit t in
     Exact (r .refusal) (queryPlaces (stateShort lent || ltb lines 50) true t) × ((r .refusal ≡ 0 → ⊥) → (r .total ≡ 0) × (r .lines ≡ []))
+
+-- ---- and on buffers
+
+-- of the two calls that have no code
+abbrev pub BufferUncodedRefuses : Type 0
+BufferUncodedRefuses = (b : Buffers) (events : ℕ) →
+    Refuses (bufferCall b events discarding) (bufferUncodedPlaces b events) (view b) × Refuses (bufferCall b events missing) (bufferUncodedPlaces b events) (view b)
+
+-- of the queries
+abbrev pub BufferQueryRefuses : Type 0
+BufferQueryRefuses = (b : Buffers) (q : Query) →
+    let r = bufferQuery b q in
+    Exact (r .refusal) (queryTable (stateShort (lengthsOf b 0)) (soundBuffers b) (queryOk q)) × ((r .refusal ≡ 0 → ⊥) → r .answer ≡ 0)
+
+abbrev pub BufferCountersRefuse : Type 0
+BufferCountersRefuse = (b : Buffers) →
+    let r = bufferCounters b in
+    Exact (r .refusal) (queryTable (stateShort (lengthsOf b 0)) (soundBuffers b) true) × ((r .refusal ≡ 0 → ⊥) → r .stats ≡ zeroStats)
+
+abbrev pub BufferPageRefuses : Type 0
+BufferPageRefuses = (b : Buffers) (lines offset limit : ℕ) →
+    let r = bufferPage b lines offset limit in
+    Exact (r .refusal) (queryTable (stateShort (lengthsOf b 0) || ltb lines 50) (soundBuffers b) true) × ((r .refusal ≡ 0 → ⊥) → (r .total ≡ 0) × (r .lines ≡ []))

@@ -13,3 +13,4 @@ pub mod Handled
 pub mod Headed
 pub mod Ran
 pub mod Bare
+pub mod Batched

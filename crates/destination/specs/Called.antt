@@ -30,6 +30,7 @@ pub record Past (b b′ : Buffers) (events events′ : List Row) : Type 0 where
   pub events-length : length events′ ≡ length events
 
 -- refusal, answer, events and state are q's; a refused call changes nothing, and an accepted one leaves sound buffers
+-- open after an accepted call: the words inside the state that no count reaches, as in free rows; `view` does not look there, and no answer depends on them
 pub record Called (q : Result) (b b′ : Buffers) (events events′ : List Row) (r : Outcome) : Type 0 where
   pub refusal : r .refusal ≡ q .refusal
   pub answer : r .answer ≡ q .answer

@@ -17,6 +17,7 @@ ghost use Rattle.destination.specs.Opened.{openedHead, counted, finished
 
 mod arrivals;
 mod asking;
+mod batch;
 mod departures;
 mod exported;
 mod handling;
@@ -24,6 +25,8 @@ mod perform;
 mod requests;
 mod uncoded;
 
+pub use batch::Done;
+pub use batch::calls;
 use calls::Call;
 use consumers::SubRow;
 use entry::Row;
@@ -142,6 +145,26 @@ fn run(
     finish(head, a)
 }
 
+// A call on sound buffers: what follows the tests of the state.
+fn step(
+    head: &mut [u64],
+    subs: &mut [SubRow],
+    rows: &mut [Row],
+    events: &mut [Event],
+    c: Call,
+) -> Outcome
+    requires { ⌜ (short (lengthsOf (lent (now head) (now subs) (now rows)) (length (now events))) ≡ false) × (soundBuffers (lent (now head) (now subs) (now rows)) ≡ true) ⌝ }
+    ensures { λ r. ⌜ Called (bufferStep (lent (now (head .entry)) (now (subs .entry)) (now (rows .entry))) (length (now (events .entry))) (c .code) (c .words)) (lent (now (head .entry)) (now (subs .entry)) (now (rows .entry))) (lent (now (head .exit)) (now (subs .exit)) (now (rows .exit))) (now (events .entry)) (now (events .exit)) r ⌝ }
+{
+    if c.code == Call::OPEN {
+        return open(head, c);
+    }
+    if !c.in_range() {
+        return Outcome::refused(3);
+    }
+    run(head, subs, rows, events, c)
+}
+
 // A call of document 01, by its code and its eight words, on a lent state and a lent event list: its refusal (0: accepted), its answer,
 // and how many events it has written. A refused call changes nothing.
 pub fn call(
@@ -165,8 +188,5 @@ pub fn call(
     if !sound::sound(head, subs, rows) {
         return Outcome::refused(2);
     }
-    if !c.in_range() {
-        return Outcome::refused(3);
-    }
-    run(head, subs, rows, events, c)
+    step(head, subs, rows, events, c)
 }

@@ -6,13 +6,13 @@ use mathlib.Core.List.{List, [], _∷_, _++_}
 use Prim.Native.Nat.{ℕ, zero, suc, _+_, _%_, _≤_, _<_}
 use native.Mathlib.Numerals.{add-one}
 use native.Mathlib.Omega.{arith}
-use borrow.Author.Tests.{eqb-true, eq-eqb, ne-eqb}
-use lib.Dec.{eqb}
+use borrow.Author.Tests.{eqb-true, eq-eqb, ne-eqb, ltb-true, lt-ltb, le-ltb}
+use lib.Dec.{ltb, eqb}
 use lib.ListN.{length, take, drop, getD, set, take-append-drop}
 use lib.Seq.{slice, slice-empty, slice-cons, take-suc, take-take, getD-set-same}
 use Rattle.words.proofs.Tests.{by-test}
-use Rattle.definition.specs.Base.{all, member, distinct}
-use Rattle.definition.proofs.Tests.{and-left}
+use Rattle.definition.specs.Base.{all, member, distinct, rising}
+use Rattle.definition.proofs.Tests.{and-left, and-right}
 
 -- ---- tests
 
@@ -128,6 +128,34 @@ distinct-met xs i n h k e m = sym (distinct-take xs (i + 1) n (omega arith) (dis
 
 pub distinct-next : (xs : List ℕ) (i n : ℕ) → i < n → n ≤ length xs → distinct (take i xs) ≡ true → member (getD xs i 0) (take i xs) ≡ false → distinct (take (i + 1) xs) ≡ true
 distinct-next xs i n h k e m = distinct-turn xs i (omega arith) e ∙ ap not m
+
+-- ---- numbers that rise
+
+-- those above k do not meet what is not above it
+rising-new : (k x : ℕ) (l : List ℕ) → rising k l ≡ true → x ≤ k → member x l ≡ false
+rising-new k x [] e h = refl
+rising-new k x (y ∷ l) e h =
+    let t : k < y = ltb-true k y (and-left (ltb k y) (rising y l) e) in
+    rw (ne-eqb x y (λ q. omega (arith, q))) (rising-new y x l (and-right (ltb k y) (rising y l) e) (omega arith))
+
+pub rising-distinct : (k : ℕ) (l : List ℕ) → rising k l ≡ true → distinct l ≡ true
+rising-distinct k [] e = refl
+rising-distinct k (y ∷ l) e =
+    let r : rising y l ≡ true = and-right (ltb k y) (rising y l) e in
+    rw (rising-new y y l r (omega arith)) (rising-distinct y l r)
+
+module _ (xs : List ℕ) (i n k : ℕ) (h : n ≤ length xs) (total : Bool) (e : rising k (slice i n xs) ≡ total) where
+  rising-turn : i < n → (ltb k (getD xs i 0) && rising (getD xs i 0) (slice (i + 1) n xs)) ≡ total
+  rising-turn t = sym (ap (rising k) (slice-cons i n xs 0 t h ∙ ap (λ (j : ℕ). getD xs i 0 ∷ slice j n xs) (sym (add-one i)))) ∙ e
+
+  pub rising-stop : i < n → getD xs i 0 ≤ k → false ≡ total
+  rising-stop t q = rw (le-ltb k (getD xs i 0) q) at (rising-turn t)
+
+  pub rising-next : i < n → k < getD xs i 0 → rising (getD xs i 0) (slice (i + 1) n xs) ≡ total
+  rising-next t q = rw (lt-ltb k (getD xs i 0) q) at (rising-turn t)
+
+  pub rising-end : i ≡ n → true ≡ total
+  rising-end q = sym (ap (rising k) (ap (λ (j : ℕ). slice j n xs) q ∙ slice-empty n xs)) ∙ e
 
 -- ---- the table of remainders
 

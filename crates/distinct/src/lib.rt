@@ -2,10 +2,10 @@
 ghost use mathlib.Core.Path.{_≡_};
 ghost use Prim.Native.Nat.{_≤_};
 ghost use lib.ListN.{take};
-ghost use Rattle.definition.specs.Base.{member, distinct};
+ghost use Rattle.definition.specs.Base.{member, distinct, rising};
 
 // Up to so many numbers are compared pair by pair: clearing the table would cost more.
-const FEW: usize = 16;
+const FEW: usize = 8;
 
 // Whether x stands among the first n.
 fn met(xs: &[u64], n: usize, x: u64) -> bool
@@ -58,13 +58,34 @@ fn many_distinct(xs: &[u64], n: usize) -> bool
     true
 }
 
-// Whether the first n are all different; all of them, where there are fewer.
+// Whether each of the first n is above the one before, and the first above 0.
+fn rising(xs: &[u64], n: usize) -> bool
+    requires { do ⌜ n ≤ (← ⟦xs.len()⟧) ⌝ }
+    ensures { λ r. ⌜ r ≡ rising 0 (take n (now (xs .entry))) ⌝ }
+{
+    let mut last = 0;
+    let mut i = 0;
+    while i < n {
+        let x = xs[i];
+        if x <= last {
+            return false;
+        }
+        last = x;
+        i += 1;
+    }
+    true
+}
+
+// Whether the first n are all different; all of them, where there are fewer. Numbers that rise are.
 pub fn distinct(xs: &[u64], n: usize) -> bool
     ensures { λ r. ⌜ r ≡ distinct (take n (now (xs .entry))) ⌝ }
 {
     let len = xs.len();
     if len < n {
         return many_distinct(xs, len);
+    }
+    if rising(xs, n) {
+        return true;
     }
     if n <= FEW {
         return few_distinct(xs, n);

@@ -384,8 +384,8 @@ fn gather_taken(subs: &[SubRow], n: usize, rows: &[Row], out: &mut [u64], start:
     end
 }
 
-// A queue's waiting, reserved and taken entries.
-fn queue_apart(
+// A queue's waiting, reserved and taken entries, compared all together.
+fn together_apart(
     subs: &[SubRow],
     n: usize,
     rows: &[Row],
@@ -406,6 +406,54 @@ fn queue_apart(
     distinct::distinct(out, end)
 }
 
+// Whether the first n are all below x; no, where there are fewer.
+fn all_below(xs: &[u64], n: usize, x: u64) -> bool
+    ensures { λ r. ⌜ (r ≡ true → all (λ y. ltb y x) (take n (now (xs .entry))) ≡ true) ⌝ }
+{
+    if xs.len() < n {
+        return false;
+    }
+    let mut i = 0;
+    while i < n {
+        if x <= xs[i] {
+            return false;
+        }
+        i += 1;
+    }
+    true
+}
+
+// A queue's waiting, reserved and taken entries. Those that wait rise: where all others are below them, only the others are compared.
+fn queue_apart(
+    subs: &[SubRow],
+    n: usize,
+    rows: &[Row],
+    others: usize,
+    reserved: usize,
+    waiting: usize,
+    out: &mut [u64],
+) -> bool
+    requires { do ⌜ n ≤ (← ⟦subs.len()⟧) ⌝ }
+    requires { ⌜ others ≡ subRows (take n (now subs)) ⌝ }
+    requires { do ⌜ others + (reserved + waiting) ≤ (← ⟦rows.len()⟧) ⌝ }
+    requires { ⌜ others + (reserved + waiting) ≤ 512 ⌝ }
+    requires { do ⌜ others + reserved ≤ (← ⟦out.len()⟧) ⌝ }
+    requires { ⌜ sortedOk 0 (slice (others + reserved) (others + reserved + waiting) (now rows)) ≡ true ⌝ }
+    ensures { λ r. ⌜ r ≡ distinct (queueSeqs others reserved waiting (take n (now (subs .entry))) (now (rows .entry))) ⌝ }
+{
+    gather(rows, others, reserved, out, 0);
+    let end = gather_taken(subs, n, rows, out, reserved);
+    if waiting == 0 {
+        return distinct::distinct(out, end);
+    }
+    let first = rows[others + reserved];
+    if all_below(out, end, first[0]) {
+        return distinct::distinct(out, end);
+    }
+    let mut many = [0u64; 512];
+    together_apart(subs, n, rows, others, reserved, waiting, &mut many)
+}
+
 fn all_apart(
     subs: &[SubRow],
     n: usize,
@@ -419,7 +467,9 @@ fn all_apart(
     requires { do ⌜ n ≤ (← ⟦subs.len()⟧) ⌝ }
     requires { ⌜ others ≡ subRows (take n (now subs)) ⌝ }
     requires { do ⌜ others + (reserved + waiting) ≤ (← ⟦rows.len()⟧) ⌝ }
-    requires { do ⌜ others + (reserved + waiting) ≤ (← ⟦out.len()⟧) ⌝ }
+    requires { ⌜ others + (reserved + waiting) ≤ 512 ⌝ }
+    requires { do ⌜ others + reserved ≤ (← ⟦out.len()⟧) ⌝ }
+    requires { ⌜ sortedOk 0 (slice (others + reserved) (others + reserved + waiting) (now rows)) ≡ true ⌝ }
     ensures { λ r. ⌜ r ≡ (queueApart (kindBy «on_queue») others reserved waiting (take n (now (subs .entry))) (now (rows .entry)) && all (apartBy (kindBy «on_queue»)) (subsAt (kindBy «on_queue») (take n (now (subs .entry))) (now (rows .entry)))) ⌝ }
 {
     if on_queue {
@@ -445,10 +495,11 @@ fn apart(
     requires { ⌜ others ≡ subRows (take n (now subs)) ⌝ }
     requires { do ⌜ others + (reserved + waiting) ≤ (← ⟦rows.len()⟧) ⌝ }
     requires { ⌜ others + (reserved + waiting) ≤ 512 ⌝ }
+    requires { ⌜ sortedOk 0 (slice (others + reserved) (others + reserved + waiting) (now rows)) ≡ true ⌝ }
     ensures { λ r. ⌜ r ≡ (queueApart (kindBy «on_queue») others reserved waiting (take n (now (subs .entry))) (now (rows .entry)) && all (apartBy (kindBy «on_queue»)) (subsAt (kindBy «on_queue») (take n (now (subs .entry))) (now (rows .entry)))) ⌝ }
 {
-    if others + (reserved + waiting) <= 32 {
-        let mut few = [0u64; 32];
+    if others + reserved <= 64 {
+        let mut few = [0u64; 64];
         return all_apart(subs, n, rows, others, reserved, waiting, on_queue, &mut few);
     }
     let mut many = [0u64; 512];
@@ -488,9 +539,11 @@ fn tables_ok(
     let each = subs_ok(subs, n, rows, most, on_queue);
     let ids = ids_apart(subs, n);
     let kept = entries_ok(rows, others, first);
-    let sorted = sorted_ok(rows, first, first + waiting);
+    if !sorted_ok(rows, first, first + waiting) {
+        return false;
+    }
     let seqs = apart(subs, n, rows, others, reserved, waiting, on_queue);
-    place & (each & (ids & (kept & (sorted & (seqs & true)))))
+    place & (each & (ids & (kept & (seqs & true))))
 }
 
 // What follows the head's own numbers.

@@ -96,7 +96,7 @@ impl Head {
     pub fn count_enqueued(mut self) -> Head
         ensures { λ r. ⌜ r ≡ withStats (withEnqueued (self .stats)) self ⌝ }
     {
-        let s = self.stats.with_enqueued();
+        let s = stats::counted_enqueued(self.stats);
         self.stats = s;
         self
     }
@@ -104,7 +104,7 @@ impl Head {
     pub fn count_dequeued(mut self, k: u64) -> Head
         ensures { λ r. ⌜ r ≡ withStats (withDequeuedBy (self .stats) k) self ⌝ }
     {
-        let s = self.stats.with_dequeued_by(k);
+        let s = stats::counted_dequeued_by(self.stats, k);
         self.stats = s;
         self
     }
@@ -112,7 +112,7 @@ impl Head {
     pub fn count_expired(mut self, k: u64) -> Head
         ensures { λ r. ⌜ r ≡ withStats (withExpiredBy (self .stats) k) self ⌝ }
     {
-        let s = self.stats.with_expired_by(k);
+        let s = stats::counted_expired_by(self.stats, k);
         self.stats = s;
         self
     }
@@ -120,7 +120,7 @@ impl Head {
     pub fn count_discarded(mut self, k: u64) -> Head
         ensures { λ r. ⌜ r ≡ withStats (withDiscardedBy (self .stats) k) self ⌝ }
     {
-        let s = self.stats.with_discarded_by(k);
+        let s = stats::counted_discarded_by(self.stats, k);
         self.stats = s;
         self
     }
@@ -128,7 +128,7 @@ impl Head {
     pub fn count_dispatched(mut self) -> Head
         ensures { λ r. ⌜ r ≡ withStats (withDispatched (self .stats)) self ⌝ }
     {
-        let s = self.stats.with_dispatched();
+        let s = stats::counted_dispatched(self.stats);
         self.stats = s;
         self
     }

@@ -3,9 +3,9 @@
 use std::fmt::{self, Write};
 
 use super::engine::Opened;
-use super::host::{self, Id};
-use crate::broker::destination::probe::{self, SubView};
-use crate::broker::entry::Entry;
+use super::host::{EntryNumbers, Id};
+use super::whole::{SubNumbers, Whole};
+use crate::broker::destination::probe;
 
 /// How much of the audits is written.
 #[derive(Clone, Copy, PartialEq)]
@@ -22,68 +22,48 @@ pub fn line(opened: &Opened, audits: Audits) -> String {
     if let Err(what) = probe::check_derived(&opened.dest) {
         panic!("{what}");
     }
+    line_of(&Whole::of(opened), audits)
+}
+
+pub fn line_of(whole: &Whole, audits: Audits) -> String {
     let mut text = String::new();
-    write_state(&mut text, opened, audits).expect("writing to a text succeeds");
+    write_state(&mut text, whole, audits).expect("writing to a text succeeds");
     text.push('\n');
     text
 }
 
-fn write_state(out: &mut String, opened: &Opened, audits: Audits) -> fmt::Result {
-    let view = probe::view(&opened.dest);
-    let kind = if opened.dest.is_queue() { "queue" } else { "topic" };
-    let (used, limit) = (opened.calls_used, opened.call_limit);
-    assert_eq!(
-        view.idle.is_some(),
-        opened.idle_clock().is_some(),
-        "the idle mark is followed"
-    );
-    write!(
-        out,
-        "state calls={used}/{limit} idle={}",
-        or_dash(opened.idle_clock())
-    )?;
-    let s = view.stats;
-    write!(out, " {kind} limit={}", opened.topic_limit)?;
-    write!(
-        out,
-        " stats={},{},{},{},{}",
-        s.enqueued, s.dequeued, s.expired, s.discarded, s.dispatched
-    )?;
-    write!(out, " turn={} waiting={}", view.turn, entries(&view.waiting))?;
-    for sub in &view.subs {
+fn write_state(out: &mut String, whole: &Whole, audits: Audits) -> fmt::Result {
+    let kind = if whole.queue { "queue" } else { "topic" };
+    let (used, limit) = (whole.calls_used, whole.call_limit);
+    write!(out, "state calls={used}/{limit} idle={}", or_dash(whole.idle))?;
+    let s = whole.stats;
+    write!(out, " {kind} limit={}", whole.topic_limit)?;
+    write!(out, " stats={},{},{},{},{}", s[0], s[1], s[2], s[3], s[4])?;
+    write!(out, " turn={} waiting={}", whole.turn, entries(&whole.waiting))?;
+    for sub in &whole.subs {
         write_sub(out, sub)?;
     }
-    let mut reserved: Vec<(Id, &Vec<Entry>)> = view
-        .reserved
-        .iter()
-        .map(|(id, list)| (host::consumer_number(id), list))
-        .collect();
-    reserved.sort_by_key(|(id, _)| order(*id));
-    for (id, list) in reserved {
-        write!(out, " reserved({} {})", numbers(id), entries(list))?;
+    for (id, list) in &whole.reserved {
+        write!(out, " reserved({} {})", numbers(*id), entries(list))?;
     }
-    let mut producers: Vec<Id> = view.producers.iter().map(host::producer_number).collect();
-    producers.sort_by_key(|id| order(*id));
-    for id in producers {
-        write!(out, " producer({})", numbers(id))?;
+    for id in &whole.producers {
+        write!(out, " producer({})", numbers(*id))?;
     }
-    let mut seen: Vec<(Id, &Vec<i64>)> = view
-        .audits
-        .iter()
-        .map(|(id, list)| (host::producer_number(id), list))
-        .collect();
-    seen.sort_by_key(|(id, _)| order(*id));
-    for (id, list) in seen {
-        write_audit(out, id, list, audits)?;
+    for (id, list) in &whole.audits {
+        write_audit(out, *id, list, audits)?;
     }
     Ok(())
 }
 
-fn write_sub(out: &mut String, sub: &SubView) -> fmt::Result {
-    let id = numbers(host::consumer_number(&sub.id));
-    let selector = host::selector_number(sub.selector.as_deref());
-    let (no_local, browser) = (u8::from(sub.no_local), u8::from(sub.snapshot.is_some()));
-    write!(out, " sub({id} prefetch={} sel={selector}", sub.prefetch)?;
+fn write_sub(out: &mut String, sub: &SubNumbers) -> fmt::Result {
+    let (no_local, browser) = (u8::from(sub.no_local), u8::from(sub.browser));
+    write!(
+        out,
+        " sub({} prefetch={} sel={}",
+        numbers(sub.id),
+        sub.prefetch,
+        sub.selector
+    )?;
     write!(
         out,
         " nolocal={no_local} browser={browser} finished={}",
@@ -92,22 +72,21 @@ fn write_sub(out: &mut String, sub: &SubView) -> fmt::Result {
     write!(
         out,
         " freed={} next={} cursor={}",
-        sub.freed, sub.next_dseq, sub.cursor
+        sub.freed, sub.next, sub.cursor
     )?;
     write!(out, " pull={} gen={}", or_dash(sub.pull), sub.generation)?;
-    write!(out, " sent={} inflight=[", sub.dispatched)?;
+    write!(out, " sent={} inflight=[", sub.sent)?;
     for (k, i) in sub.inflight.iter().enumerate() {
         let space = if k == 0 { "" } else { " " };
         let freed = if i.freed { "f" } else { "" };
         let tx = if i.tx { "t" } else { "" };
         write!(out, "{space}{}{freed}{tx}={}", i.dseq, entry(&i.entry))?;
     }
-    let snapshot = sub.snapshot.as_deref().unwrap_or_default();
     write!(
         out,
         "] tpending={} snapshot={})",
         entries(&sub.tpending),
-        entries(snapshot)
+        entries(&sub.snapshot)
     )
 }
 
@@ -126,18 +105,12 @@ fn write_audit(out: &mut String, id: Id, list: &[i64], audits: Audits) -> fmt::R
     write!(out, ")")
 }
 
-/// Connections in the order of their numbers, sessions and values as signed.
-fn order(id: Id) -> (u64, i64, i64) {
-    (id[0], id[1] as i64, id[2] as i64)
-}
-
 fn numbers(id: Id) -> String {
     format!("{},{},{}", id[0], id[1] as i64, id[2] as i64)
 }
 
 /// sequence:expiration:persistent:connection:match word in hexadecimal:redelivery
-fn entry(e: &Entry) -> String {
-    let n = host::entry_numbers(e);
+fn entry(n: &EntryNumbers) -> String {
     let persistent = u8::from(n.persistent);
     format!(
         "{}:{}:{persistent}:{}:{:x}:{}",
@@ -145,7 +118,7 @@ fn entry(e: &Entry) -> String {
     )
 }
 
-fn entries(list: &[Entry]) -> String {
+fn entries(list: &[EntryNumbers]) -> String {
     let all: Vec<String> = list.iter().map(entry).collect();
     format!("[{}]", all.join(" "))
 }

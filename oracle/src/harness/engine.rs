@@ -11,8 +11,10 @@ use super::callfile::{ack_bit, code, join_flag, Call};
 use super::host::{self, AckNumbers, EntryNumbers, Id};
 use crate::broker::conn::{ConnHandle, Out};
 use crate::broker::destination::{probe, Dest, Effect, ProducerMeta, Stats, SubSpec};
-use crate::broker::entry::Memory;
-use crate::openwire::model::{Command, DestKind, Destination, MessageDispatch};
+use crate::broker::entry::{Entry, Memory};
+use crate::openwire::model::{
+    Command, ConsumerId, DestKind, Destination, Message, MessageAck, MessageDispatch, ProducerId,
+};
 use crate::selector::Selector;
 
 /// Refusal numbers of document 01. 1 is about lent buffers, which a call file has none of.
@@ -87,6 +89,13 @@ impl Reply {
             events: Vec::new(),
         }
     }
+}
+
+/// The changing calls without a code: `add_discarded`, `expired_before_storing`.
+#[derive(Clone, Copy, Debug)]
+pub enum Uncoded {
+    Discarded,
+    Expired,
 }
 
 /// An opened destination and what document 01 adds to it.
@@ -165,19 +174,38 @@ impl Engine {
             self.open(call);
             return Reply::refused(refusal::NONE);
         }
-        let (answer, effects) = self.perform(call);
+        let mut prepared = self.prepare(call);
+        let opened = self.opened.as_mut().expect("an accepted call has a destination");
+        let (answer, effects) = prepared.run(&opened.dest);
+        opened.calls_used += 1;
+        opened.follow_idle(call);
         let mut events: Vec<Event> = effects.into_iter().map(dead_letter).collect();
         while let Ok(out) = self.sends.try_recv() {
             events.push(sent(out));
         }
-        let opened = self.opened.as_mut().expect("an accepted call has a destination");
-        opened.calls_used += 1;
-        opened.follow_idle(call);
         Reply {
             refusal,
             answer,
             events,
         }
+    }
+
+    /// A changing call that has no code in the call file.
+    pub fn uncoded(&mut self, call: Uncoded) -> Reply {
+        let Some(opened) = &mut self.opened else {
+            return Reply::refused(refusal::NOT_SOUND);
+        };
+        if opened.calls_used == opened.call_limit {
+            return Reply::refused(refusal::CALL_LIMIT);
+        }
+        match call {
+            Uncoded::Discarded => opened.dest.add_discarded(),
+            Uncoded::Expired => opened
+                .dest
+                .expired_before_storing(&host::audited_message([0; 3], 0)),
+        }
+        opened.calls_used += 1;
+        Reply::refused(refusal::NONE)
     }
 
     fn open(&mut self, call: &Call) {
@@ -265,22 +293,14 @@ impl Engine {
 
     // -- the broker's own code ------------------------------------------------------
 
-    /// Runs an accepted call; returns its answer and its dead letters.
-    fn perform(&self, call: &Call) -> (u64, Vec<Effect>) {
-        let dest = &self
-            .opened
-            .as_ref()
-            .expect("an accepted call has a destination")
-            .dest;
+    /// The broker's arguments for an accepted call.
+    pub fn prepare(&self, call: &Call) -> Prepared {
         let a = &call.args;
         let now = |place: usize| a[place] as i64;
         let consumer = || host::consumer_id(id_of(call));
         let producer = || host::producer_id(id_of(call));
         match call.code {
-            code::ENQUEUE => {
-                let effects = dest.enqueue(host::entry(entry_of(call), &self.memory), now(6));
-                return (0, effects);
-            }
+            code::ENQUEUE => Prepared::Enqueue(Some(host::entry(entry_of(call), &self.memory)), now(6)),
             code::JOIN => {
                 let spec = SubSpec {
                     id: consumer(),
@@ -290,37 +310,77 @@ impl Engine {
                     no_local: a[5] & join_flag::NO_LOCAL != 0,
                     browser: a[5] & join_flag::BROWSER != 0,
                 };
-                dest.add_sub(spec, now(6));
+                Prepared::Join(Some(spec), now(6))
             }
-            code::LEAVE => {
-                let left = dest.remove_sub(&consumer(), a[3] as i64, now(4));
-                return (u64::from(left), Vec::new());
-            }
+            code::LEAVE => Prepared::Leave(consumer(), a[3] as i64, now(4)),
             code::ACK => {
                 let transacted = a[3] & ack_bit::TRANSACTED != 0;
-                let effects = dest.ack(&host::ack(ack_of(call)), transacted, now(6));
-                return (0, effects);
+                Prepared::Ack(Box::new(host::ack(ack_of(call))), transacted, now(6))
             }
-            code::PULL => {
-                let generation = dest.pull(&consumer(), a[3] as i64, now(4));
-                return (generation.unwrap_or(0), Vec::new());
-            }
-            code::TIMEOUT => dest.pull_timeout(&consumer(), a[3]),
-            code::PREFETCH => dest.set_prefetch(&consumer(), a[3] as i32, now(4)),
-            code::RELEASE => dest.release_reserved(&consumer(), now(3)),
-            code::SWEEP => {
-                let removed = dest.sweep_expired(now(0), a[1] as usize);
-                return (removed as u64, Vec::new());
-            }
-            code::CLEAR => return (dest.clear() as u64, Vec::new()),
-            code::ADD_PRODUCER => dest.add_producer(producer(), meta_of(a[0])),
-            code::REMOVE_PRODUCER => dest.remove_producer(&producer()),
-            code::DUPLICATE => {
-                let duplicate = dest.is_duplicate(&host::audited_message(id_of(call), a[3] as i64));
-                return (u64::from(duplicate), Vec::new());
-            }
-            code::RELEASE_AUDITS => dest.release_audits(&host::connection_text(a[0])),
+            code::PULL => Prepared::Pull(consumer(), a[3] as i64, now(4)),
+            code::TIMEOUT => Prepared::Timeout(consumer(), a[3]),
+            code::PREFETCH => Prepared::Prefetch(consumer(), a[3] as i32, now(4)),
+            code::RELEASE => Prepared::Release(consumer(), now(3)),
+            code::SWEEP => Prepared::Sweep(now(0), a[1] as usize),
+            code::CLEAR => Prepared::Clear,
+            code::ADD_PRODUCER => Prepared::AddProducer(Some((producer(), meta_of(a[0])))),
+            code::REMOVE_PRODUCER => Prepared::RemoveProducer(producer()),
+            code::DUPLICATE => Prepared::Duplicate(Box::new(host::audited_message(id_of(call), a[3] as i64))),
+            code::RELEASE_AUDITS => Prepared::ReleaseAudits(host::connection_text(a[0])),
             other => unreachable!("code {other} was accepted"),
+        }
+    }
+
+    /// Forgets what the broker has sent.
+    pub fn drop_sent(&mut self) {
+        while self.sends.try_recv().is_ok() {}
+    }
+}
+
+/// An accepted call with the broker's arguments. What the broker takes over is there once.
+pub enum Prepared {
+    Enqueue(Option<Entry>, i64),
+    Join(Option<SubSpec>, i64),
+    Leave(ConsumerId, i64, i64),
+    Ack(Box<MessageAck>, bool, i64),
+    Pull(ConsumerId, i64, i64),
+    Timeout(ConsumerId, u64),
+    Prefetch(ConsumerId, i32, i64),
+    Release(ConsumerId, i64),
+    Sweep(i64, usize),
+    Clear,
+    AddProducer(Option<(ProducerId, ProducerMeta)>),
+    RemoveProducer(ProducerId),
+    Duplicate(Box<Message>),
+    ReleaseAudits(Arc<str>),
+}
+
+impl Prepared {
+    /// The broker's own code; returns the answer and the dead letters.
+    pub fn run(&mut self, dest: &Dest) -> (u64, Vec<Effect>) {
+        const ONCE: &str = "a prepared call runs once";
+        match self {
+            Prepared::Enqueue(entry, now) => return (0, dest.enqueue(entry.take().expect(ONCE), *now)),
+            Prepared::Join(spec, now) => dest.add_sub(spec.take().expect(ONCE), *now),
+            Prepared::Leave(id, last, now) => {
+                return (u64::from(dest.remove_sub(id, *last, *now)), Vec::new());
+            }
+            Prepared::Ack(ack, transacted, now) => return (0, dest.ack(ack, *transacted, *now)),
+            Prepared::Pull(id, timeout, now) => {
+                return (dest.pull(id, *timeout, *now).unwrap_or(0), Vec::new());
+            }
+            Prepared::Timeout(id, generation) => dest.pull_timeout(id, *generation),
+            Prepared::Prefetch(id, prefetch, now) => dest.set_prefetch(id, *prefetch, *now),
+            Prepared::Release(id, now) => dest.release_reserved(id, *now),
+            Prepared::Sweep(now, most) => return (dest.sweep_expired(*now, *most) as u64, Vec::new()),
+            Prepared::Clear => return (dest.clear() as u64, Vec::new()),
+            Prepared::AddProducer(producer) => {
+                let (id, meta) = producer.take().expect(ONCE);
+                dest.add_producer(id, meta);
+            }
+            Prepared::RemoveProducer(id) => dest.remove_producer(id),
+            Prepared::Duplicate(message) => return (u64::from(dest.is_duplicate(message)), Vec::new()),
+            Prepared::ReleaseAudits(connection) => dest.release_audits(connection),
         }
         (0, Vec::new())
     }

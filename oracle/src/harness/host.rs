@@ -88,7 +88,7 @@ pub fn selector_number(text: Option<&str>) -> u64 {
 }
 
 /// What an entry of the call file is made of.
-#[derive(Clone, Copy, Default)]
+#[derive(Clone, Copy, Debug, Default, PartialEq)]
 pub struct EntryNumbers {
     pub sequence: u64,
     pub expiration: i64,

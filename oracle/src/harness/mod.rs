@@ -7,6 +7,14 @@ pub mod dump;
 pub mod engine;
 pub mod generate;
 pub mod host;
+#[cfg(feature = "library")]
+pub mod library;
 pub mod queries;
 pub mod random;
+#[cfg(feature = "library")]
+pub mod sides;
+#[cfg(feature = "library")]
+pub mod spoil;
 pub mod text;
+pub mod traffic;
+pub mod whole;

@@ -15,7 +15,7 @@ use Rattle.destination.specs.declared.Outcome.{Outcome}
 use Rattle.destination.specs.Called.{outcome, Called}
 use Rattle.destination.proofs.Refusing.{step-short, step-unsound}
 use Rattle.destination.proofs.Called.{refused-called}
-use Rattle.destination.proofs.Ran.{short-state, short-events, not-short, both-no, both-yes, undecoded-called, opened-or}
+use Rattle.destination.proofs.Ran.{short-state, short-events, not-short, both-no, both-yes, opened-or}
 use borrow.Author.Needs.{needs}
 use Rattle.destination.proofs.call.Statement.{statement}
 use Rattle.destination.proofs.call.Tie as tie
@@ -130,67 +130,28 @@ returns-4 c =
     subst⁻¹ (λ (o : Outcome). Called (bufferStep b (length (now (a .events))) (a .c .code) (a .c .words)) b b (now (a .events)) (now (a .events)) o) (c .refused3 .ensures)
     (refused-called 1 b (now (a .events)) _ (step-unsound b (length (now (a .events))) (a .c .code) (a .c .words) r (ne-eqb (a .c .code) 0 (c .before .before .before .before .before .before .if3 .left)) u))
 
--- src/lib.rt:164:9
-in-range-requires : tie.Need-in-range-requires
-in-range-requires c κs = search needs
+step-requires : tie.Need-step-requires
+step-requires c κs =
+    let a = c .before .before .before .before .before .before .before .before .before .before .before .before .before .before .before .before .before .before .args in
+    let b = (lent (now (a .head)) (now (a .subs)) (now (a .rows))) in
+    let w : stateShort (lengthsOf b 0) ≡ false = not-true _ (sym (c .before .before .before .before .before .before .before .before .before .before .before .before .before .whole .ensures) ∙ not-false _ (c .before .before .before .before .before .before .before .before .before .before .before .before .if1 .left)) in
+    let r : short (lengthsOf b (length (now (a .events)))) ≡ false = not-short (now (a .head)) (now (a .subs)) (now (a .rows)) (length (now (a .events))) w (omega (arith, c .before .before .before .before .before .before .before .before .before .before .before .if2 .left)) in
+    (r, both-yes (stateShort (lengthsOf b 0)) (soundBuffers b) w (sym (c .before .before .before .before .before .sound .ensures) ∙ not-false _ (c .before .before .before .before .if4 .left)))
 
--- src/lib.rt:165:9
-refused-requires-4 : tie.Need-refused-requires-4
-refused-requires-4 c κs = search needs
-
--- src/lib.rt:165:9
 same-length-13 : tie.Need-same-length-13
 same-length-13 c = search needs
 
--- src/lib.rt:165:9
 same-length-14 : tie.Need-same-length-14
 same-length-14 c = search needs
 
--- src/lib.rt:165:9
 same-length-15 : tie.Need-same-length-15
 same-length-15 c = search needs
 
--- src/lib.rt:165:9
-returns-5 : tie.Need-returns-5
-returns-5 c =
-    let a = c .before .before .before .before .before .before .before .before .before .before .before .before .before .before .before .before .before .args in
-    let b = (lent (now (a .head)) (now (a .subs)) (now (a .rows))) in
-    let w : stateShort (lengthsOf b 0) ≡ false = not-true _ (sym (c .before .before .before .before .before .before .before .before .before .before .before .before .whole .ensures) ∙ not-false _ (c .before .before .before .before .before .before .before .before .before .before .before .if1 .left)) in
-    let r : short (lengthsOf b (length (now (a .events)))) ≡ false = not-short (now (a .head)) (now (a .subs)) (now (a .rows)) (length (now (a .events))) w (omega (arith, c .before .before .before .before .before .before .before .before .before .before .if2 .left)) in
-    let u : soundBuffers b ≡ true = both-yes (stateShort (lengthsOf b 0)) (soundBuffers b) w (sym (c .before .before .before .before .sound .ensures) ∙ not-false _ (c .before .before .before .if4 .left)) in
-    subst⁻¹ (λ (o : Outcome). Called (bufferStep b (length (now (a .events))) (a .c .code) (a .c .words)) b b (now (a .events)) (now (a .events)) o) (c .refused4 .ensures)
-    (undecoded-called (now (a .head)) (now (a .subs)) (now (a .rows)) (now (a .events)) (a .c .code) (a .c .words) r (ne-eqb (a .c .code) 0 (c .before .before .before .before .before .before .before .before .if3 .left)) u (sym (c .before .before .in-range .ensures) ∙ not-true _ (c .before .if5 .taken)))
-
--- src/lib.rt:167:5
-run-requires : tie.Need-run-requires
-run-requires c κs =
-    let a = c .before .before .before .before .before .before .before .before .before .before .before .before .before .before .before .before .before .before .before .before .args in
-    let b = (lent (now (a .head)) (now (a .subs)) (now (a .rows))) in
-    let w : stateShort (lengthsOf b 0) ≡ false = not-true _ (sym (c .before .before .before .before .before .before .before .before .before .before .before .before .before .before .before .whole .ensures) ∙ not-false _ (c .before .before .before .before .before .before .before .before .before .before .before .before .before .before .if1 .left)) in
-    let r : short (lengthsOf b (length (now (a .events)))) ≡ false = not-short (now (a .head)) (now (a .subs)) (now (a .rows)) (length (now (a .events))) w (omega (arith, c .before .before .before .before .before .before .before .before .before .before .before .before .before .if2 .left)) in
-    let u : soundBuffers b ≡ true = both-yes (stateShort (lengthsOf b 0)) (soundBuffers b) w (sym (c .before .before .before .before .before .before .before .sound .ensures) ∙ not-false _ (c .before .before .before .before .before .before .if4 .left)) in
-    (r, u, omega (arith, c .before .before .before .before .before .before .before .before .before .before .before .if3 .left), sym (c .before .before .before .before .before .in-range .ensures) ∙ not-false _ (c .before .before .before .before .if5 .left))
-
--- src/lib.rt:143:1
 same-length-16 : tie.Need-same-length-16
 same-length-16 c = search needs
 
--- src/lib.rt:143:1
-same-length-17 : tie.Need-same-length-17
-same-length-17 c = search needs
-
--- src/lib.rt:143:1
-same-length-18 : tie.Need-same-length-18
-same-length-18 c = search needs
-
--- src/lib.rt:143:1
-same-length-19 : tie.Need-same-length-19
-same-length-19 c = search needs
-
--- src/lib.rt:143:1
-returns-6 : tie.Need-returns-6
-returns-6 c =
-    c .before .before .before .before .before .run .ensures
+returns-5 : tie.Need-returns-5
+returns-5 c = c .before .before .before .before .before .step .ensures
 
 pub call-spec : {M : Type 1} → statement M
 call-spec =
@@ -218,15 +179,9 @@ call-spec =
     same-length-11
     same-length-12
     returns-4
-    in-range-requires
-    refused-requires-4
+    step-requires
     same-length-13
     same-length-14
     same-length-15
-    returns-5
-    run-requires
     same-length-16
-    same-length-17
-    same-length-18
-    same-length-19
-    returns-6)
+    returns-5)

@@ -1,6 +1,9 @@
 -- `sound::tables_ok` meets its contract. Assumes nothing.
+use mathlib.Core.Path.{sym, _∙_}
+use mathlib.Core.Bool.{true}
+use borrow.Author.Tests.{not-true, not-false}
 use lib.ListN.{take}
-use Rattle.sound.proofs.Tables.{table-tests}
+use Rattle.sound.proofs.Tables.{table-tests, table-unsorted}
 use borrow.Author.Needs.{needs}
 use Rattle.sound.proofs.tables_ok.Statement.{statement}
 use Rattle.sound.proofs.tables_ok.Tie as tie
@@ -26,9 +29,6 @@ add-sorted-ok c = search needs
 sorted-ok-requires : tie.Need-sorted-ok-requires
 sorted-ok-requires c κs = search needs
 
-apart-requires : tie.Need-apart-requires
-apart-requires c κs = search needs
-
 returns : tie.Need-returns
 returns c =
     let s = c .before .before .before .before .before in
@@ -37,8 +37,24 @@ returns c =
     let ids = c .before .before .before .ids-apart in
     let held = c .before .before .entries-ok in
     let sorted = c .before .sorted-ok in
+    table-unsorted (a .on-queue) (a .most) (a .others) (a .reserved) (a .waiting) (take (a .n) (a .subs .now)) (a .rows .now) (s .pre .1 .1 .0)
+    (each .result) (ids .result) (held .result) (each .ensures) (ids .ensures) (held .ensures .0) (held .ensures .1) (sym (not-true (sorted .result) (c .if1 .taken)) ∙ sorted .ensures)
+
+apart-requires : tie.Need-apart-requires
+apart-requires c κs =
+    let sorted = c .before .sorted-ok in
+    (search needs, (search needs, (search needs, (search needs, sym (sorted .ensures) ∙ not-false (sorted .result) (c .if1 .left)))))
+
+returns-2 : tie.Need-returns-2
+returns-2 c =
+    let s = c .before .before .before .before .before .before in
+    let a = s .args in
+    let each = c .before .before .before .before .before .subs-ok in
+    let ids = c .before .before .before .before .ids-apart in
+    let held = c .before .before .before .entries-ok in
+    let sorted = c .before .before .sorted-ok in
     table-tests (a .on-queue) (a .most) (a .others) (a .reserved) (a .waiting) (take (a .n) (a .subs .now)) (a .rows .now) (s .pre .1 .1 .0)
-    (each .result) (ids .result) (held .result) (sorted .result) (c .apart .result) (each .ensures) (ids .ensures) (held .ensures .0) (held .ensures .1) (sorted .ensures) (c .apart .ensures)
+    (each .result) (ids .result) (held .result) true (c .apart .result) (each .ensures) (ids .ensures) (held .ensures .0) (held .ensures .1) (sym (not-false (sorted .result) (c .before .if1 .left)) ∙ sorted .ensures) (c .apart .ensures)
 
 pub tables-ok-spec : {M : Type 1} → statement M
 tables-ok-spec =
@@ -51,5 +67,6 @@ tables-ok-spec =
     entries-ok-requires
     add-sorted-ok
     sorted-ok-requires
+    returns
     apart-requires
-    returns)
+    returns-2)

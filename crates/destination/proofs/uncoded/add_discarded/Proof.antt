@@ -6,68 +6,54 @@ use borrow.Author.Needs.{needs}
 use Rattle.destination.proofs.uncoded.add_discarded.Statement.{statement}
 use Rattle.destination.proofs.uncoded.add_discarded.Tie as tie
 
--- src/uncoded.rt:44:9
 refusal-requires : tie.Need-refusal-requires
 refusal-requires c κs = search needs
 
--- src/uncoded.rt:46:9
 refused-requires : tie.Need-refused-requires
 refused-requires c κs = search needs
 
--- src/uncoded.rt:46:9
 same-length : tie.Need-same-length
 same-length c = search needs
 
--- src/uncoded.rt:46:9
 same-length-2 : tie.Need-same-length-2
 same-length-2 c = search needs
 
--- src/uncoded.rt:46:9
 same-length-3 : tie.Need-same-length-3
 same-length-3 c = search needs
 
 same-length-4 : tie.Need-same-length-4
 same-length-4 c = search needs
 
--- src/uncoded.rt:46:9
 returns : tie.Need-returns
 returns c =
     let a = c .before .before .before .before .before .before .before .before .args in
     let k = c .before .before .refusal in
     discarded-refused (now (a .head)) (now (a .subs)) (now (a .rows)) (now (a .events)) (k .result) (k .ensures) (c .before .if1 .taken) (c .refused .result) (c .refused .ensures)
 
--- src/uncoded.rt:48:9
 load-requires : tie.Need-load-requires
 load-requires c κs = search needs
 
--- src/uncoded.rt:49:29
 count-discarded-requires : tie.Need-count-discarded-requires
 count-discarded-requires c κs = search needs
 
--- src/uncoded.rt:49:9
 done-requires : tie.Need-done-requires
 done-requires c κs = search needs
 
--- src/uncoded.rt:50:5
 finish-requires : tie.Need-finish-requires
 finish-requires c κs = search needs
 
--- src/uncoded.rt:36:1
 same-length-5 : tie.Need-same-length-5
 same-length-5 c = search needs
 
--- src/uncoded.rt:36:1
 same-length-6 : tie.Need-same-length-6
 same-length-6 c = search needs
 
--- src/uncoded.rt:36:1
 same-length-7 : tie.Need-same-length-7
 same-length-7 c = search needs
 
 same-length-8 : tie.Need-same-length-8
 same-length-8 c = search needs
 
--- src/uncoded.rt:36:1
 returns-2 : tie.Need-returns-2
 returns-2 c =
     let a = c .before .before .before .before .before .before .before .before .before .before .before .before .before .before .before .before .args in

@@ -14,28 +14,23 @@ use borrow.Author.Needs.{needs}
 use Rattle.destination.proofs.uncoded.refusal.Statement.{statement}
 use Rattle.destination.proofs.uncoded.refusal.Tie as tie
 
--- src/uncoded.rt:19:9
 whole-requires : tie.Need-whole-requires
 whole-requires c κs = search needs
 
--- src/uncoded.rt:20:9
 returns : tie.Need-returns
 returns c =
     let a = c .before .before .before .args in
     let w : stateShort (lengthsOf (lent (now (a .head)) (now (a .subs)) (now (a .rows))) 0) ≡ true = not-false _ (sym (c .before .whole .ensures) ∙ not-true _ (c .if1 .taken)) in
     sym (bare-short (lent (now (a .head)) (now (a .subs)) (now (a .rows))) (length (now (a .events))) (short-state (now (a .head)) (now (a .subs)) (now (a .rows)) (length (now (a .events))) w))
 
--- src/uncoded.rt:23:9
 returns-2 : tie.Need-returns-2
 returns-2 c =
     let a = c .before .before .before .before .args in
     sym (bare-short (lent (now (a .head)) (now (a .subs)) (now (a .rows))) (length (now (a .events))) (short-events (now (a .head)) (now (a .subs)) (now (a .rows)) (length (now (a .events))) (c .if2 .taken)))
 
--- src/uncoded.rt:25:9
 sound-requires : tie.Need-sound-requires
 sound-requires c κs = search needs
 
--- src/uncoded.rt:26:9
 returns-3 : tie.Need-returns-3
 returns-3 c =
     let a = c .before .before .before .before .before .before .args in
@@ -45,11 +40,9 @@ returns-3 c =
     let u : soundBuffers b ≡ false = both-no (stateShort (lengthsOf b 0)) (soundBuffers b) w (sym (c .before .sound .ensures) ∙ not-true _ (c .if3 .taken)) in
     sym (bare-unsound b (length (now (a .events))) r u)
 
--- src/uncoded.rt:28:9
 load-requires : tie.Need-load-requires
 load-requires c κs = search needs
 
--- src/uncoded.rt:30:9
 returns-4 : tie.Need-returns-4
 returns-4 c =
     let a = c .before .before .before .before .before .before .before .before .before .args in
@@ -59,7 +52,6 @@ returns-4 c =
     let u : soundBuffers b ≡ true = both-yes (stateShort (lengthsOf b 0)) (soundBuffers b) w (sym (c .before .before .before .before .sound .ensures) ∙ not-false _ (c .before .before .before .if3 .left)) in
     spent-refusal (now (a .head)) (now (a .subs)) (now (a .rows)) (now (a .events)) r u (c .before .before .load .result) (c .before .before .load .ensures) (c .if4 .taken)
 
--- src/uncoded.rt:16:1
 returns-5 : tie.Need-returns-5
 returns-5 c =
     let a = c .before .before .before .before .before .before .before .before .before .args in

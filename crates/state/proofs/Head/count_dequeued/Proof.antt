@@ -6,11 +6,11 @@ use Rattle.state.specs.State.{withStats}
 use Rattle.state.proofs.Head.count_dequeued.Statement.{statement}
 use Rattle.state.proofs.Head.count_dequeued.Tie as tie
 
-with-dequeued-by-requires : tie.Need-with-dequeued-by-requires
-with-dequeued-by-requires c κs = search needs
+counted-dequeued-by-requires : tie.Need-counted-dequeued-by-requires
+counted-dequeued-by-requires c κs = search needs
 
 returns : tie.Need-returns
-returns c = ap (λ (s : Stats). withStats s (c .before .args .self)) (c .with-dequeued-by .ensures)
+returns c = ap (λ (s : Stats). withStats s (c .before .args .self)) (c .counted-dequeued-by .ensures)
 
 pub count-dequeued-spec : {M : Type 1} → statement M
-count-dequeued-spec = tie.close (tie.spec with-dequeued-by-requires returns)
+count-dequeued-spec = tie.close (tie.spec counted-dequeued-by-requires returns)

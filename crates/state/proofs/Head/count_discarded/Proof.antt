@@ -6,11 +6,11 @@ use Rattle.state.specs.State.{withStats}
 use Rattle.state.proofs.Head.count_discarded.Statement.{statement}
 use Rattle.state.proofs.Head.count_discarded.Tie as tie
 
-with-discarded-by-requires : tie.Need-with-discarded-by-requires
-with-discarded-by-requires c κs = search needs
+counted-discarded-by-requires : tie.Need-counted-discarded-by-requires
+counted-discarded-by-requires c κs = search needs
 
 returns : tie.Need-returns
-returns c = ap (λ (s : Stats). withStats s (c .before .args .self)) (c .with-discarded-by .ensures)
+returns c = ap (λ (s : Stats). withStats s (c .before .args .self)) (c .counted-discarded-by .ensures)
 
 pub count-discarded-spec : {M : Type 1} → statement M
-count-discarded-spec = tie.close (tie.spec with-discarded-by-requires returns)
+count-discarded-spec = tie.close (tie.spec counted-discarded-by-requires returns)

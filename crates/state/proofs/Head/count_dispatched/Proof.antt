@@ -6,11 +6,11 @@ use Rattle.state.specs.State.{withStats}
 use Rattle.state.proofs.Head.count_dispatched.Statement.{statement}
 use Rattle.state.proofs.Head.count_dispatched.Tie as tie
 
-with-dispatched-requires : tie.Need-with-dispatched-requires
-with-dispatched-requires c κs = search needs
+counted-dispatched-requires : tie.Need-counted-dispatched-requires
+counted-dispatched-requires c κs = search needs
 
 returns : tie.Need-returns
-returns c = ap (λ (s : Stats). withStats s (c .before .args .self)) (c .with-dispatched .ensures)
+returns c = ap (λ (s : Stats). withStats s (c .before .args .self)) (c .counted-dispatched .ensures)
 
 pub count-dispatched-spec : {M : Type 1} → statement M
-count-dispatched-spec = tie.close (tie.spec with-dispatched-requires returns)
+count-dispatched-spec = tie.close (tie.spec counted-dispatched-requires returns)

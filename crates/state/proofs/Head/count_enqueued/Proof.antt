@@ -6,11 +6,11 @@ use Rattle.state.specs.State.{withStats}
 use Rattle.state.proofs.Head.count_enqueued.Statement.{statement}
 use Rattle.state.proofs.Head.count_enqueued.Tie as tie
 
-with-enqueued-requires : tie.Need-with-enqueued-requires
-with-enqueued-requires c κs = search needs
+counted-enqueued-requires : tie.Need-counted-enqueued-requires
+counted-enqueued-requires c κs = search needs
 
 returns : tie.Need-returns
-returns c = ap (λ (s : Stats). withStats s (c .before .args .self)) (c .with-enqueued .ensures)
+returns c = ap (λ (s : Stats). withStats s (c .before .args .self)) (c .counted-enqueued .ensures)
 
 pub count-enqueued-spec : {M : Type 1} → statement M
-count-enqueued-spec = tie.close (tie.spec with-enqueued-requires returns)
+count-enqueued-spec = tie.close (tie.spec counted-enqueued-requires returns)

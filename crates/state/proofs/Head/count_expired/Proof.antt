@@ -6,11 +6,11 @@ use Rattle.state.specs.State.{withStats}
 use Rattle.state.proofs.Head.count_expired.Statement.{statement}
 use Rattle.state.proofs.Head.count_expired.Tie as tie
 
-with-expired-by-requires : tie.Need-with-expired-by-requires
-with-expired-by-requires c κs = search needs
+counted-expired-by-requires : tie.Need-counted-expired-by-requires
+counted-expired-by-requires c κs = search needs
 
 returns : tie.Need-returns
-returns c = ap (λ (s : Stats). withStats s (c .before .args .self)) (c .with-expired-by .ensures)
+returns c = ap (λ (s : Stats). withStats s (c .before .args .self)) (c .counted-expired-by .ensures)
 
 pub count-expired-spec : {M : Type 1} → statement M
-count-expired-spec = tie.close (tie.spec with-expired-by-requires returns)
+count-expired-spec = tie.close (tie.spec counted-expired-by-requires returns)

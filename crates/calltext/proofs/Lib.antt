@@ -1,0 +1,5 @@
+pub mod Tables
+pub mod Gathering
+pub mod Showing
+pub mod Decimals
+pub mod RoundTrip

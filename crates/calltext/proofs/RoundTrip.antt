@@ -1,0 +1,238 @@
+-- A call that is written as a line of text is read back: the same code and the same words. Assumes nothing.
+use Prim.Native.Nat.{ℕ, zero, suc, _+_, _≤_, _<_, _^_}
+use native.Mathlib.Nat.{add-zero, zero-add, add-suc, suc-add}
+use native.Mathlib.Numerals.{add-one}
+use native.Mathlib.Omega.{arith}
+use mathlib.Core.Path.{_≡_, refl, ap, sym, _∙_}
+use mathlib.Core.Bool.{true, false, _&&_, and-eq-true-iff}
+use mathlib.Core.List.{List, [], _∷_, _++_, append-nil, append-assoc}
+use borrow.Author.Tests.{leb-true, ltb-true, ltb-false, eqb-true}
+use lib.Dec.{leb, ltb, eqb}
+use lib.ListN.{length, getD, take, set, replicate, getD-replicate, length-replicate, length-set}
+use lib.Seq.{sets, take-suc, length-take-le, getD-take, getD-set-other, ext-getD}
+use Rattle.words.specs.Pick.{if_then_else_}
+use Rattle.words.proofs.Tests.{by-test}
+use Rattle.calls.specs.declared.Call.{Call}
+use Rattle.calls.specs.Calls.{newCall, Words}
+use Rattle.callfile.specs.Lines.{decimal, field, wordField, newline}
+use Rattle.callfile.proofs.Sets.{sets-before, sets-after, sets-in}
+use Rattle.textwords.specs.declared.Stop.the-variants.{LineEnd}
+use Rattle.textwords.specs.Text.{run, wordsOf, sameText}
+use Rattle.textwords.proofs.Spaced.{solid, Solid, Solids, spaced, spaced-append, words-spaced, plain-spaced, line-ends}
+use Rattle.calltext.specs.Names.{names, nameAt, placeIn, placeOf, placeFor, kindAt, minusAt}
+use Rattle.calltext.specs.Lines.{parsed, callOf, gather, named, callIn, lineCall}
+use Rattle.calltext.specs.Shown.{shown, fields, shownFields, codeField, callText}
+use Rattle.calltext.proofs.Tables.{values, value, value-from}
+use Rattle.calltext.proofs.Gathering.{gathered, one-number, by-code, by-raw, one-call}
+use Rattle.calltext.proofs.Showing.{place-known, place-raw, code-known, code-raw}
+use Rattle.calltext.proofs.Decimals.{wordText, field-text, text-read}
+
+abbrev Fit : List ℕ → Type 0
+Fit ws = (k : ℕ) → getD ws k 0 < 2 ^ 64
+
+-- ---- the words of the line
+
+textsOf : ℕ → ℕ → List ℕ → List (List ℕ)
+textsOf place k [] = []
+textsOf place k (w ∷ ws) = wordText (minusAt place k) w ∷ textsOf place (suc k) ws
+
+texts-append : (place k : ℕ) (a b : List ℕ) → textsOf place k (a ++ b) ≡ textsOf place k a ++ textsOf place (k + length a) b
+unfolding textsOf
+texts-append place k [] b = ap (λ (n : ℕ). textsOf place n b) (sym (add-zero k))
+texts-append place k (w ∷ a) b =
+    let e : suc k + length a ≡ k + suc (length a) = suc-add k (length a) ∙ sym (add-suc k (length a)) in
+    ap (λ (l : List (List ℕ)). wordText (minusAt place k) w ∷ l) (texts-append place (suc k) a b ∙ ap (λ (n : ℕ). textsOf place (suc k) a ++ textsOf place n b) e)
+
+one-text : (place k w : ℕ) → spaced (textsOf place k (w ∷ [])) ≡ wordField (minusAt place k) w
+unfolding spaced textsOf
+one-text place k w = ap (λ (l : List ℕ). 32 ∷ l) (append-nil (wordText (minusAt place k) w)) ∙ sym (field-text (minusAt place k) w)
+
+fields-texts : (place : ℕ) (ws : List ℕ) (n : ℕ) → n ≤ length ws → fields place ws n ≡ spaced (textsOf place 0 (take n ws))
+unfolding fields spaced textsOf
+fields-texts place ws zero h = refl
+fields-texts place ws (suc n) h =
+    let x = getD ws n 0 in
+    let e : 0 + length (take n ws) ≡ n = zero-add (length (take n ws)) ∙ length-take-le n ws (omega arith) in
+    let t : textsOf place 0 (take (suc n) ws) ≡ textsOf place 0 (take n ws) ++ textsOf place n (x ∷ []) = ap (textsOf place 0) (take-suc ws n 0 (omega arith)) ∙ texts-append place 0 (take n ws) (x ∷ []) ∙ ap (λ (k : ℕ). textsOf place 0 (take n ws) ++ textsOf place k (x ∷ [])) e in
+    let before : spaced (textsOf place 0 (take n ws)) ≡ fields place ws n = sym (fields-texts place ws n (omega arith)) in
+    sym (ap spaced t ∙ spaced-append (textsOf place 0 (take n ws)) (textsOf place n (x ∷ [])) ∙ (λ i. before i ++ one-text place n x i))
+
+solids : (place k : ℕ) (ws : List ℕ) → Fit ws → Solids (textsOf place k ws)
+unfolding textsOf
+solids place k [] f = tt
+solids place k (w ∷ ws) f = (text-read (minusAt place k) w (f 0) .word, solids place (suc k) ws (λ j. f (suc j)))
+
+-- their numbers go to the places from m on
+gather-texts : (place k : ℕ) (ws : List ℕ) (m : ℕ) (nine : List ℕ) → m + length ws ≤ 9 → Fit ws → gather m nine (textsOf place k ws) ≡ parsed 0 (callOf (sets nine m ws))
+unfolding textsOf
+gather-texts place k [] m nine h f = gathered m nine
+gather-texts place k (w ∷ ws) m nine h f =
+    let s = gather-texts place (suc k) ws (suc m) (set nine m w) (omega arith) (λ j. f (suc j)) in
+    one-number m nine (wordText (minusAt place k) w) (textsOf place (suc k) ws) (λ e. omega arith) w (text-read (minusAt place k) w (f 0) .number) ∙ rw (add-one m) s
+
+-- ---- the words that are not written are 0
+
+shown-within : (place : ℕ) (ws : List ℕ) (n : ℕ) → shown place ws n ≤ n
+unfolding shown
+shown-within place ws zero = omega arith
+shown-within place ws (suc n) = by-test (eqb (kindAt place n) 0 && eqb (getD ws n 0) 0)
+    (λ t. rw t (omega (arith, shown-within place ws n)))
+    (λ t. rw t (omega arith))
+
+shown-rest : (place : ℕ) (ws : List ℕ) (n j : ℕ) → shown place ws n ≤ j → j < n → getD ws j 0 ≡ 0
+unfolding shown
+shown-rest place ws zero j h k = absurd (omega arith)
+shown-rest place ws (suc n) j h k = by-test (eqb (kindAt place n) 0 && eqb (getD ws n 0) 0)
+    (λ t.
+    let z : getD ws n 0 ≡ 0 = eqb-true (getD ws n 0) 0 (and-eq-true-iff (eqb (kindAt place n) 0) (eqb (getD ws n 0) 0) .0 t .1) in
+    let g : shown place ws n ≤ j = rw t at h in
+    by-test (ltb j n)
+    (λ u. shown-rest place ws n j g (ltb-true j n u))
+    (λ u. let e : j ≡ n = omega (arith, ltb-false j n u) in ap (λ (i : ℕ). getD ws i 0) e ∙ z))
+    (λ t. let g : suc n ≤ j = rw t at h in absurd (omega arith))
+
+-- ---- nine numbers
+
+values-length : (f : ℕ → ℕ) (n i : ℕ) → length (values f i n) ≡ n
+unfolding values
+values-length f zero i = refl
+values-length f (suc n) i = ap suc (values-length f n (suc i))
+
+all-values : (ws : List ℕ) → ws ≡ values (λ (k : ℕ). getD ws k 0) 0 (length ws)
+all-values ws = ext-getD 0 ws (values (λ (k : ℕ). getD ws k 0) 0 (length ws)) (sym (values-length (λ (k : ℕ). getD ws k 0) (length ws) 0)) (λ i h. sym (value-from (λ (k : ℕ). getD ws k 0) 0 (length ws) 0 i h ∙ ap (λ (k : ℕ). getD ws k 0) (zero-add i)))
+
+module _ (code n : ℕ) (ws : List ℕ) (eight : length ws ≡ 8) (low : n ≤ 8) (rest : (j : ℕ) → n ≤ j → j < 8 → getD ws j 0 ≡ 0) where
+  nine : List ℕ
+  nine = set (replicate 9 0) 0 code
+
+  nine-length : length nine ≡ 9
+  unfolding nine
+  nine-length = length-set (replicate 9 0) 0 code ∙ length-replicate {A = ℕ} 9 0
+
+  zero-at : (k : ℕ) → k < 8 → getD nine (1 + k) 0 ≡ 0
+  unfolding nine
+  zero-at k h = getD-set-other (replicate 9 0) 0 (1 + k) code 0 (λ e. omega arith) ∙ getD-replicate 9 (1 + k) 0 0 (omega arith)
+
+  word-at : (k : ℕ) → k < 8 → getD (sets nine 1 (take n ws)) (1 + k) 0 ≡ getD ws k 0
+  word-at k h =
+      let e : length (take n ws) ≡ n = length-take-le n ws (omega arith) in
+      by-test (ltb k n)
+      (λ t. sets-in (take n ws) nine 1 k (omega (arith, nine-length)) (omega (arith, ltb-true k n t)) ∙ getD-take n ws k 0 (ltb-true k n t))
+      (λ t. sets-after (take n ws) nine 1 (1 + k) (omega (arith, ltb-false k n t)) ∙ zero-at k h ∙ sym (rest k (ltb-false k n t) h))
+
+  code-at : getD (sets nine 1 (take n ws)) 0 0 ≡ code
+  unfolding nine
+  code-at = sets-before (take n ws) nine 1 0 (omega arith)
+
+  eight-words : ws ≡ getD ws 0 0 ∷ getD ws 1 0 ∷ getD ws 2 0 ∷ getD ws 3 0 ∷ getD ws 4 0 ∷ getD ws 5 0 ∷ getD ws 6 0 ∷ getD ws 7 0 ∷ []
+  unfolding values
+  eight-words = all-values ws ∙ ap (values (λ (k : ℕ). getD ws k 0) 0) eight
+
+  nine-call : callOf (sets nine 1 (take n ws)) ≡ newCall code ws
+  nine-call =
+      let l : getD (sets nine 1 (take n ws)) 1 0 ∷ getD (sets nine 1 (take n ws)) 2 0 ∷ getD (sets nine 1 (take n ws)) 3 0 ∷ getD (sets nine 1 (take n ws)) 4 0 ∷ getD (sets nine 1 (take n ws)) 5 0 ∷ getD (sets nine 1 (take n ws)) 6 0 ∷ getD (sets nine 1 (take n ws)) 7 0 ∷ getD (sets nine 1 (take n ws)) 8 0 ∷ [] ≡ ws =
+      (λ i. word-at 0 (omega arith) i ∷ word-at 1 (omega arith) i ∷ word-at 2 (omega arith) i ∷ word-at 3 (omega arith) i ∷ word-at 4 (omega arith) i ∷ word-at 5 (omega arith) i ∷ word-at 6 (omega arith) i ∷ word-at 7 (omega arith) i ∷ []) ∙ sym eight-words in
+      λ i. newCall (code-at i) (l i)
+
+-- ---- names
+
+name-place : (k : ℕ) → k < 16 → placeOf (nameAt k) ≡ k
+unfolding names placeOf placeIn values sameText
+name-place k h =
+    sym (value (λ (j : ℕ). placeOf (nameAt j)) 0 16 k (values (λ (j : ℕ). j) 0 16) refl h) ∙ value (λ (j : ℕ). j) 0 16 k (values (λ (j : ℕ). j) 0 16) refl h
+
+name-solid : (k : ℕ) → k < 16 → Solid (nameAt k)
+unfolding names values solid
+name-solid k h = (
+  leb-true 1 (length (nameAt k)) (sym (value (λ (j : ℕ). leb 1 (length (nameAt j))) false 16 k (replicate 16 true) refl h) ∙ getD-replicate 16 k true false h),
+  sym (value (λ (j : ℕ). solid (nameAt j)) false 16 k (replicate 16 true) refl h) ∙ getD-replicate 16 k true false h,
+)
+
+-- ---- the line
+
+-- a call's text without the end of the line
+unfoldable pub lineText : Call → List ℕ
+lineText c = nameAt (placeFor (c .code)) ++ (codeField (c .code) ++ shownFields (placeFor (c .code)) (c .words))
+
+pub text-ends : (c : Call) → callText c ≡ lineText c ++ newline
+unfolding callText lineText
+text-ends c = simp append-assoc
+
+read-line : (place : ℕ) (ws : List (List ℕ)) → place < 16 → Solids ws → lineCall (nameAt place ++ spaced ws) ≡ named place ws
+unfolding lineCall
+read-line place ws h s =
+    let n = name-solid place h in
+    ap (λ (t : List ℕ). callIn (wordsOf t)) (plain-spaced (nameAt place) ws n s) ∙ ap callIn (words-spaced (nameAt place) ws n s) ∙ one-call (nameAt place) ws ∙ ap (λ (p : ℕ). named p ws) (name-place place h)
+
+module _ (c : Call) (fits : c .code < 2 ^ 64) (words : Words (c .words)) where
+  place : ℕ
+  place = placeFor (c .code)
+
+  count : ℕ
+  count = shown place (c .words) 8
+
+  within : count ≤ 8
+  unfolding count
+  within = shown-within place (c .words) 8
+
+  texts : List (List ℕ)
+  texts = textsOf place 0 (take count (c .words))
+
+  fit-take : (n : ℕ) (l : List ℕ) → Fit l → Fit (take n l)
+  fit-take zero l f k = omega arith
+  fit-take (suc n) [] f k = f k
+  fit-take (suc n) (x ∷ l) f zero = f 0
+  fit-take (suc n) (x ∷ l) f (suc k) = fit-take n l (λ j. f (suc j)) k
+
+  fit : Fit (take count (c .words))
+  fit = fit-take count (c .words) (words .word)
+
+  gathers : gather 1 (set (replicate 9 0) 0 (c .code)) texts ≡ parsed 0 c
+  unfolding nine texts count
+  gathers =
+      let n = length-take-le count (c .words) (omega (arith, within, words .eight)) in
+      gather-texts place 0 (take count (c .words)) 1 (set (replicate 9 0) 0 (c .code)) (omega (arith, n, within)) fit ∙ ap (parsed 0) (nine-call (c .code) count (c .words) (words .eight) within (λ j a b. shown-rest place (c .words) 8 j a b))
+
+  shown-text : shownFields place (c .words) ≡ spaced texts
+  unfolding texts count
+  shown-text = fields-texts place (c .words) count (omega (arith, within, words .eight))
+
+  -- the words after the name
+  after : List (List ℕ)
+  after = if ltb (c .code) 15 then texts else decimal (c .code) ∷ texts
+
+  place-low : place < 16
+  unfolding place
+  place-low = by-test (ltb (c .code) 15)
+      (λ t. omega (arith, ltb-true (c .code) 15 t, place-known (c .code) (ltb-true (c .code) 15 t)))
+      (λ t. omega (arith, place-raw (c .code) (ltb-false (c .code) 15 t)))
+
+  after-solid : Solids after
+  unfolding after texts
+  after-solid = by-test (ltb (c .code) 15)
+      (λ t. rw t (solids place 0 (take count (c .words)) fit))
+      (λ t. rw t (text-read false (c .code) fits .word, solids place 0 (take count (c .words)) fit))
+
+  line-words : lineText c ≡ nameAt place ++ spaced after
+  unfolding lineText place after spaced
+  line-words = by-test (ltb (c .code) 15)
+      (λ t. rw t (ap (λ (l : List ℕ). nameAt place ++ l) (rw (code-known (c .code) (ltb-true (c .code) 15 t)) shown-text)))
+      (λ t. rw t (ap (λ (l : List ℕ). nameAt place ++ l) (rw (code-raw (c .code) (ltb-false (c .code) 15 t)) (ap (λ (l : List ℕ). field (c .code) ++ l) shown-text))))
+
+  after-named : named place after ≡ parsed 0 c
+  unfolding place after
+  after-named = by-test (ltb (c .code) 15)
+      (λ t.
+      let h : c .code < 15 = ltb-true (c .code) 15 t in
+      rw t (ap (λ (k : ℕ). named k texts) (sym (place-known (c .code) h)) ∙ by-code (c .code) texts h ∙ gathers))
+      (λ t.
+      let p : place ≡ 15 = sym (place-raw (c .code) (ltb-false (c .code) 15 t)) in
+      rw t (by-raw place (decimal (c .code) ∷ texts) p ∙ one-number 0 (replicate 9 0) (decimal (c .code)) texts (λ e. omega arith) (c .code) (text-read false (c .code) fits .number) ∙ gathers))
+
+  -- what is written is read
+  pub line-back : lineCall (lineText c) ≡ parsed 0 c
+  line-back = ap lineCall line-words ∙ read-line place after place-low after-solid ∙ after-named
+
+  -- and the line ends where the call's text does
+  pub line-end : (l : List ℕ) → run LineEnd (lineText c ++ (10 ∷ l)) ≡ length (lineText c)
+  line-end l = rw line-words (line-ends (nameAt place) after l (name-solid place place-low) after-solid)

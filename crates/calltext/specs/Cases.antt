@@ -1,0 +1,72 @@
+-- Lines of text and their calls as one table that antt computes. Assumes nothing.
+use Prim.Native.Nat.{ℕ, _-_, _^_}
+use mathlib.Core.Bool.{Bool, _&&_}
+use mathlib.Core.List.{List, [], _∷_}
+use lib.Dec.{eqb, T}
+use Rattle.words.specs.Pick.{every}
+use Rattle.calls.specs.Calls.{newCall}
+use Rattle.callfile.specs.Lines.{digits, decimal}
+use Rattle.textwords.specs.Text.{run, pieces, full, wordsOf, plain, sameText}
+use Rattle.textwords.specs.Numbers.{digitsAfter, unsignedOf, negated, numberOf}
+use Rattle.calltext.specs.declared.Parsed.{Parsed}
+use Rattle.calltext.specs.Names.{names, placeIn, placeOf, placeFor, kinds}
+use Rattle.calltext.specs.Lines.{gather, named, callIn, lineCall}
+use Rattle.calltext.specs.Shown.{shown, fields, codeField, callText}
+
+-- what a line is, and its call's code and words
+is : Parsed → ℕ → ℕ → List ℕ → Bool
+is p kind code words = eqb (p .kind) kind && (eqb (p .call .code) code && sameText (p .call .words) words)
+
+zeros : List ℕ
+zeros = 0 ∷ 0 ∷ 0 ∷ 0 ∷ 0 ∷ 0 ∷ 0 ∷ 0 ∷ []
+
+cases : List Bool
+unfolding digits decimal run pieces full wordsOf plain sameText digitsAfter unsignedOf negated numberOf names placeIn placeOf placeFor kinds gather named callIn lineCall shown fields codeField callText is zeros
+cases =
+    -- open 0 0 100 0
+    is (lineCall (111 ∷ 112 ∷ 101 ∷ 110 ∷ 32 ∷ 48 ∷ 32 ∷ 48 ∷ 32 ∷ 49 ∷ 48 ∷ 48 ∷ 32 ∷ 48 ∷ [])) 0 0 (0 ∷ 0 ∷ 100 ∷ 0 ∷ 0 ∷ 0 ∷ 0 ∷ 0 ∷ [])
+    -- ack 9 -1 1
+    ∷ is (lineCall (9 ∷ 97 ∷ 99 ∷ 107 ∷ 32 ∷ 57 ∷ 32 ∷ 45 ∷ 49 ∷ 32 ∷ 49 ∷ 13 ∷ [])) 0 4 (9 ∷ (2 ^ 64 - 1) ∷ 1 ∷ 0 ∷ 0 ∷ 0 ∷ 0 ∷ 0 ∷ [])
+    -- clear#1
+    ∷ is (lineCall (99 ∷ 108 ∷ 101 ∷ 97 ∷ 114 ∷ 35 ∷ 49 ∷ [])) 0 10 (0 ∷ 0 ∷ 0 ∷ 0 ∷ 0 ∷ 0 ∷ 0 ∷ 0 ∷ [])
+    -- raw 15 18446744073709551615
+    ∷ is (lineCall (114 ∷ 97 ∷ 119 ∷ 32 ∷ 49 ∷ 53 ∷ 32 ∷ 49 ∷ 56 ∷ 52 ∷ 52 ∷ 54 ∷ 55 ∷ 52 ∷ 52 ∷ 48 ∷ 55 ∷ 51 ∷ 55 ∷ 48 ∷ 57 ∷ 53 ∷ 53 ∷ 49 ∷ 54 ∷ 49 ∷ 53 ∷ [])) 0 15 ((2 ^ 64 - 1) ∷ 0 ∷ 0 ∷ 0 ∷ 0 ∷ 0 ∷ 0 ∷ 0 ∷ [])
+    -- leave 1 -9223372036854775808
+    ∷ is (lineCall (108 ∷ 101 ∷ 97 ∷ 118 ∷ 101 ∷ 32 ∷ 49 ∷ 32 ∷ 45 ∷ 57 ∷ 50 ∷ 50 ∷ 51 ∷ 51 ∷ 55 ∷ 50 ∷ 48 ∷ 51 ∷ 54 ∷ 56 ∷ 53 ∷ 52 ∷ 55 ∷ 55 ∷ 53 ∷ 56 ∷ 48 ∷ 56 ∷ [])) 0 3 (1 ∷ (2 ^ 63) ∷ 0 ∷ 0 ∷ 0 ∷ 0 ∷ 0 ∷ 0 ∷ [])
+    -- # clear
+    ∷ is (lineCall (32 ∷ 32 ∷ 35 ∷ 32 ∷ 99 ∷ 108 ∷ 101 ∷ 97 ∷ 114 ∷ [])) 1 0 zeros
+    -- nothing
+    ∷ is (lineCall ([])) 1 0 zeros
+    -- opem
+    ∷ is (lineCall (111 ∷ 112 ∷ 101 ∷ 109 ∷ [])) 2 0 zeros
+    -- Open
+    ∷ is (lineCall (79 ∷ 112 ∷ 101 ∷ 110 ∷ [])) 2 0 zeros
+    -- leave -
+    ∷ is (lineCall (108 ∷ 101 ∷ 97 ∷ 118 ∷ 101 ∷ 32 ∷ 45 ∷ [])) 3 0 zeros
+    -- leave +1
+    ∷ is (lineCall (108 ∷ 101 ∷ 97 ∷ 118 ∷ 101 ∷ 32 ∷ 43 ∷ 49 ∷ [])) 3 0 zeros
+    -- leave 18446744073709551616
+    ∷ is (lineCall (108 ∷ 101 ∷ 97 ∷ 118 ∷ 101 ∷ 32 ∷ 49 ∷ 56 ∷ 52 ∷ 52 ∷ 54 ∷ 55 ∷ 52 ∷ 52 ∷ 48 ∷ 55 ∷ 51 ∷ 55 ∷ 48 ∷ 57 ∷ 53 ∷ 53 ∷ 49 ∷ 54 ∷ 49 ∷ 54 ∷ [])) 3 0 zeros
+    -- leave -9223372036854775809
+    ∷ is (lineCall (108 ∷ 101 ∷ 97 ∷ 118 ∷ 101 ∷ 32 ∷ 45 ∷ 57 ∷ 50 ∷ 50 ∷ 51 ∷ 51 ∷ 55 ∷ 50 ∷ 48 ∷ 51 ∷ 54 ∷ 56 ∷ 53 ∷ 52 ∷ 55 ∷ 55 ∷ 53 ∷ 56 ∷ 48 ∷ 57 ∷ [])) 3 0 zeros
+    -- clear 1 2 3 4 5 6 7 8
+    ∷ is (lineCall (99 ∷ 108 ∷ 101 ∷ 97 ∷ 114 ∷ 32 ∷ 49 ∷ 32 ∷ 50 ∷ 32 ∷ 51 ∷ 32 ∷ 52 ∷ 32 ∷ 53 ∷ 32 ∷ 54 ∷ 32 ∷ 55 ∷ 32 ∷ 56 ∷ [])) 0 10 (1 ∷ 2 ∷ 3 ∷ 4 ∷ 5 ∷ 6 ∷ 7 ∷ 8 ∷ [])
+    -- clear 1 2 3 4 5 6 7 8 9
+    ∷ is (lineCall (99 ∷ 108 ∷ 101 ∷ 97 ∷ 114 ∷ 32 ∷ 49 ∷ 32 ∷ 50 ∷ 32 ∷ 51 ∷ 32 ∷ 52 ∷ 32 ∷ 53 ∷ 32 ∷ 54 ∷ 32 ∷ 55 ∷ 32 ∷ 56 ∷ 32 ∷ 57 ∷ [])) 4 0 zeros
+    -- raw 1 2 3 4 5 6 7 8 9
+    ∷ is (lineCall (114 ∷ 97 ∷ 119 ∷ 32 ∷ 49 ∷ 32 ∷ 50 ∷ 32 ∷ 51 ∷ 32 ∷ 52 ∷ 32 ∷ 53 ∷ 32 ∷ 54 ∷ 32 ∷ 55 ∷ 32 ∷ 56 ∷ 32 ∷ 57 ∷ [])) 0 1 (2 ∷ 3 ∷ 4 ∷ 5 ∷ 6 ∷ 7 ∷ 8 ∷ 9 ∷ [])
+    -- raw 1 2 3 4 5 6 7 8 9 10
+    ∷ is (lineCall (114 ∷ 97 ∷ 119 ∷ 32 ∷ 49 ∷ 32 ∷ 50 ∷ 32 ∷ 51 ∷ 32 ∷ 52 ∷ 32 ∷ 53 ∷ 32 ∷ 54 ∷ 32 ∷ 55 ∷ 32 ∷ 56 ∷ 32 ∷ 57 ∷ 32 ∷ 49 ∷ 48 ∷ [])) 4 0 zeros
+    -- open 0 0 100 0
+    ∷ sameText (callText (newCall 0 (0 ∷ 0 ∷ 100 ∷ 0 ∷ 0 ∷ 0 ∷ 0 ∷ 0 ∷ []))) (111 ∷ 112 ∷ 101 ∷ 110 ∷ 32 ∷ 48 ∷ 32 ∷ 48 ∷ 32 ∷ 49 ∷ 48 ∷ 48 ∷ 32 ∷ 48 ∷ 10 ∷ [])
+    -- pull 9 -1 0 0 0
+    ∷ sameText (callText (newCall 5 (9 ∷ (2 ^ 64 - 1) ∷ 0 ∷ 0 ∷ 0 ∷ 0 ∷ 0 ∷ 0 ∷ []))) (112 ∷ 117 ∷ 108 ∷ 108 ∷ 32 ∷ 57 ∷ 32 ∷ 45 ∷ 49 ∷ 32 ∷ 48 ∷ 32 ∷ 48 ∷ 32 ∷ 48 ∷ 10 ∷ [])
+    -- clear 0 1
+    ∷ sameText (callText (newCall 10 (0 ∷ 1 ∷ 0 ∷ 0 ∷ 0 ∷ 0 ∷ 0 ∷ 0 ∷ []))) (99 ∷ 108 ∷ 101 ∷ 97 ∷ 114 ∷ 32 ∷ 48 ∷ 32 ∷ 49 ∷ 10 ∷ [])
+    -- raw 15 0 18446744073709551615
+    ∷ sameText (callText (newCall 15 (0 ∷ (2 ^ 64 - 1) ∷ 0 ∷ 0 ∷ 0 ∷ 0 ∷ 0 ∷ 0 ∷ []))) (114 ∷ 97 ∷ 119 ∷ 32 ∷ 49 ∷ 53 ∷ 32 ∷ 48 ∷ 32 ∷ 49 ∷ 56 ∷ 52 ∷ 52 ∷ 54 ∷ 55 ∷ 52 ∷ 52 ∷ 48 ∷ 55 ∷ 51 ∷ 55 ∷ 48 ∷ 57 ∷ 53 ∷ 53 ∷ 49 ∷ 54 ∷ 49 ∷ 53 ∷ 10 ∷ [])
+    ∷ []
+
+all-right : T (every cases)
+unfolding cases
+all-right = tt

@@ -1,0 +1,4 @@
+pub mod Names
+pub mod Lines
+pub mod Shown
+pub mod Cases

@@ -1,0 +1,59 @@
+-- A line of text as a call: a name and its numbers. Assumes nothing.
+use Prim.Native.Nat.{ℕ, _+_}
+use mathlib.Core.List.{List, [], _∷_}
+use lib.Dec.{eqb, leb}
+use lib.ListN.{getD, set, replicate}
+use Rattle.words.specs.Pick.{if_then_else_}
+use Rattle.calls.specs.declared.Call.{Call}
+use Rattle.calls.specs.Calls.{newCall}
+use Rattle.textwords.specs.declared.Number.{Number}
+use Rattle.textwords.specs.declared.Number.the-variants.{Of, Bad}
+use Rattle.textwords.specs.Text.{wordsOf, plain}
+use Rattle.textwords.specs.Numbers.{numberOf}
+use Rattle.calltext.specs.declared.Parsed.{Parsed}
+use Rattle.calltext.specs.Names.{RAW, placeOf}
+
+-- what a line can be: 0 a call, 1 empty, 2 of an unknown name, 3 with what is no number of 64 bits, 4 with more than eight words
+abbrev pub parsed : ℕ → Call → Parsed
+parsed kind c = record { kind = kind; call = c }
+
+abbrev pub noCall : Call
+noCall = newCall 0 (replicate 8 0)
+
+abbrev pub without : ℕ → Parsed
+without kind = parsed kind noCall
+
+-- the code and the eight words of nine numbers
+abbrev pub callOf : List ℕ → Call
+callOf nine =
+    newCall (getD nine 0 0)
+    (getD nine 1 0
+    ∷ getD nine 2 0
+    ∷ getD nine 3 0
+    ∷ getD nine 4 0
+    ∷ getD nine 5 0
+    ∷ getD nine 6 0
+    ∷ getD nine 7 0
+    ∷ getD nine 8 0
+    ∷ [])
+
+-- what is done with a number
+abbrev pub withNumber : Number → (ℕ → Parsed) → Parsed
+withNumber Bad f = without 3
+withNumber (Of v) f = f v
+
+-- the words of a line go to the places from n on; those that are missing stay 0
+unfoldable pub gather : ℕ → List ℕ → List (List ℕ) → Parsed
+gather n nine [] = parsed 0 (callOf nine)
+gather n nine (w ∷ ws) = if eqb n 9 then without 4 else withNumber (numberOf w) (λ v. gather (n + 1) (set nine n v) ws)
+
+-- a name gives the code; `raw` leaves it to the first number
+unfoldable pub named : ℕ → List (List ℕ) → Parsed
+named place ws = if leb place 14 then gather 1 (set (replicate 9 0) 0 place) ws else if eqb place RAW then gather 0 (replicate 9 0) ws else without 2
+
+unfoldable pub callIn : List (List ℕ) → Parsed
+callIn [] = without 1
+callIn (w ∷ ws) = named (placeOf w) ws
+
+unfoldable pub lineCall : List ℕ → Parsed
+lineCall line = callIn (wordsOf (plain line))

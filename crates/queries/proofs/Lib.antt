@@ -1,0 +1,4 @@
+pub mod Lists
+pub mod Opened
+pub mod Answered
+pub mod Paging

@@ -1,0 +1,408 @@
+// The queries of a destination on lent buffers: they use no call and change nothing.
+ghost use mathlib.Core.Path.{_≡_};
+ghost use mathlib.Core.Bool.{_||_};
+ghost use mathlib.Core.List.{map};
+ghost use Prim.Native.Nat.{_+_, _-_, _/_, _≤_, min};
+ghost use lib.ListN.{length, take, drop};
+ghost use lib.Seq.{slice};
+ghost use Rattle.definition.specs.Base.{all};
+ghost use Rattle.definition.specs.Words.{kindBy};
+ghost use Rattle.definition.specs.Queries.{ofKind, consumers, expirations, messages, idle, sequence, lineOf};
+ghost use Rattle.definition.specs.Layout.{subsAt, subRows, bufferQuery, bufferCounters, bufferPage};
+ghost use Rattle.sound.specs.Sound.{lent};
+ghost use Rattle.queries.specs.Answers.{asAsked, asCounted, barred, lasts, subLasts, isIdle};
+ghost use Rattle.queries.specs.Pages.{rowLine, lineWords, firstWaiting, asPlan, Planned, asPaged, written};
+use consumers::BROWSER;
+use consumers::HELD;
+use consumers::INFLIGHT;
+use consumers::SubRow;
+use entry::Entry;
+use entry::Row;
+use state::Head;
+use stats::Stats;
+
+// Most lines of a page.
+pub const PAGE_MAX: usize = 50;
+
+const CLOCK_MOST: u64 = 4611686018427387904;
+
+// The refusal (0: answered) and the answer.
+#[repr(C)]
+pub struct Asked {
+    pub refusal: u64,
+    pub answer: u64,
+}
+
+// The refusal and the counters, 0 beside a refusal.
+#[repr(C)]
+pub struct Counted {
+    pub refusal: u64,
+    pub stats: Stats,
+}
+
+// The refusal, how many entries wait, and the rows of a page's lines: `count` of them from row `from` on. Beside a refusal the others are 0.
+#[repr(C)]
+pub struct PagePlan {
+    pub refusal: u64,
+    pub total: u64,
+    pub from: usize,
+    pub count: usize,
+}
+
+// The refusal, how many entries wait, and how many lines were written.
+#[repr(C)]
+pub struct Paged {
+    pub refusal: u64,
+    pub total: u64,
+    pub count: usize,
+}
+
+// A page's line: sequence number, expiration, redelivery.
+pub type LineWords = [u64; 3];
+
+// What a query meets first: 1 where a buffer is short, 2 where the state is not sound, else 0.
+fn barred(head: &[u64], subs: &[SubRow], rows: &[Row]) -> u64
+    ensures { λ r. ⌜ r ≡ barred (lent (now (head .entry)) (now (subs .entry)) (now (rows .entry))) ⌝ }
+{
+    if !sound::whole(head, subs, rows) {
+        return 1;
+    }
+    if !sound::sound(head, subs, rows) {
+        return 2;
+    }
+    0
+}
+
+// 1 for a queue, 0 for a topic.
+pub fn is_queue(head: &[u64], subs: &[SubRow], rows: &[Row]) -> Asked
+    ensures { λ r. ⌜ r ≡ asAsked (bufferQuery (lent (now (head .entry)) (now (subs .entry)) (now (rows .entry))) ofKind) ⌝ }
+{
+    let refusal = barred(head, subs, rows);
+    if refusal != 0 {
+        return Asked { refusal, answer: 0 };
+    }
+    let d = state::load(head, subs);
+    Asked {
+        refusal: 0,
+        answer: d.queue as u64,
+    }
+}
+
+// 1 if there are consumers.
+pub fn has_consumers(head: &[u64], subs: &[SubRow], rows: &[Row]) -> Asked
+    ensures { λ r. ⌜ r ≡ asAsked (bufferQuery (lent (now (head .entry)) (now (subs .entry)) (now (rows .entry))) consumers) ⌝ }
+{
+    let refusal = barred(head, subs, rows);
+    if refusal != 0 {
+        return Asked { refusal, answer: 0 };
+    }
+    let d = state::load(head, subs);
+    Asked {
+        refusal: 0,
+        answer: (d.consumers != 0) as u64,
+    }
+}
+
+// ---- has_expiring
+
+// A row whose entry has no expiration.
+fn lasts(row: Row) -> bool
+    ensures { λ r. ⌜ r ≡ lasts row ⌝ }
+{
+    let at = entry::entry_of(row).expiration;
+    !(0 < at)
+}
+
+// Each of rows[from..to].
+fn lasting(rows: &[Row], from: usize, to: usize) -> bool
+    requires { ⌜ from ≤ to ⌝ }
+    requires { do ⌜ to ≤ (← ⟦rows.len()⟧) ⌝ }
+    ensures { λ r. ⌜ r ≡ all lasts (slice from to (now (rows .entry))) ⌝ }
+{
+    let mut i = from;
+    while i < to {
+        if !lasts(rows[i]) {
+            return false;
+        }
+        i += 1;
+    }
+    true
+}
+
+// The same; a snapshot is not looked at.
+fn held_lasting(rows: &[Row], from: usize, to: usize, snapshot: bool) -> bool
+    requires { ⌜ from ≤ to ⌝ }
+    requires { do ⌜ to ≤ (← ⟦rows.len()⟧) ⌝ }
+    ensures { λ r. ⌜ r ≡ (snapshot || all lasts (slice from to (now (rows .entry)))) ⌝ }
+{
+    if snapshot {
+        return true;
+    }
+    lasting(rows, from, to)
+}
+
+// What each of the first n consumers holds; base is where its rows begin.
+fn subs_lasting(subs: &[SubRow], n: usize, rows: &[Row], on_queue: bool) -> bool
+    requires { do ⌜ n ≤ (← ⟦subs.len()⟧) ⌝ }
+    requires { do ⌜ subRows (take n (now subs)) ≤ (← ⟦rows.len()⟧) ⌝ }
+    ensures { λ r. ⌜ r ≡ all subLasts (subsAt (kindBy «on_queue») (take n (now (subs .entry))) (now (rows .entry))) ⌝ }
+{
+    let mut base = 0;
+    let mut i = 0;
+    while i < n {
+        let w = subs[i];
+        let flying = w[INFLIGHT] as usize;
+        let k = flying + w[HELD] as usize;
+        let snapshot = on_queue & (w[BROWSER] != 0);
+        if !held_lasting(rows, base + flying, base + k, snapshot) {
+            return false;
+        }
+        base += k;
+        i += 1;
+    }
+    true
+}
+
+// 1 if an entry that waits, on the queue or for a consumer, has an expiration.
+pub fn has_expiring(head: &[u64], subs: &[SubRow], rows: &[Row]) -> Asked
+    ensures { λ r. ⌜ r ≡ asAsked (bufferQuery (lent (now (head .entry)) (now (subs .entry)) (now (rows .entry))) expirations) ⌝ }
+{
+    let refusal = barred(head, subs, rows);
+    if refusal != 0 {
+        return Asked { refusal, answer: 0 };
+    }
+    let d = state::load(head, subs);
+    let waiting = lasting(rows, d.first_waiting(), d.used);
+    let held = subs_lasting(subs, d.consumers, rows, d.queue);
+    Asked {
+        refusal: 0,
+        answer: !(waiting & held) as u64,
+    }
+}
+
+// Entries that wait or are in flight, of all consumers; snapshots and reserved ones apart.
+pub fn message_count(head: &[u64], subs: &[SubRow], rows: &[Row]) -> Asked
+    ensures { λ r. ⌜ r ≡ asAsked (bufferQuery (lent (now (head .entry)) (now (subs .entry)) (now (rows .entry))) messages) ⌝ }
+{
+    let refusal = barred(head, subs, rows);
+    if refusal != 0 {
+        return Asked { refusal, answer: 0 };
+    }
+    let d = state::load(head, subs);
+    let held = consumers::held_rows(subs, d.consumers, d.queue);
+    Asked {
+        refusal: 0,
+        answer: (d.waiting + held) as u64,
+    }
+}
+
+// ---- idle_for
+
+// The clock less the mark in whole seconds, 0 if the clock went back.
+fn idle_seconds(since: u64, clock: u64) -> u64
+    ensures { λ r. ⌜ r ≡ (clock - since) / 1000 ⌝ }
+{
+    if clock < since {
+        return 0;
+    }
+    (clock - since) / 1000
+}
+
+fn is_idle(d: Head, clock: u64, secs: u64) -> bool
+    ensures { λ r. ⌜ r ≡ isIdle clock secs d ⌝ }
+{
+    if d.waiting != 0 {
+        return false;
+    }
+    if d.consumers != 0 {
+        return false;
+    }
+    if d.producers != 0 {
+        return false;
+    }
+    if !d.idle {
+        return false;
+    }
+    secs <= idle_seconds(d.idle_since, clock)
+}
+
+// 1 if the destination has been empty and unused for at least so many seconds. The clock counts milliseconds.
+pub fn idle_for(head: &[u64], subs: &[SubRow], rows: &[Row], clock: u64, secs: u64) -> Asked
+    ensures { λ r. ⌜ r ≡ asAsked (bufferQuery (lent (now (head .entry)) (now (subs .entry)) (now (rows .entry))) (idle clock secs)) ⌝ }
+{
+    let refusal = barred(head, subs, rows);
+    if refusal != 0 {
+        return Asked { refusal, answer: 0 };
+    }
+    if CLOCK_MOST < clock {
+        return Asked {
+            refusal: 3,
+            answer: 0,
+        };
+    }
+    let d = state::load(head, subs);
+    Asked {
+        refusal: 0,
+        answer: is_idle(d, clock, secs) as u64,
+    }
+}
+
+// The sequence number of the waiting entry at a place, 0 for none.
+pub fn seq_at(head: &[u64], subs: &[SubRow], rows: &[Row], index: u64) -> Asked
+    ensures { λ r. ⌜ r ≡ asAsked (bufferQuery (lent (now (head .entry)) (now (subs .entry)) (now (rows .entry))) (sequence index)) ⌝ }
+{
+    let refusal = barred(head, subs, rows);
+    if refusal != 0 {
+        return Asked { refusal, answer: 0 };
+    }
+    let d = state::load(head, subs);
+    if d.waiting as u64 <= index {
+        return Asked {
+            refusal: 0,
+            answer: 0,
+        };
+    }
+    let at = d.first_waiting() + index as usize;
+    let row = rows[at];
+    Asked {
+        refusal: 0,
+        answer: row[0],
+    }
+}
+
+// The five counters.
+pub fn counters(head: &[u64], subs: &[SubRow], rows: &[Row]) -> Counted
+    ensures { λ r. ⌜ r ≡ asCounted (bufferCounters (lent (now (head .entry)) (now (subs .entry)) (now (rows .entry)))) ⌝ }
+{
+    let refusal = barred(head, subs, rows);
+    if refusal != 0 {
+        let stats = Stats {
+            enqueued: 0,
+            dequeued: 0,
+            expired: 0,
+            discarded: 0,
+            dispatched: 0,
+        };
+        return Counted { refusal, stats };
+    }
+    let d = state::load(head, subs);
+    let stats = d.stats;
+    Counted { refusal: 0, stats }
+}
+
+// ---- page
+
+// Most lines that a limit allows.
+fn most_lines(limit: u64) -> usize
+    ensures { λ r. ⌜ r ≡ min limit 50 ⌝ }
+{
+    if limit < 50 { limit as usize } else { PAGE_MAX }
+}
+
+// How many lines a page has: at most 50, the limit, and what waits from the offset on.
+fn lines_of(waiting: usize, offset: u64, limit: u64) -> usize
+    ensures { λ r. ⌜ r ≡ min (min limit 50) (waiting - offset) ⌝ }
+{
+    if waiting as u64 <= offset {
+        return 0;
+    }
+    let most = most_lines(limit);
+    let left = waiting - offset as usize;
+    if left < most { left } else { most }
+}
+
+fn no_plan(refusal: u64) -> PagePlan
+    ensures { λ r. ⌜ r ≡ (record { refusal = refusal; total = 0; from = 0; count = 0 }) ⌝ }
+{
+    PagePlan {
+        refusal,
+        total: 0,
+        from: 0,
+        count: 0,
+    }
+}
+
+// A page of the entries that wait, for a list of so many lines: where its rows stand. A list under 50 lines gets 1.
+pub fn plan(
+    head: &[u64],
+    subs: &[SubRow],
+    rows: &[Row],
+    lines: usize,
+    offset: u64,
+    limit: u64,
+) -> PagePlan
+    ensures { λ r. ⌜ r ≡ asPlan (firstWaiting (lent (now (head .entry)) (now (subs .entry)) (now (rows .entry))) + offset) (bufferPage (lent (now (head .entry)) (now (subs .entry)) (now (rows .entry))) lines offset limit) ⌝ }
+    ensures { λ r. ⌜ Planned (bufferPage (lent (now (head .entry)) (now (subs .entry)) (now (rows .entry))) lines offset limit) (now (rows .entry)) lines r ⌝ }
+{
+    if lines < PAGE_MAX {
+        return no_plan(1);
+    }
+    let refusal = barred(head, subs, rows);
+    if refusal != 0 {
+        return no_plan(refusal);
+    }
+    let d = state::load(head, subs);
+    let total = d.waiting as u64;
+    let count = lines_of(d.waiting, offset, limit);
+    if count == 0 {
+        return PagePlan {
+            refusal: 0,
+            total,
+            from: 0,
+            count: 0,
+        };
+    }
+    let from = d.first_waiting() + offset as usize;
+    PagePlan {
+        refusal: 0,
+        total,
+        from,
+        count,
+    }
+}
+
+fn line_words(e: Entry) -> LineWords
+    ensures { λ r. ⌜ r ≡ lineWords (lineOf e) ⌝ }
+{
+    [
+        e.seq,
+        words::word_of(e.expiration),
+        words::word_of_int(e.redelivery),
+    ]
+}
+
+// The lines of rows[from..from+n] in the first n places.
+fn fill(rows: &[Row], lines: &mut [LineWords], from: usize, n: usize)
+    requires { ⌜ (from + n ≤ length (now rows)) × (n ≤ length (now lines)) ⌝ }
+    ensures { λ _. ⌜ now (lines .exit) ≡ written (map rowLine (take n (drop from (now (rows .entry))))) (now (lines .entry)) ⌝ }
+{
+    let mut i = 0;
+    while i < n {
+        let e = entry::entry_of(rows[from + i]);
+        lines[i] = line_words(e);
+        i += 1;
+    }
+}
+
+// A page of the entries that wait, into a lent list: how many wait, and how many lines were written. Later lines stay as they were.
+pub fn page(
+    head: &[u64],
+    subs: &[SubRow],
+    rows: &[Row],
+    lines: &mut [LineWords],
+    offset: u64,
+    limit: u64,
+) -> Paged
+    ensures { λ r. ⌜ r ≡ asPaged (bufferPage (lent (now (head .entry)) (now (subs .entry)) (now (rows .entry))) (length (now (lines .entry))) offset limit) ⌝ }
+    ensures { λ _. ⌜ now (lines .exit) ≡ written (bufferPage (lent (now (head .entry)) (now (subs .entry)) (now (rows .entry))) (length (now (lines .entry))) offset limit .lines) (now (lines .entry)) ⌝ }
+{
+    let p = plan(head, subs, rows, lines.len(), offset, limit);
+    let from = p.from;
+    let count = p.count;
+    fill(rows, lines, from, count);
+    Paged {
+        refusal: p.refusal,
+        total: p.total,
+        count,
+    }
+}

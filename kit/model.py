@@ -1,0 +1,966 @@
+#!/usr/bin/env python3
+"""model.py <CALL_FILE: the definitions of crates/definition/specs in Python, function by function and under the same names, with a mark
+for each branch. Prints what a run of the file prints. No proof covers it: it shows which branches a call file reaches (see `reach`), and
+it can be the reference of `run` where there is no other."""
+import struct
+import sys
+from dataclasses import dataclass, field, replace
+
+WORD = 1 << 64
+DONE = set()  # the branches reached so far
+
+
+def hit(definition, branch):
+    DONE.add((definition, branch))
+
+
+def pick(definition, test, yes, no):
+    """`if test then .. else ..`: marks the branch, answers the test."""
+    hit(definition, yes if test else no)
+    return test
+
+
+def each(definition, items):
+    """The items of a list, with marks for its two clauses."""
+    for x in items:
+        hit(definition, "∷")
+        yield x
+    hit(definition, "[]")
+
+
+# ---- Types
+
+
+@dataclass(frozen=True)
+class Entry:
+    seq: int
+    expiration: int
+    persistent: bool
+    producer: int
+    match_word: int
+    redelivery: int
+
+
+@dataclass(frozen=True)
+class Inflight:
+    dseq: int
+    entry: Entry
+    freed: bool = False
+    tx: bool = False
+
+
+@dataclass(frozen=True)
+class Sub:
+    id: tuple
+    prefetch: int
+    selector: int
+    no_local: bool
+    browser: object  # None, or the snapshot
+    finished: bool = False
+    inflight: tuple = ()
+    freed: int = 0
+    next_dseq: int = 1
+    cursor: int = 0
+    pull: object = None
+    generation: int = 0
+    tpending: tuple = ()
+
+
+@dataclass
+class Dest:
+    kind: str = "queue"
+    topic_limit: int = 0
+    call_limit: int = 0
+    calls_used: int = 0
+    pending: tuple = ()
+    subs: tuple = ()
+    rr: int = 0
+    producers: tuple = ()
+    audits: tuple = ()  # (producer, order)
+    stats: dict = field(default_factory=lambda: dict.fromkeys(("enqueued", "dequeued", "expired", "discarded", "dispatched"), 0))
+    idle: object = None
+    reserved: tuple = ()  # (holder, entry)
+
+    def count(self, name, k):
+        self.stats[name] += k
+
+
+@dataclass(frozen=True)
+class Ack:
+    type: int
+    transacted: bool
+    first: object
+    last: object
+    cause: bool
+
+
+ACK_TYPES = ("Delivered", "Poison", "Standard", "Redelivered", "Individual", "Unmatched", "Expired")
+
+
+# ---- Consumer
+
+
+def expired(now, e):
+    return 0 < e.expiration <= now
+
+
+def one_more(r):
+    return r + 1 if pick("oneMore", r < 2147483647, "rises", "stays") else r
+
+
+def redelivered(e):
+    return replace(e, redelivery=one_more(e.redelivery))
+
+
+def selects(word, s):
+    return bool(word >> s & 1) if pick("selects", s < 64, "a selector", "none") else True
+
+
+def ack_type(k):
+    name = ACK_TYPES[k] if k < len(ACK_TYPES) else "Other"
+    hit("ackType", name)
+    return name
+
+
+def window(s):
+    return len(s.inflight) - s.freed
+
+
+def shown(browser):
+    return browser if pick("shown", browser is not None, "some", "none") else ()
+
+
+def is_browser(s):
+    return s.browser is not None
+
+
+def has_credit(s):
+    if pick("hasCredit", s.prefetch == 0, "prefetch 0", "prefetch above 0"):
+        return s.pull is not None
+    return window(s) < s.prefetch
+
+
+def accepts(s, e):
+    if pick("accepts", s.no_local and e.producer != 0 and e.producer == s.id[0], "stopped by no local", "by the selector"):
+        return False
+    return selects(e.match_word, s.selector)
+
+
+def send(e, s):
+    return replace(s, next_dseq=s.next_dseq + 1, inflight=s.inflight + (Inflight(s.next_dseq, e),), pull=None)
+
+
+def sent(s, e):
+    return ("d",) + s.id + (e.seq, e.redelivery)
+
+
+def by_seq(s, q):
+    if pick("bySeq", q is None, "none", "some"):
+        return None
+    found = next((i.dseq for i in s.inflight if i.entry.seq == q), None)
+    pick("dseqOf", found is None, "none", "some")
+    return found
+
+
+def or0(first):
+    return 0 if pick("or0", first is None, "none", "some") else first
+
+
+def ack_range(s, a, cumulative):
+    first = None if pick("ackRange", cumulative, "cumulative", "from the first number") else by_seq(s, a.first)
+    last = by_seq(s, a.last)
+    if pick("ranged", last is None, "none", "some"):
+        return lambda i: False
+    start = min(or0(first), last)
+    return lambda i: start <= i.dseq <= last
+
+
+def ack_last(s, a):
+    k = by_seq(s, a.last)
+    pick("isDseq", k is None, "none", "some")
+    return lambda i: i.dseq == k
+
+
+def free(test, tx, s):
+    def marked(i):
+        return replace(i, freed=True, tx=tx or i.tx) if pick("marked (Consumer)", test(i), "passes", "as it was") else i
+
+    more = sum(test(i) and not i.freed for i in s.inflight)
+    return replace(s, inflight=tuple(map(marked, s.inflight)), freed=s.freed + more)
+
+
+def remove_inflight(test, s):
+    fewer = sum(test(i) and i.freed for i in s.inflight)
+    return replace(s, inflight=tuple(i for i in s.inflight if not test(i)), freed=s.freed - fewer)
+
+
+def redeliver(test, s):
+    def bumped(i):
+        return replace(i, entry=redelivered(i.entry)) if pick("bumped", test(i), "passes", "as it was") else i
+
+    return replace(s, inflight=tuple(map(bumped, s.inflight)))
+
+
+def dead_letters(cause, flights):
+    return [
+        ("x", i.entry.seq, i.entry.redelivery, int(cause))
+        for i in flights
+        if pick("deadLetters", i.entry.persistent, "persistent", "not persistent")
+    ]
+
+
+def unless_browser(s, k):
+    return 0 if pick("unlessBrowser", is_browser(s), "browser", "counted") else k
+
+
+def ack_transacted(a, s, kind):
+    hit("ackTransacted", kind)
+    return free(ack_range(s, a, kind in ("Standard", "Unmatched")), kind != "Delivered", s)
+
+
+def took(test, name, s, t):
+    t.count(name, unless_browser(s, sum(map(test, s.inflight))))
+    return remove_inflight(test, s), []
+
+
+def ack_plain(a, s, kind, t):
+    hit("ackPlain", kind)
+    if kind == "Delivered":
+        return free(ack_range(s, a, False), False, s), []
+    if kind in ("Standard", "Unmatched"):
+        return took(ack_range(s, a, True), "dequeued", s, t)
+    if kind == "Individual":
+        return took(ack_last(s, a), "dequeued", s, t)
+    if kind == "Poison":
+        test = ack_range(s, a, False)
+        t.count("discarded", unless_browser(s, sum(test(i) and not i.entry.persistent for i in s.inflight)))
+        if pick("ackPlain Poison", is_browser(s), "browser", "letters"):
+            return remove_inflight(test, s), []
+        return remove_inflight(test, s), dead_letters(a.cause, [i for i in s.inflight if test(i)])
+    if kind == "Redelivered":
+        return redeliver(ack_range(s, a, False), s), []
+    if kind == "Expired":
+        return took(ack_range(s, a, False), "expired", s, t)
+    return s, []
+
+
+def ack_sub(a, s, t):
+    if pick("ackSub", a.transacted, "transacted", "untransacted"):
+        return ack_transacted(a, s, ack_type(a.type)), []
+    return ack_plain(a, s, ack_type(a.type), t)
+
+
+def serve_topic(now, s, t, events):
+    while True:
+        if not pick("drainTopic", bool(s.tpending), "an entry", "empty"):
+            return s
+        if not pick("drainTopic", has_credit(s), "credit", "no credit"):
+            return s
+        e, s = s.tpending[0], replace(s, tpending=s.tpending[1:])
+        if pick("meetTopic", expired(now, e), "expired", "sent"):
+            t.count("expired", 1)
+        else:
+            t.count("dispatched", 1)
+            events.append(sent(s, e))
+            s = send(e, s)
+
+
+def meet_browser(now, e, s, t, events):
+    s = replace(s, browser=s.browser[1:])
+    if pick("meetBrowser", expired(now, e), "expired", "sent"):
+        kept = tuple(f for f in t.pending if f.seq != e.seq)
+        t.count("expired", len(t.pending) - len(kept))
+        pick("meetBrowser expired", len(kept) < len(t.pending), "it still waits", "it is gone")
+        t.pending = kept
+        return s
+    events.append(sent(s, e))
+    return send(e, s)
+
+
+def close_browser(s, events):
+    if pick("closeBrowser", s.finished, "finished", "closing null"):
+        return s
+    events.append(("n",) + s.id)
+    return replace(s, finished=True, pull=None)
+
+
+def dispatch_browser(now, s, t, events):
+    while pick("drainBrowser", bool(s.browser), "an entry", "empty"):
+        if not pick("drainBrowser an entry", has_credit(s), "credit", "no credit"):
+            return s
+        s = meet_browser(now, s.browser[0], s, t, events)
+    return close_browser(s, events) if pick("drainBrowser empty", has_credit(s), "credit", "no credit") else s
+
+
+# ---- Destination
+
+
+def sub_of(i, t):
+    return next((s for s in t.subs if s.id == i), None)
+
+
+def put_sub(i, s, t):
+    t.subs = tuple(s if r.id == i else r for r in t.subs)
+
+
+def insert(e, entries):
+    for k, f in enumerate(entries):
+        if pick("insert", e.seq < f.seq, "before", "not before"):
+            return entries[:k] + (e,) + entries[k:]
+        if pick("insert", e.seq == f.seq, "in its place", "further on"):
+            return entries[:k] + (e,) + entries[k + 1 :]
+    hit("insert", "last")
+    return entries + (e,)
+
+
+def look(now, s, entries):
+    """What still waits, what is chosen, the cursor, how many have expired."""
+    cursor, gone, kept = s.cursor, 0, []
+    for k, e in enumerate(entries):
+        if pick("look", e.seq <= s.cursor, "before the cursor", "after the cursor"):
+            kept.append(e)
+        elif pick("look", expired(now, e), "expired", "live"):
+            gone += 1
+        elif pick("look", accepts(s, e), "accepted", "refused"):
+            return tuple(kept) + entries[k + 1 :], e, e.seq, gone
+        else:
+            kept.append(e)
+            cursor = e.seq
+    hit("look", "the end")
+    return tuple(kept), None, cursor, gone
+
+
+def visit(now, i, t, events):
+    """Whether the consumer at i took an entry."""
+    if not pick("visitAt", i < len(t.subs), "some", "none"):
+        return False
+    s = t.subs[i]
+    if pick("visitAt some", is_browser(s) or not has_credit(s), "browser or no credit", "looks"):
+        return False
+    t.pending, e, cursor, gone = look(now, s, t.pending)
+    t.count("expired", gone)
+    s = replace(s, cursor=cursor)
+    if pick("given", e is None, "none", "some"):
+        t.subs = t.subs[:i] + (s,) + t.subs[i + 1 :]
+        return False
+    t.subs = t.subs[:i] + (send(e, s),) + t.subs[i + 1 :]
+    t.count("dispatched", 1)
+    t.rr = (i + 1) % len(t.subs)
+    events.append(sent(s, e))
+    return True
+
+
+def scan(now, t, events):
+    n = len(t.subs)
+    for k in range(t.rr, t.rr + n):
+        if pick("scan", visit(now, k % n, t, events), "took", "later"):
+            return True
+    hit("scan", "the end")
+    return False
+
+
+def rounds(now, t, events):
+    for _ in range(len(t.pending) + 1):
+        took_one = scan(now, t, events)
+        if pick("rounds", not took_one or not t.pending, "ends", "again"):
+            return
+    hit("rounds", "no fuel")
+
+
+def dispatch_queue(now, t):
+    events = []
+    if pick("dispatchQueue", not t.subs, "no consumers", "consumers"):
+        return events
+    for k in range(len(t.subs)):
+        if pick("browsers", is_browser(t.subs[k]), "browser", "no browser"):
+            t.subs = t.subs[:k] + (dispatch_browser(now, t.subs[k], t, events),) + t.subs[k + 1 :]
+    rounds(now, t, events)
+    return events
+
+
+def dispatch_topic(now, t):
+    events = []
+    t.subs = tuple([serve_topic(now, s, t, events) for s in each("serveAll", t.subs)])
+    return events
+
+
+def dispatch(now, t):
+    return dispatch_queue(now, t) if pick("dispatchBy", t.kind == "queue", "queue", "topic") else dispatch_topic(now, t)
+
+
+def touch_idle(now, t):
+    if pick("touchIdle", not t.pending and not t.subs and not t.producers, "unused", "in use"):
+        t.idle = now if pick("marked (Destination)", t.idle is None, "none", "some") else t.idle
+    else:
+        t.idle = None
+
+
+def hold_back(seq, s):
+    return replace(s, cursor=min(s.cursor, seq - 1))
+
+
+def fan_out(limit, e, s, t):
+    if not pick("fanOut", accepts(s, e), "accepted", "refused"):
+        return s
+    both = insert(e, s.tpending)
+    over = 0 if pick("fanOut limit", limit == 0, "off", "set") else max(0, len(both) - limit)
+    pick("fanOut over", over > 0, "discards", "none")
+    t.count("discarded", over)
+    return replace(s, tpending=both[over:])
+
+
+def enqueue(now, e, t):
+    t.count("enqueued", 1)
+    if pick("enqueueBy", t.kind == "queue", "queue", "topic"):
+        t.subs = tuple(hold_back(e.seq, s) for s in t.subs)
+        t.pending = insert(e, t.pending)
+        t.idle = None
+        return dispatch_queue(now, t)
+    t.subs = tuple([fan_out(t.topic_limit, e, s, t) for s in each("fanOutAll", t.subs)])
+    return dispatch_topic(now, t)
+
+
+def room(prefetch):
+    return prefetch if pick("room", prefetch >= 0, "from 0", "below 0") else 0
+
+
+def add_sub(now, p, t):
+    s = Sub(p["id"], room(p["prefetch"]), p["selector"], p["no_local"], None)
+    if pick("joined", p["browser"], "browser", "no browser"):
+        live = tuple(e for e in t.pending if not expired(now, e))
+        t.count("expired", len(t.pending) - len(live))
+        t.pending = live
+        s = replace(s, browser=tuple(e for e in live if selects(e.match_word, s.selector)))
+    t.subs += (s,)
+    t.idle = None
+    return dispatch(now, t)
+
+
+def set_prefetch(now, i, p, t):
+    s = sub_of(i, t)
+    if pick("prefetchAt", s is not None, "some", "none"):
+        put_sub(i, replace(s, prefetch=room(p)), t)
+    return dispatch(now, t)
+
+
+def hold_back_all(entries, s):
+    for e in each("holdBackAll", entries):
+        s = hold_back(e.seq, s)
+    return s
+
+
+def reinsert(now, entries, t):
+    live = [e for e in entries if not expired(now, e)]
+    pick("reinsert", len(live) < len(entries), "some have expired", "all live")
+    t.count("expired", len(entries) - len(live))
+    for e in each("insertAll", live):
+        t.pending = insert(e, t.pending)
+    t.subs = tuple(hold_back_all(live, s) for s in t.subs)
+
+
+def reserved_of(i, t):
+    return [e for holder, e in t.reserved if holder == i]
+
+
+def reserved_hit(first, last, e, kind):
+    hit("reservedHit", kind)
+    if kind in ("Standard", "Unmatched"):
+        return e.seq <= last
+    if kind == "Individual":
+        return e.seq == last
+    if kind in ("Poison", "Expired"):
+        return e.seq <= last and (True if pick("atLeast", first is None, "none", "some") else first <= e.seq)
+    return False
+
+
+def reserved_counts(taken, kind, t):
+    hit("reservedCounts", kind)
+    if kind == "Poison":
+        t.count("discarded", sum(not e.persistent for e in taken))
+    else:
+        t.count("expired" if kind == "Expired" else "dequeued", len(taken))
+
+
+def letters(taken):
+    return [("x", e.seq, e.redelivery, 0) for e in taken if pick("letters", e.persistent, "persistent", "not persistent")]
+
+
+def ack_reserved(i, a, t):
+    if pick("ackReserved", a.last is None, "none", "some"):
+        return []
+    kind = ack_type(a.type)
+    taken = [e for e in reserved_of(i, t) if reserved_hit(a.first, a.last, e, kind)]
+    t.reserved = tuple((h, e) for h, e in t.reserved if not (h == i and e in taken))
+    reserved_counts(taken, kind, t)
+    hit("reservedEvents", kind)
+    return letters(taken) if kind == "Poison" else []
+
+
+def ack(now, i, a, t):
+    s = sub_of(i, t)
+    if pick("ackAt", s is None, "none", "some"):
+        if pick("ackAt none", a.transacted or not reserved_of(i, t), "ignored", "reserved"):
+            return []
+        first = ack_reserved(i, a, t)
+    else:
+        s, first = ack_sub(a, s, t)
+        put_sub(i, s, t)
+    touch_idle(now, t)
+    return first + dispatch(now, t)
+
+
+def pull(now, i, timeout, t):
+    s = sub_of(i, t)
+    if pick("pullAt", s is None, "none", "some"):
+        return 0, []
+    if pick("pullAt some", s.prefetch > 0, "prefetch above 0", "prefetch 0"):
+        return 0, []
+    put_sub(i, replace(s, pull=s.generation + 1, generation=s.generation + 1), t)
+    events = dispatch(now, t)
+    s = sub_of(i, t)
+    if pick("resumed", s is None, "none", "some"):
+        return 0, events
+    if pick("pulled", s.pull is None, "none", "some"):
+        return 0, events
+    if pick("pulled", timeout < 0, "below 0", "not below 0"):
+        put_sub(i, replace(s, pull=None), t)
+        return 0, events + [("n",) + s.id]
+    return (s.pull if pick("pulled", timeout > 0, "above 0", "0") else 0), events
+
+
+def pull_timeout(i, generation, t):
+    s = sub_of(i, t)
+    if pick("timeoutAt", s is None, "none", "some"):
+        return []
+    if pick("fired", s.pull is None, "none", "some"):
+        return []
+    if not pick("fired some", s.pull == generation, "this pull", "another"):
+        return []
+    put_sub(i, replace(s, pull=None), t)
+    return [("n",) + s.id]
+
+
+def was_delivered(last, e):
+    return True if pick("wasDelivered", last < 0, "below 0", "from 0") else e.seq <= last
+
+
+def returned_from(last, flights):
+    found = []
+    for i in flights:
+        if not pick("returnedFrom", i.tx, "marked", "returns"):
+            found.append(redelivered(i.entry) if pick("returnedFrom returns", was_delivered(last, i.entry), "delivered", "not delivered") else i.entry)
+    return found
+
+
+def reserved_from(holder, flights):
+    return tuple((holder, i.entry) for i in flights if pick("reservedFrom", i.tx, "marked", "returns"))
+
+
+def returning(now, s, last, t):
+    if pick("returning", t.kind == "topic", "topic", "queue"):
+        return
+    if pick("returning queue", is_browser(s), "browser", "no browser"):
+        return
+    t.reserved += reserved_from(s.id, s.inflight)
+    reinsert(now, returned_from(last, s.inflight), t)
+
+
+def without(i, subs):
+    for k, s in enumerate(subs):
+        if pick("without", s.id == i, "this one", "another"):
+            return subs[:k] + subs[k + 1 :]
+    hit("without", "[]")
+    return subs
+
+
+def remove_sub(now, i, last, t):
+    s = sub_of(i, t)
+    if pick("removeAt", s is None, "none", "some"):
+        return 0, []
+    t.subs = without(i, t.subs)
+    t.rr = 0 if pick("dropSub", len(t.subs) <= t.rr, "turn 0", "turn stays") else t.rr
+    returning(now, s, last, t)
+    touch_idle(now, t)
+    return 1, dispatch(now, t)
+
+
+def release_reserved(now, i, t):
+    s = sub_of(i, t)
+    if pick("unmarked", s is not None, "present", "absent"):
+        put_sub(i, replace(s, inflight=tuple(replace(f, tx=False) for f in s.inflight)), t)
+    held = reserved_of(i, t)
+    if pick("releaseReserved", not held, "none reserved", "returned"):
+        return []
+    t.reserved = tuple((h, e) for h, e in t.reserved if h != i)
+    reinsert(now, [redelivered(e) for e in held], t)
+    return dispatch(now, t)
+
+
+def sooner(e, f):
+    if pick("sooner", f is None, "none", "some"):
+        return e
+    return e if pick("sooner some", (e.expiration, e.seq) < (f.expiration, f.seq), "this one", "the other") else f
+
+
+def soonest(now, entries):
+    found = None
+    for e in reversed(entries):
+        if pick("soonest", expired(now, e), "expired", "live"):
+            found = sooner(e, found)
+    return found
+
+
+def sweep_list(budget, now, entries):
+    gone = 0
+    while pick("sweepList", gone < budget, "budget", "no budget"):
+        e = soonest(now, entries)
+        if pick("sweepAt", e is None, "none", "some"):
+            break
+        entries = tuple(f for f in entries if f.seq != e.seq)
+        gone += 1
+    return entries, gone
+
+
+def sweep_expired(now, most, t):
+    t.pending, gone = sweep_list(most, now, t.pending)
+    swept = []
+    for s in each("sweepSubs", t.subs):
+        left, more = sweep_list(most - gone, now, s.tpending)
+        gone += more
+        swept.append(replace(s, tpending=left))
+    t.subs = tuple(swept)
+    t.count("expired", gone)
+    if pick("sweepExpired", gone > 0, "some", "none"):
+        touch_idle(now, t)
+    return gone, []
+
+
+def clear(t):
+    total = len(t.pending) + len(t.reserved) + sum(len(s.inflight) + len(s.tpending) for s in each("heldRows", t.subs))
+    t.pending = t.reserved = ()
+    for s in t.subs:
+        pick("emptied", s.browser is None, "none", "some")
+    t.subs = tuple(replace(s, inflight=(), freed=0, tpending=(), browser=s.browser and ()) for s in t.subs)
+    return total, []
+
+
+def is_producer(i, producers):
+    return any(i == j for j in each("isProducer", producers))
+
+
+def add_producer(i, t):
+    if not pick("addProducer", is_producer(i, t.producers), "registered", "new"):
+        t.producers += (i,)
+    t.idle = None
+    return 0, []
+
+
+def remove_producer(now, i, t):
+    t.audits = tuple(a for a in t.audits if a[0] != i)
+    t.producers = tuple(j for j in t.producers if j != i)
+    touch_idle(now, t)
+    return 0, []
+
+
+def is_duplicate(i, q, t):
+    order = dict(t.audits).get(i)
+    if pick("testAt", order is None, "none", "some"):
+        t.audits += ((i, (q,)),)
+        return 0, []
+    if pick("testAt some", q in order, "seen", "new"):
+        return 1, []
+    order += (q,)
+    order = order[1:] if pick("recorded", len(order) > 1024, "evicts", "has room") else order
+    t.audits = tuple((j, order if j == i else o) for j, o in t.audits)
+    return 0, []
+
+
+def release_audits(conn, t):
+    t.audits = tuple(a for a in t.audits if a[0][0] != conn)
+    return 0, []
+
+
+# ---- Calls
+
+
+def within(half, n):
+    return n < half if pick("within", n >= 0, "pos", "negsuc") else -n <= half
+
+
+def clock_ok(now):
+    return now <= 1 << 62
+
+
+def optional(test, k):
+    return True if pick("optional", k is None, "none", "some") else test(k)
+
+
+def entry_ok(e):
+    return 1 <= e.seq < 1 << 63 and within(1 << 31, e.redelivery)
+
+
+def spec_ok(p):
+    return within(1 << 31, p["prefetch"]) and p["selector"] <= 64
+
+
+def rows_of(s):
+    return [i.entry for i in s.inflight] + list(s.tpending) + list(shown(s.browser))
+
+
+def distinct(numbers):
+    return len(set(numbers)) == len(numbers)
+
+
+def ascending(numbers):
+    return all(a < b for a, b in zip(numbers, numbers[1:]))
+
+
+def seqs(entries):
+    return [e.seq for e in entries]
+
+
+def sub_placed(s, kind):
+    return not s.tpending if pick("subPlaced", kind == "queue", "queue", "topic") else not shown(s.browser)
+
+
+def sub_sound(kind, used, s):
+    most = 65536 * used + 1
+    return (
+        s.prefetch < 1 << 31
+        and s.selector <= 64
+        and all(map(entry_ok, rows_of(s)))
+        and s.cursor < 1 << 63
+        and distinct(seqs(rows_of(s)))
+        and s.freed == sum(i.freed for i in s.inflight)
+        and ascending([i.dseq for i in s.inflight] + [s.next_dseq])
+        and ascending(seqs(s.tpending))
+        and s.next_dseq <= most
+        and s.generation <= most
+        and optional(lambda g: g <= most, s.pull)
+        and sub_placed(s, kind)
+    )
+
+
+def taken(subs):
+    return [i.entry for s in each("taken", subs) if not pick("taken", is_browser(s), "browser", "no browser") for i in s.inflight]
+
+
+def placed(t):
+    if pick("placed", t.kind == "queue", "queue", "topic"):
+        return distinct(seqs(list(t.pending) + [e for _, e in t.reserved] + taken(t.subs)))
+    return not t.pending and not t.reserved
+
+
+def all_rows(t):
+    return list(t.pending) + [e for _, e in t.reserved] + [e for s in each("consumerRows", t.subs) for e in rows_of(s)]
+
+
+def sound(t):
+    most = 65536 * t.calls_used + 1
+    return (
+        1 <= t.call_limit <= 1 << 40
+        and t.calls_used <= t.call_limit
+        and t.topic_limit <= 512
+        and len(t.subs) <= 32
+        and len(t.producers) <= 32
+        and len(all_rows(t)) <= 512
+        and all(map(entry_ok, list(t.pending) + [e for _, e in t.reserved]))
+        and ascending(seqs(t.pending))
+        and all(sub_sound(t.kind, t.calls_used, s) for s in t.subs)
+        and distinct([s.id for s in each("distinctIds", t.subs)])
+        and placed(t)
+        and (t.rr < len(t.subs) or t.rr == 0)
+        and max(t.stats.values()) <= most
+        and optional(clock_ok, t.idle)
+        and len(t.audits) <= 8
+        and all(len(order) <= 1024 for _, order in t.audits)
+    )
+
+
+def rows_for(e, t):
+    return 1 if pick("rowsFor", t.kind == "queue", "queue", "topic") else sum(accepts(s, e) for s in t.subs)
+
+
+def snapshot_rows(now, p, t):
+    if not pick("snapshotRows", p["browser"], "browser", "no browser"):
+        return 0
+    return sum(not expired(now, e) and selects(e.match_word, p["selector"]) for e in t.pending)
+
+
+def own_refusal(code, ws, t):
+    where, rows = "ownRefusal " + ("asking" if CALLS[code].asks else CALLS[code].name), all_rows(t)
+    if code == 1:
+        if pick(where, ws[0] in seqs(rows), "4", "not 4"):
+            return 4
+        return 5 if pick(where, 512 - len(rows) < rows_for(entry_of(ws), t), "5", "0") else 0
+    if code == 2:
+        if pick(where, sub_of(ident(ws), t) is not None, "6", "not 6"):
+            return 6
+        if pick(where, len(t.subs) >= 32, "7", "not 7"):
+            return 7
+        return 5 if pick(where, 512 - len(rows) < snapshot_rows(ws[6], spec_of(ws), t), "5", "0") else 0
+    if code == 11:
+        return 8 if pick(where, not is_producer(ident(ws), t.producers) and len(t.producers) >= 32, "8", "0") else 0
+    if code == 13:
+        return 8 if pick(where, ws[0] != 0 and ident(ws) not in dict(t.audits) and len(t.audits) >= 8, "8", "0") else 0
+    hit(where, "0")
+    return 0
+
+
+def testing(w, t):
+    if pick("perform testing", w[0] == 0, "connection 0", "a producer"):
+        return 0, []
+    return is_duplicate(ident(w), w[3], t)
+
+
+# ---- Words
+
+
+def signed(w):
+    return w - WORD if w >= WORD // 2 else w
+
+
+def ident(ws):
+    return ws[0], signed(ws[1]), signed(ws[2])
+
+
+def unused_from(k, ws):
+    return not any(ws[k:])
+
+
+def present(flag, word):
+    return word if pick("present", flag, "some", "none") else None
+
+
+def ack_of(ws):
+    flags = ws[3]
+    return Ack(flags % 256, bool(flags >> 8 & 1), present(flags >> 9 & 1, ws[4]), present(flags >> 10 & 1, ws[5]), bool(flags >> 11 & 1))
+
+
+def ack_words(ws):
+    return ws[3] < 4096 and bool(ws[3] >> 9 & 1 or ws[4] == 0) and bool(ws[3] >> 10 & 1 or ws[5] == 0) and unused_from(7, ws)
+
+
+def entry_of(ws):
+    return Entry(ws[0], signed(ws[1]), ws[2] == 1, ws[3], ws[4], signed(ws[5]))
+
+
+def spec_of(ws):
+    return dict(id=ident(ws), prefetch=signed(ws[3]), selector=ws[4], no_local=bool(ws[5] & 1), browser=bool(ws[5] >> 1 & 1))
+
+
+@dataclass(frozen=True)
+class Call:
+    name: str  # its name in the definitions
+    asks: bool  # whether it is a request
+    right: object  # whether the words are right
+    in_range: object
+    perform: object
+
+
+CALLS = {
+    1: Call("enqueuing", False, lambda w: w[2] <= 1 and unused_from(7, w), lambda w: entry_ok(entry_of(w)) and clock_ok(w[6]),
+            lambda w, t: (0, enqueue(w[6], entry_of(w), t))),
+    2: Call("joining", False, lambda w: w[5] <= 3 and unused_from(7, w), lambda w: spec_ok(spec_of(w)) and clock_ok(w[6]),
+            lambda w, t: (0, add_sub(w[6], spec_of(w), t))),
+    3: Call("leaving", False, lambda w: unused_from(5, w), lambda w: clock_ok(w[4]),
+            lambda w, t: remove_sub(w[4], ident(w), signed(w[3]), t)),
+    4: Call("acknowledge", True, ack_words, lambda w: clock_ok(w[6]), lambda w, t: (0, ack(w[6], ident(w), ack_of(w), t))),
+    5: Call("pulling", True, lambda w: unused_from(5, w), lambda w: clock_ok(w[4]), lambda w, t: pull(w[4], ident(w), signed(w[3]), t)),
+    6: Call("timedOut", True, lambda w: unused_from(4, w), lambda w: True, lambda w, t: (0, pull_timeout(ident(w), w[3], t))),
+    7: Call("prefetching", True, lambda w: unused_from(5, w), lambda w: within(1 << 31, signed(w[3])) and clock_ok(w[4]),
+            lambda w, t: (0, set_prefetch(w[4], ident(w), signed(w[3]), t))),
+    8: Call("releasing", False, lambda w: unused_from(4, w), lambda w: clock_ok(w[3]), lambda w, t: (0, release_reserved(w[3], ident(w), t))),
+    9: Call("sweeping", False, lambda w: unused_from(2, w), lambda w: clock_ok(w[0]) and w[1] <= 512, lambda w, t: sweep_expired(w[0], w[1], t)),
+    10: Call("clearing", False, lambda w: unused_from(0, w), lambda w: True, lambda w, t: clear(t)),
+    11: Call("adding", False, lambda w: unused_from(3, w), lambda w: True, lambda w, t: add_producer(ident(w), t)),
+    12: Call("removing", False, lambda w: unused_from(4, w), lambda w: clock_ok(w[3]), lambda w, t: remove_producer(w[3], ident(w), t)),
+    13: Call("testing", False, lambda w: unused_from(4, w), lambda w: True, testing),
+    14: Call("forgetting", False, lambda w: unused_from(1, w), lambda w: True, lambda w, t: release_audits(w[0], t)),
+}
+
+
+def decode(code, ws):
+    """The call, or None where these are no arguments."""
+    call = CALLS.get(code)
+    if call is None:
+        hit("read", "none")
+        hit("inRange", "none")
+        return None
+    hit("read", f"code {code}")
+    if not pick(f"provided (code {code})", call.right(ws), "some", "none"):
+        hit("inRange", "none")
+        return None
+    hit("inRange", "some")
+    hit("argumentsOk", "asking" if call.asks else call.name)
+    return call if pick(("requestOk " if call.asks else "argumentsOk ") + call.name, call.in_range(ws), "in range", "out of range") else None
+
+
+def open_words(ws):
+    return ws[0] <= 1 and ws[1] <= 512 and 1 <= ws[2] <= 1 << 40 and clock_ok(ws[3]) and unused_from(4, ws)
+
+
+def open_step(ws, t):
+    if not pick("openStep", open_words(ws), "opened", "3"):
+        return 3, 0, [], t
+    kind = "queue" if pick("kindBy", ws[0] == 0, "true", "false") else "topic"
+    return 0, 0, [], Dest(kind=kind, topic_limit=ws[1], call_limit=ws[2], idle=ws[3])
+
+
+def refusal(code, ws, t):
+    if not pick("refusal", sound(t), "sound", "2"):
+        return 2
+    if pick("refusal", t.calls_used == t.call_limit, "9", "a call left"):
+        return 9
+    return own_refusal(code, ws, t)
+
+
+def step(code, ws, t):
+    """Refusal, answer, events and destination, on buffers that are long enough."""
+    if pick("step", code == 0, "open", "a call"):
+        return open_step(ws, t)
+    call = decode(code, ws)
+    if pick("callStep", call is None, "none", "some"):
+        return (3 if pick("callStep none", sound(t), "3", "2") else 2), 0, [], t
+    number = refusal(code, ws, t)
+    if not pick("call", number == 0, "done", "refused"):
+        return number, 0, [], t
+    hit("perform", "asking" if call.asks else call.name)
+    if call.asks:
+        hit("ask", call.name)
+    answer, events = call.perform(ws, t)
+    t.calls_used += 1
+    return 0, answer, events, t
+
+
+# ---- the call file
+
+
+def calls_of(block):
+    """The calls of a block, or None where it cannot be read."""
+    if len(block) < 512:
+        return None
+    count, check = struct.unpack_from("<II", block, 504)
+    if not 1 <= count <= 7 or check != sum((k + 1) * block[k] for k in range(508)):
+        return None
+    return [struct.unpack_from("<9Q", block, 72 * k) for k in range(count)]
+
+
+def run(data):
+    """The lines that a run prints."""
+    lines, t, index = [], Dest(), 0
+    for k in range(0, len(data), 512):
+        calls = calls_of(data[k : k + 512])
+        if calls is None:
+            lines.append(f"b {k // 512}")
+            break
+        for words in calls:
+            refusal, answer, events, t = step(words[0], words[1:], t)
+            lines.append(f"{index} {refusal} {answer}")
+            lines += [" ".join(map(str, e)) for e in events]
+            index += 1
+    return lines + ["= " + " ".join(str(t.stats[n]) for n in t.stats)]
+
+
+if __name__ == "__main__":
+    sys.stdout.write("\n".join(run(sys.stdin.buffer.read())) + "\n")

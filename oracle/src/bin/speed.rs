@@ -1,0 +1,182 @@
+//! speed [RUNS [CALLS [TRAFFIC [ROWS]]]]: replays the same calls through the broker's Rust and through the proved
+//! engine's library, and prints nanoseconds a call, as a table.
+//!
+//! The Rust's arguments are made beforehand, and its sends are taken between the timed parts. The
+//! library gets words. All calls are accepted by both, and compared in a run that is not timed.
+//! "Batch" is the library's entry for many calls, 256 at a time, which checks the state once for all.
+//! "Check" is a call with an unknown code, which is refused once the state was found sound.
+
+use std::env;
+use std::hint::black_box;
+use std::process::ExitCode;
+use std::time::{Duration, Instant};
+
+use destination_oracle::harness::callfile::Call;
+use destination_oracle::harness::engine::{Engine, Prepared};
+use destination_oracle::harness::library::{CallWords, Lent, Outcome, EVENTS};
+use destination_oracle::harness::sides;
+use destination_oracle::harness::traffic::{Traffic, PROFILES};
+
+const ROWS: [usize; 4] = [8, 64, 256, 512];
+
+/// So many calls run between two looks at the clock.
+const PART: usize = 256;
+
+/// Room for the events of a part's calls.
+const BATCH_EVENTS: usize = EVENTS + 16 * PART;
+
+const UNKNOWN: CallWords = CallWords {
+    code: 15,
+    words: [0; 8],
+};
+
+fn main() -> ExitCode {
+    let arguments: Vec<String> = env::args().skip(1).collect();
+    let number = |k: usize, other| arguments.get(k).map_or(Some(other), |a: &String| a.parse().ok());
+    let (Some(runs @ 1..), Some(calls @ 1..), Some(only), true) =
+        (number(0, 15), number(1, 4096), number(3, 0), arguments.len() <= 4)
+    else {
+        eprintln!("usage: speed [RUNS [CALLS [TRAFFIC [ROWS]]]]");
+        return ExitCode::from(64);
+    };
+    println!("{runs} runs of {calls} calls, ns a call, best (median)\n");
+    println!("| Traffic | Rows | Rust | Library | Ratio | Batch | Ratio | Check |");
+    println!("|---|---|---|---|---|---|---|---|");
+    for (name, make) in PROFILES {
+        if arguments.get(2).is_none_or(|wanted| wanted == name) {
+            for rows in ROWS.into_iter().filter(|rows| only == 0 || only == *rows) {
+                line(name, rows, &make(rows, calls), runs);
+            }
+        }
+    }
+    ExitCode::SUCCESS
+}
+
+fn line(name: &str, rows: usize, traffic: &Traffic, runs: usize) {
+    let all: Vec<Call> = [&traffic.before[..], &traffic.timed[..]].concat();
+    if let Some(d) = sides::first_difference(&all) {
+        panic!("{name}, {rows} rows, call {}: {} differs", d.index, d.what);
+    }
+    let mut times = [const { Vec::new() }; 4];
+    // The first run warms the buffers and the caches.
+    for run in 0..=runs {
+        let these = [rust(traffic), library(traffic), batch(traffic), check(traffic)];
+        if run > 0 {
+            for (list, parts) in times.iter_mut().zip(these) {
+                list.push(parts);
+            }
+        }
+    }
+    let [rust, library, batch, check] = times.map(|runs| best_and_median(&runs, traffic.timed.len()));
+    println!(
+        "| {name} | {rows} | {:.0} ({:.0}) | {:.0} ({:.0}) | {:.2} ({:.2}) | {:.0} ({:.0}) | {:.2} ({:.2}) | {:.0} ({:.0}) |",
+        rust.0,
+        rust.1,
+        library.0,
+        library.1,
+        library.0 / rust.0,
+        library.1 / rust.1,
+        batch.0,
+        batch.1,
+        batch.0 / rust.0,
+        batch.1 / rust.1,
+        check.0,
+        check.1
+    );
+}
+
+/// Nanoseconds a call: each part's best of all runs, and each part's median. A part that another
+/// process has interrupted so counts for nothing.
+fn best_and_median(runs: &[Vec<Duration>], calls: usize) -> (f64, f64) {
+    let mut sums = (0, 0);
+    for part in 0..runs[0].len() {
+        let mut times: Vec<u128> = runs.iter().map(|run| run[part].as_nanos()).collect();
+        times.sort();
+        sums.0 += times[0];
+        sums.1 += times[times.len() / 2];
+    }
+    (sums.0 as f64 / calls as f64, sums.1 as f64 / calls as f64)
+}
+
+fn rust(traffic: &Traffic) -> Vec<Duration> {
+    let mut engine = Engine::new();
+    for call in &traffic.before {
+        engine.call(call);
+    }
+    let mut prepared: Vec<Prepared> = traffic.timed.iter().map(|c| engine.prepare(c)).collect();
+    let mut times = Vec::new();
+    let mut letters = Vec::new();
+    for part in prepared.chunks_mut(PART) {
+        let dest = &engine.opened().expect("the first call opens").dest;
+        let mut sum = 0;
+        let start = Instant::now();
+        for call in part {
+            let (answer, effects) = call.run(dest);
+            sum += answer;
+            if !effects.is_empty() {
+                letters.push(effects);
+            }
+        }
+        times.push(start.elapsed());
+        black_box(sum);
+        letters.clear();
+        engine.drop_sent();
+    }
+    times
+}
+
+fn library(traffic: &Traffic) -> Vec<Duration> {
+    let mut lent = filled(traffic);
+    let words: Vec<CallWords> = traffic.timed.iter().map(CallWords::from).collect();
+    let mut times = Vec::new();
+    for part in words.chunks(PART) {
+        let mut sum = 0;
+        let start = Instant::now();
+        for call in part {
+            let outcome = lent.call(*call);
+            sum += outcome.answer + outcome.refusal;
+        }
+        times.push(start.elapsed());
+        black_box(sum);
+    }
+    times
+}
+
+fn batch(traffic: &Traffic) -> Vec<Duration> {
+    let mut lent = filled(traffic);
+    lent.events = vec![[0; 6]; BATCH_EVENTS];
+    let words: Vec<CallWords> = traffic.timed.iter().map(CallWords::from).collect();
+    let mut outcomes = vec![Outcome::default(); PART];
+    let mut times = Vec::new();
+    for part in words.chunks(PART) {
+        let start = Instant::now();
+        let done = lent.calls(part, &mut outcomes);
+        times.push(start.elapsed());
+        assert_eq!(done.calls, part.len(), "there is room for the events");
+    }
+    times
+}
+
+/// As many refused calls.
+fn check(traffic: &Traffic) -> Vec<Duration> {
+    let mut lent = filled(traffic);
+    let mut times = Vec::new();
+    for part in traffic.timed.chunks(PART) {
+        let mut sum = 0;
+        let start = Instant::now();
+        for _ in part {
+            sum += lent.call(black_box(UNKNOWN)).refusal;
+        }
+        times.push(start.elapsed());
+        assert_eq!(sum, 3 * part.len() as u64, "the state is sound");
+    }
+    times
+}
+
+fn filled(traffic: &Traffic) -> Lent {
+    let mut lent = Lent::new();
+    for call in &traffic.before {
+        lent.call(CallWords::from(call));
+    }
+    lent
+}
