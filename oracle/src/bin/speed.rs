@@ -1,8 +1,9 @@
 //! speed [RUNS [CALLS [TRAFFIC [ROWS]]]]: replays the same calls through the broker's Rust and through the proved
 //! engine's library, and prints nanoseconds a call, as a table.
 //!
-//! The Rust's arguments are made beforehand, and its sends are taken between the timed parts. The
-//! library gets words. All calls are accepted by both, and compared in a run that is not timed.
+//! "Rust" replays the calls from their words, as the library does: it makes the broker's message, identifiers and
+//! acknowledgement, runs the call and takes what was sent. For "prepared" they are made beforehand, and the sends are taken
+//! between the timed parts. All calls are accepted by both sides, and compared in a run that is not timed.
 //! "Batch" is the library's entry for many calls, 256 at a time, which checks the state once for all.
 //! "Check" is a call with an unknown code, which is refused once the state was found sound.
 
@@ -40,8 +41,8 @@ fn main() -> ExitCode {
         return ExitCode::from(64);
     };
     println!("{runs} runs of {calls} calls, ns a call, best (median)\n");
-    println!("| Traffic | Rows | Rust | Library | Ratio | Batch | Ratio | Check |");
-    println!("|---|---|---|---|---|---|---|---|");
+    println!("| Traffic | Rows | Rust | Prepared | Library | of Rust | of prepared | Batch | of Rust | of prepared | Check |");
+    println!("|---|---|---|---|---|---|---|---|---|---|---|");
     for (name, make) in PROFILES {
         if arguments.get(2).is_none_or(|wanted| wanted == name) {
             for rows in ROWS.into_iter().filter(|rows| only == 0 || only == *rows) {
@@ -57,37 +58,50 @@ fn line(name: &str, rows: usize, traffic: &Traffic, runs: usize) {
     if let Some(d) = sides::first_difference(&all) {
         panic!("{name}, {rows} rows, call {}: {} differs", d.index, d.what);
     }
-    let mut times = [const { Vec::new() }; 4];
+    let mut times = [const { Vec::new() }; 5];
     // The first run warms the buffers and the caches.
     for run in 0..=runs {
-        let these = [rust(traffic), library(traffic), batch(traffic), check(traffic)];
+        let these = [
+            replayed(traffic),
+            prepared(traffic),
+            library(traffic),
+            batch(traffic),
+            check(traffic),
+        ];
         if run > 0 {
             for (list, parts) in times.iter_mut().zip(these) {
                 list.push(parts);
             }
         }
     }
-    let [rust, library, batch, check] = times.map(|runs| best_and_median(&runs, traffic.timed.len()));
-    println!(
-        "| {name} | {rows} | {:.0} ({:.0}) | {:.0} ({:.0}) | {:.2} ({:.2}) | {:.0} ({:.0}) | {:.2} ({:.2}) | {:.0} ({:.0}) |",
-        rust.0,
-        rust.1,
-        library.0,
-        library.1,
-        library.0 / rust.0,
-        library.1 / rust.1,
-        batch.0,
-        batch.1,
-        batch.0 / rust.0,
-        batch.1 / rust.1,
-        check.0,
-        check.1
-    );
+    let [rust, prepared, library, batch, check] = times.map(|runs| best_and_median(&runs, traffic.timed.len()));
+    let cells = [
+        nanoseconds(rust),
+        nanoseconds(prepared),
+        nanoseconds(library),
+        ratio(library, rust),
+        ratio(library, prepared),
+        nanoseconds(batch),
+        ratio(batch, rust),
+        ratio(batch, prepared),
+        nanoseconds(check),
+    ];
+    println!("| {name} | {rows} | {} |", cells.join(" | "));
+}
+
+type BestAndMedian = (f64, f64);
+
+fn nanoseconds(time: BestAndMedian) -> String {
+    format!("{:.0} ({:.0})", time.0, time.1)
+}
+
+fn ratio(part: BestAndMedian, whole: BestAndMedian) -> String {
+    format!("{:.2} ({:.2})", part.0 / whole.0, part.1 / whole.1)
 }
 
 /// Nanoseconds a call: each part's best of all runs, and each part's median. A part that another
 /// process has interrupted so counts for nothing.
-fn best_and_median(runs: &[Vec<Duration>], calls: usize) -> (f64, f64) {
+fn best_and_median(runs: &[Vec<Duration>], calls: usize) -> BestAndMedian {
     let mut sums = (0, 0);
     for part in 0..runs[0].len() {
         let mut times: Vec<u128> = runs.iter().map(|run| run[part].as_nanos()).collect();
@@ -98,11 +112,35 @@ fn best_and_median(runs: &[Vec<Duration>], calls: usize) -> (f64, f64) {
     (sums.0 as f64 / calls as f64, sums.1 as f64 / calls as f64)
 }
 
-fn rust(traffic: &Traffic) -> Vec<Duration> {
+/// The broker after the calls that are not timed.
+fn broker(traffic: &Traffic) -> Engine {
     let mut engine = Engine::new();
     for call in &traffic.before {
         engine.call(call);
     }
+    engine
+}
+
+fn replayed(traffic: &Traffic) -> Vec<Duration> {
+    let mut engine = broker(traffic);
+    let mut times = Vec::new();
+    for part in traffic.timed.chunks(PART) {
+        let mut sum = 0;
+        let start = Instant::now();
+        for call in part {
+            let dest = &engine.opened().expect("the first call opens").dest;
+            let (answer, effects) = engine.prepare(call).run(dest);
+            sum += answer + effects.len() as u64;
+            engine.drop_sent();
+        }
+        times.push(start.elapsed());
+        black_box(sum);
+    }
+    times
+}
+
+fn prepared(traffic: &Traffic) -> Vec<Duration> {
+    let mut engine = broker(traffic);
     let mut prepared: Vec<Prepared> = traffic.timed.iter().map(|c| engine.prepare(c)).collect();
     let mut times = Vec::new();
     let mut letters = Vec::new();
