@@ -13,7 +13,7 @@ use Rattle.definition.specs.Types.{Entry, queue}
 use Rattle.definition.specs.Types as Def
 use Rattle.definition.specs.Consumer.{_⊕_, isBrowser, Browse, dispatchBrowser}
 use Rattle.definition.specs.Destination.{Browsed, browsers}
-use Rattle.definition.specs.Layout.{Row, inflightOf, heldOf, subsAt, subRows, eventWords}
+use Rattle.definition.specs.Layout.{Row, inflightOf, heldOf, eachSub, subsAt, subRows, eventWords}
 use Rattle.definition.proofs.Local.{⊕-zero, ⊕-assoc, alone}
 use Rattle.table.proofs.Lists.{slice-take, agree-drop}
 use Rattle.consumers.specs.Consumers.{subOf, subView}
@@ -49,7 +49,7 @@ whole now ws i base d subs rows events =
 -- at the start
 pub whole-start : (now : ℕ) (ws : List Row) (d : Head) (subs rows events : List Row) → whole now ws 0 0 d subs rows events
     ≡ ended [] (reservedRows (subRows ws) d rows) (d .stats) (take (d .events) events) (browsers now (subsAt queue ws rows) (map entryOf (waitingRows (subRows ws) d rows)))
-unfolding whole subsAt
+unfolding whole eachSub
 whole-start now ws d subs rows events =
     let e : 0 + subRows ws ≡ subRows ws = omega arith in
     ap (λ (n : ℕ). ended [] (reservedRows n d rows) (d .stats) (take (d .events) events) (browsers now (subsAt queue ws rows) (map entryOf (waitingRows n d rows)))) e
@@ -57,7 +57,7 @@ whole-start now ws d subs rows events =
 -- at the end
 pub whole-end : (now : ℕ) (ws : List Row) (i base : ℕ) (d : Head) (subs rows events : List Row) → i ≡ length ws → whole now ws i base d subs rows events
     ≡ record { subs = subsAt queue (take i subs) rows; reserved = reservedRows base d rows; pending = map entryOf (waitingRows base d rows); stats = d .stats; events = take (d .events) events }
-unfolding whole subsAt subRows browsers
+unfolding whole eachSub subRows browsers
 whole-end now ws i base d subs rows events e =
     let none : drop i ws ≡ [] = ap (λ (n : ℕ). drop n ws) e ∙ drop-length ws in
     let z : base + 0 ≡ base = omega arith in

@@ -81,14 +81,14 @@ fn send_snapshot(
         let first = base + s.inflight;
         let row = rows[first];
         let e = entry::entry_of(row);
-        if topics::expired_by(e, clock) {
+        if entry::expired_by(e, clock) {
             d = drop_waiting(rows, d, e.seq);
             table::close_gap(rows, first, 1, d.used);
             d.used = d.used - 1;
             s.held = s.held - 1;
         } else {
             d = state::push_message(events, d, s.conn, s.session, s.value, e.seq, e.redelivery);
-            rows[first] = topics::flown(row, s.next_dseq);
+            rows[first] = table::flown(row, s.next_dseq);
             s = sent(s);
         }
     }
@@ -166,7 +166,7 @@ pub fn serve_browsers(
 ) -> Head
     ensures { λ r. ⌜ LeavesIf (fits (now (subs .entry)) d (length (now (rows .entry))) (length (now (events .entry))) && (leb clock (2 ^ 62) && d .queue)) (Served d r (now (subs .exit))) (browsed clock) d r (now (subs .entry)) (now (rows .entry)) (now (events .entry)) (now (subs .exit)) (now (rows .exit)) (now (events .exit)) ⌝ }
 {
-    if topics::CLOCK_MOST < clock {
+    if entry::CLOCK_MOST < clock {
         return d;
     }
     if !d.queue {

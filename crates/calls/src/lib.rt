@@ -11,9 +11,7 @@ ghost use Rattle.calls.specs.Ranges.{enqueues, joins, acks, timed, prefe
 use entry::Entry;
 use model::Id;
 
-// No clock is above 2^62, no call limit above 2^40, no sequence number above 2^63 - 1.
-const CLOCK_MOST: u64 = 4611686018427387904;
-
+// No call limit is above 2^40, no sequence number above 2^63 - 1.
 const CALLS_MOST: u64 = 1099511627776;
 
 const SEQ_END: u64 = 9223372036854775808;
@@ -67,7 +65,7 @@ impl Call {
     {
         let w = self.words;
         let limits = (w[1] <= 512) & (1 <= w[2]) & (w[2] <= CALLS_MOST);
-        (w[0] <= 1) & limits & (w[3] <= CLOCK_MOST) & unused(w, 4)
+        (w[0] <= 1) & limits & (w[3] <= entry::CLOCK_MOST) & unused(w, 4)
     }
 
     // Whether the code is one of 1 to 14, and the words are its arguments: in range, and the unused ones 0.
@@ -164,14 +162,14 @@ fn enqueue_ok(w: [u64; 8]) -> bool
 {
     let seq = w[0];
     let known = (w[2] <= 1) & unused(w, 7);
-    known & (1 <= seq) & (seq < SEQ_END) & words::is_int(w[5]) & (w[6] <= CLOCK_MOST)
+    known & (1 <= seq) & (seq < SEQ_END) & words::is_int(w[5]) & (w[6] <= entry::CLOCK_MOST)
 }
 
 fn join_ok(w: [u64; 8]) -> bool
     ensures { λ r. ⌜ r ≡ joins w ⌝ }
 {
     let known = (w[5] <= 3) & unused(w, 7);
-    known & words::is_int(w[3]) & (w[4] <= entry::NO_SELECTOR) & (w[6] <= CLOCK_MOST)
+    known & words::is_int(w[3]) & (w[4] <= entry::NO_SELECTOR) & (w[6] <= entry::CLOCK_MOST)
 }
 
 // The word of an absent first or last is unused.
@@ -180,31 +178,31 @@ fn ack_ok(w: [u64; 8]) -> bool
 {
     let first = flag_of(w[3], 9) | (w[4] == 0);
     let last = flag_of(w[3], 10) | (w[5] == 0);
-    (w[3] < 4096) & first & last & unused(w, 7) & (w[6] <= CLOCK_MOST)
+    (w[3] < 4096) & first & last & unused(w, 7) & (w[6] <= entry::CLOCK_MOST)
 }
 
 // Identifier, any number, clock.
 fn timed_ok(w: [u64; 8]) -> bool
     ensures { λ r. ⌜ r ≡ timed w ⌝ }
 {
-    unused(w, 5) & (w[4] <= CLOCK_MOST)
+    unused(w, 5) & (w[4] <= entry::CLOCK_MOST)
 }
 
 fn prefetch_ok(w: [u64; 8]) -> bool
     ensures { λ r. ⌜ r ≡ prefetches w ⌝ }
 {
-    unused(w, 5) & words::is_int(w[3]) & (w[4] <= CLOCK_MOST)
+    unused(w, 5) & words::is_int(w[3]) & (w[4] <= entry::CLOCK_MOST)
 }
 
 // Identifier, clock.
 fn clocked_ok(w: [u64; 8]) -> bool
     ensures { λ r. ⌜ r ≡ clocked w ⌝ }
 {
-    unused(w, 4) & (w[3] <= CLOCK_MOST)
+    unused(w, 4) & (w[3] <= entry::CLOCK_MOST)
 }
 
 fn sweep_ok(w: [u64; 8]) -> bool
     ensures { λ r. ⌜ r ≡ sweeps w ⌝ }
 {
-    unused(w, 2) & (w[0] <= CLOCK_MOST) & (w[1] <= 512)
+    unused(w, 2) & (w[0] <= entry::CLOCK_MOST) & (w[1] <= 512)
 }

@@ -20,7 +20,7 @@ use Rattle.definition.specs.Destination.{holdBack, cleared, emptied, heldRows}
 use Rattle.definition.specs.Calls.{rowsOf, consumerRows, seqs}
 use Rattle.definition.specs.Queries.{isQueue}
 use Rattle.definition.specs.Words.{at}
-use Rattle.definition.specs.Layout.{Row, flag, inflightAt, inflightOf, heldOf, browserAt, tpendingAt, subAt, subsAt, subRows}
+use Rattle.definition.specs.Layout.{Row, flag, inflightAt, inflightOf, heldOf, browserAt, tpendingAt, subAt, eachSub, subsAt, subRows}
 use Rattle.consumers.specs.declared.Sub.{Sub}
 use Rattle.consumers.specs.Consumers.{subOf, subView, creditOf, acceptsOf, heldBack, clearedOf}
 use Rattle.consumers.proofs.View.{sub-at, inflight-loaded}
@@ -93,7 +93,7 @@ hold-back-rows seq [] = refl
 hold-back-rows seq (w ∷ ws) = ap (λ (n : ℕ). inflightOf w + (heldOf w + n)) (hold-back-rows seq ws)
 
 pub hold-back-subs : (k : Kind) (seq : ℕ) (ws rows : List Row) → subsAt k (map (heldBackRow seq) ws) rows ≡ map (holdBack seq) (subsAt k ws rows)
-unfolding subsAt subAt heldBackRow
+unfolding eachSub subAt heldBackRow
 hold-back-subs k seq [] rows = refl
 hold-back-subs k seq (w ∷ ws) rows =
     let f : List Row = take (inflightOf w) rows in
@@ -106,7 +106,7 @@ clear-rows [] = refl
 clear-rows (w ∷ ws) = rw (clear-rows ws)
 
 pub clear-subs : (k : Kind) (ws rows after : List Row) → subsAt k (map clearedRow ws) after ≡ map cleared (subsAt k ws rows)
-unfolding subsAt subAt clearedRow
+unfolding eachSub subAt clearedRow
 clear-subs k [] rows after = refl
 clear-subs k (w ∷ ws) rows after =
     let h : List Row = take (heldOf w) (drop (inflightOf w) rows) in
@@ -133,7 +133,7 @@ removed-first at n ws h g =
     ∙ ap (λ (x : List Row). x ++ b) (sym (take-take at n ws (omega arith))))
 
 pub tally-subs : (k : Kind) (e : Entry) (ws rows : List Row) → tally (λ s. accepts s e) (subsAt k ws rows) ≡ tally (takes e) ws
-unfolding subsAt subAt accepts acceptsOf subOf
+unfolding eachSub subAt accepts acceptsOf subOf
 tally-subs k e [] rows = refl
 tally-subs k e (w ∷ ws) rows = ap (λ (n : ℕ). (if takes e w then 1 else 0) + n) (tally-subs k e ws (drop (heldOf w) (drop (inflightOf w) rows)))
 
@@ -157,7 +157,7 @@ pub rows-of-length : (k : Kind) (w : Row) (f h : List Row) → length (rowsOf (s
 rows-of-length k w f h = ap length (rows-of-sub k w f h) ∙ length-map (f ++ h) entryOf ∙ length-append f h
 
 pub consumer-rows : (k : Kind) (ws rows : List Row) → consumerRows (subsAt k ws rows) ≡ map entryOf (take (subRows ws) rows)
-unfolding subsAt subRows
+unfolding eachSub subRows
 consumer-rows k [] rows = refl
 consumer-rows k (w ∷ ws) rows =
     let a : ℕ = inflightOf w in
@@ -183,7 +183,7 @@ pending-length queue false l = refl
 pending-length topic b l = refl
 
 pub held-subs : (k : Kind) (ws rows : List Row) → subRows ws ≤ length rows → heldRows (subsAt k ws rows) ≡ keptRows (isQueue k) ws
-unfolding subsAt subAt subRows keptRows
+unfolding eachSub subAt subRows keptRows
 held-subs k [] rows h = refl
 held-subs k (w ∷ ws) rows h =
     let a : ℕ = inflightOf w in

@@ -1,6 +1,7 @@
 pub mod Laws
 pub mod Lists
 pub mod Seek
+pub mod Strict
 pub mod Table
 pub mod View
 pub mod Words

@@ -14,7 +14,7 @@ use Rattle.definition.specs.Base.{find, put, nth}
 use Rattle.definition.specs.Types.{Kind}
 use Rattle.definition.specs.Types as Def
 use Rattle.definition.specs.Destination.{isId, without}
-use Rattle.definition.specs.Layout.{Row, idAt, subAt, subsAt}
+use Rattle.definition.specs.Layout.{Row, idAt, subAt, eachSub, subsAt}
 use Rattle.consumers.specs.declared.Found.the-variants.{At, Nothing}
 use Rattle.consumers.specs.Seats.{subIn}
 use Rattle.consumers.specs.Table.{positionFrom}
@@ -83,12 +83,12 @@ miss m id (w ∷ ws) e = by-test (rowIs id w)
 
 -- the table's place is the view's
 first-sub : (k : Kind) (id : Id) {ws : List Row} {i : ℕ} (rows : List Row) → First (rowIs id) ws i → First (isId id) (subsAt k ws rows) i
-unfolding subsAt subAt
+unfolding eachSub subAt
 first-sub k id rows (here t) = here t
 first-sub k id rows (there t f) = there t (first-sub k id _ f)
 
 never-sub : (k : Kind) (id : Id) {ws : List Row} (rows : List Row) → Never (rowIs id) ws → Never (isId id) (subsAt k ws rows)
-unfolding subsAt subAt
+unfolding eachSub subAt
 never-sub k id rows nowhere = nowhere
 never-sub k id rows (not-here t f) = not-here t (never-sub k id _ f)
 

@@ -10,7 +10,7 @@ use lib.Seq.{length-take-le, take-nil, take-at, drop-at, take-append-le, take-ta
 use Rattle.definition.specs.Base.{nth}
 use Rattle.definition.specs.Types.{Kind}
 use Rattle.definition.specs.Types as Def
-use Rattle.definition.specs.Layout.{Row, inflightOf, heldOf, subAt, subsAt, subRows}
+use Rattle.definition.specs.Layout.{Row, inflightOf, heldOf, subAt, eachSub, subsAt, subRows}
 use Rattle.consumers.specs.declared.Sub.{Sub}
 use Rattle.consumers.specs.Consumers.{subOf, subWords, subView}
 use Rattle.consumers.specs.Seats.{fromIn, flyingIn, heldIn, afterIn, subIn}
@@ -75,153 +75,207 @@ pub rows-gone : (ws : List Row) (i : ℕ) → i < length ws
     → subRows (take i ws ++ drop (suc i) ws) + (inflightOf (getD ws i []) + heldOf (getD ws i [])) ≡ subRows ws
 rows-gone ws i h = omega (arith, rows-append (take i ws) (drop (suc i) ws), rows-split ws i h)
 
--- ---- the view in parts
-
-pub subs-length : (k : Kind) (ws rows : List Row) → length (subsAt k ws rows) ≡ length ws
-unfolding subsAt
-subs-length k [] rows = refl
-subs-length k (w ∷ ws) rows = ap suc (subs-length k ws _)
+-- ---- the consumers in parts, whatever is read of each with its rows
 
 drop-three : (a b c : ℕ) (l : List Row) → drop c (drop b (drop a l)) ≡ drop (a + (b + c)) l
 drop-three a b c l = drop-drop c b (drop a l) ∙ drop-drop (b + c) a l
-
--- some consumers, then others
-pub subs-append : (k : Kind) (ws vs rows : List Row) → subsAt k (ws ++ vs) rows ≡ subsAt k ws rows ++ subsAt k vs (drop (subRows ws) rows)
-unfolding subsAt subRows
-subs-append k [] vs rows = refl
-subs-append k (w ∷ ws) vs rows =
-    let f : List Row = take (inflightOf w) rows in
-    let h : List Row = take (heldOf w) (drop (inflightOf w) rows) in
-    let r : List Row = drop (heldOf w) (drop (inflightOf w) rows) in
-    ap (λ (l : List Def.Sub). subAt k w f h ∷ l)
-    (subs-append k ws vs r ∙ ap (λ (l : List Row). subsAt k ws r ++ subsAt k vs l) (drop-three (inflightOf w) (heldOf w) (subRows ws) rows))
 
 front-drop : (a b : ℕ) (l : List Row) → drop a (take (a + b) l) ≡ take b (drop a l)
 front-drop zero b l = ap (λ (n : ℕ). take n l) (zero-add b)
 front-drop (suc a) b [] = rw (suc-add a b) (sym (take-nil b))
 front-drop (suc a) b (x ∷ l) = rw (suc-add a b) (front-drop a b l)
 
--- the view looks at no row past the consumers' own
-pub subs-front : (k : Kind) (ws : List Row) (n : ℕ) (rows : List Row) → subRows ws ≤ n → subsAt k ws (take n rows) ≡ subsAt k ws rows
-unfolding subsAt subRows
-subs-front k [] n rows h = refl
-subs-front k (w ∷ ws) n rows h =
-    let a : ℕ = inflightOf w in
-    let b : ℕ = heldOf w in
-    let m : ℕ = n - a - b in
-    let e : a + (n - a) ≡ n = omega arith in
-    let g : b + m ≡ n - a = omega arith in
-    let one : drop a (take n rows) ≡ take (n - a) (drop a rows) = ap (λ (j : ℕ). drop a (take j rows)) (sym e) ∙ front-drop a (n - a) rows in
-    let two : drop b (drop a (take n rows)) ≡ take m (drop b (drop a rows)) =
-    ap (drop b) (one ∙ ap (λ (j : ℕ). take j (drop a rows)) (sym g)) ∙ front-drop b m (drop a rows) in
-    let f : take a (take n rows) ≡ take a rows = take-take a n rows (omega arith) in
-    let l : take b (drop a (take n rows)) ≡ take b (drop a rows) = ap (take b) one ∙ take-take b (n - a) (drop a rows) (omega arith) in
-    let r : subsAt k ws (drop b (drop a (take n rows))) ≡ subsAt k ws (drop b (drop a rows)) =
-    ap (subsAt k ws) two ∙ subs-front k ws m (drop b (drop a rows)) (omega arith) in
-    λ i. subAt k w (f i) (l i) ∷ r i
+module _ {A : Type 0} where
+  nth-at : (p : List A) (x : A) (q : List A) → nth (length p) (p ++ x ∷ q) ≡ some x
+  nth-at [] x q = refl
+  nth-at (y ∷ p) x q = nth-at p x q
 
-pub subs-agree : (k : Kind) (ws : List Row) (n : ℕ) (x y : List Row) → subRows ws ≤ n → take n x ≡ take n y → subsAt k ws x ≡ subsAt k ws y
-subs-agree k ws n x y h q = sym (subs-front k ws n x h) ∙ ap (subsAt k ws) q ∙ subs-front k ws n y h
+  drop-past : (p : List A) (x : A) (q : List A) → drop (suc (length p)) (p ++ x ∷ q) ≡ q
+  drop-past [] x q = refl
+  drop-past (y ∷ p) x q = drop-past p x q
 
-pub subs-before : (k : Kind) (ws a c : List Row) → subRows ws ≤ length a → subsAt k ws (a ++ c) ≡ subsAt k ws a
-subs-before k ws a c h = subs-agree k ws (subRows ws) (a ++ c) a (omega arith) (take-append-le (subRows ws) a c h)
+module _ {A : Type 0} (of : Row → List Row → List Row → A) where
+  pub each-length : (ws rows : List Row) → length (eachSub of ws rows) ≡ length ws
+  unfolding eachSub
+  each-length [] rows = refl
+  each-length (w ∷ ws) rows = ap suc (each-length ws _)
 
--- a consumer with its rows, those before it and those after it
-module _ (k : Kind) (w : Row) (f h : List Row) (p : length f ≡ inflightOf w) (q : length h ≡ heldOf w) where
-  subs-cons : (vs c : List Row) → subsAt k (w ∷ vs) (f ++ (h ++ c)) ≡ subAt k w f h ∷ subsAt k vs c
-  unfolding subsAt
-  subs-cons vs c =
-      let d : drop (inflightOf w) (f ++ (h ++ c)) ≡ h ++ c = drop-at f (h ++ c) (inflightOf w) p in
-      let one : take (inflightOf w) (f ++ (h ++ c)) ≡ f = take-at f (h ++ c) (inflightOf w) p in
-      let two : take (heldOf w) (drop (inflightOf w) (f ++ (h ++ c))) ≡ h = ap (take (heldOf w)) d ∙ take-at h c (heldOf w) q in
-      let three : drop (heldOf w) (drop (inflightOf w) (f ++ (h ++ c))) ≡ c = ap (drop (heldOf w)) d ∙ drop-at h c (heldOf w) q in
-      λ i. subAt k w (one i) (two i) ∷ subsAt k vs (three i)
+  -- some consumers, then others
+  pub each-append : (ws vs rows : List Row) → eachSub of (ws ++ vs) rows ≡ eachSub of ws rows ++ eachSub of vs (drop (subRows ws) rows)
+  unfolding eachSub subRows
+  each-append [] vs rows = refl
+  each-append (w ∷ ws) vs rows =
+      let f : List Row = take (inflightOf w) rows in
+      let h : List Row = take (heldOf w) (drop (inflightOf w) rows) in
+      let r : List Row = drop (heldOf w) (drop (inflightOf w) rows) in
+      ap (λ (l : List A). of w f h ∷ l)
+      (each-append ws vs r ∙ ap (λ (l : List Row). eachSub of ws r ++ eachSub of vs l) (drop-three (inflightOf w) (heldOf w) (subRows ws) rows))
 
-  pub subs-around : (ws vs a c : List Row) → length a ≡ subRows ws → subsAt k (ws ++ w ∷ vs) (a ++ (f ++ (h ++ c))) ≡ subsAt k ws a ++ subAt k w f h ∷ subsAt k vs c
-  subs-around ws vs a c e =
-      subs-append k ws (w ∷ vs) (a ++ (f ++ (h ++ c)))
-      ∙ ap₂ (λ (x : List Def.Sub) (y : List Row). x ++ subsAt k (w ∷ vs) y) (subs-before k ws a (f ++ (h ++ c)) (omega arith)) (drop-at a (f ++ (h ++ c)) (subRows ws) e)
-      ∙ ap (λ (x : List Def.Sub). subsAt k ws a ++ x) (subs-cons vs c)
+  -- no row past the consumers' own is looked at
+  pub each-front : (ws : List Row) (n : ℕ) (rows : List Row) → subRows ws ≤ n → eachSub of ws (take n rows) ≡ eachSub of ws rows
+  unfolding eachSub subRows
+  each-front [] n rows h = refl
+  each-front (w ∷ ws) n rows h =
+      let a : ℕ = inflightOf w in
+      let b : ℕ = heldOf w in
+      let m : ℕ = n - a - b in
+      let e : a + (n - a) ≡ n = omega arith in
+      let g : b + m ≡ n - a = omega arith in
+      let one : drop a (take n rows) ≡ take (n - a) (drop a rows) = ap (λ (j : ℕ). drop a (take j rows)) (sym e) ∙ front-drop a (n - a) rows in
+      let two : drop b (drop a (take n rows)) ≡ take m (drop b (drop a rows)) =
+      ap (drop b) (one ∙ ap (λ (j : ℕ). take j (drop a rows)) (sym g)) ∙ front-drop b m (drop a rows) in
+      let f : take a (take n rows) ≡ take a rows = take-take a n rows (omega arith) in
+      let l : take b (drop a (take n rows)) ≡ take b (drop a rows) = ap (take b) one ∙ take-take b (n - a) (drop a rows) (omega arith) in
+      let r : eachSub of ws (drop b (drop a (take n rows))) ≡ eachSub of ws (drop b (drop a rows)) =
+      ap (eachSub of ws) two ∙ each-front ws m (drop b (drop a rows)) (omega arith) in
+      λ i. of w (f i) (l i) ∷ r i
 
--- ---- at a place
+  pub each-agree : (ws : List Row) (n : ℕ) (x y : List Row) → subRows ws ≤ n → take n x ≡ take n y → eachSub of ws x ≡ eachSub of ws y
+  each-agree ws n x y h q = sym (each-front ws n x h) ∙ ap (eachSub of ws) q ∙ each-front ws n y h
 
-pub subs-split : (k : Kind) (ws rows : List Row) (i : ℕ) → i < length ws
-    → subsAt k ws rows ≡ subsAt k (take i ws) rows ++ subIn k ws rows i ∷ subsAt k (drop (suc i) ws) (afterIn ws rows i)
-unfolding subsAt
-subs-split k ws rows i h = ap (λ (l : List Row). subsAt k l rows) (split-at ws i [] h) ∙ subs-append k (take i ws) (getD ws i [] ∷ drop (suc i) ws) rows
+  pub each-before : (ws a c : List Row) → subRows ws ≤ length a → eachSub of ws (a ++ c) ≡ eachSub of ws a
+  each-before ws a c h = each-agree ws (subRows ws) (a ++ c) a (omega arith) (take-append-le (subRows ws) a c h)
 
-head-length : (k : Kind) (ws rows : List Row) (i : ℕ) → i < length ws → length (subsAt k (take i ws) rows) ≡ i
-head-length k ws rows i h = subs-length k (take i ws) rows ∙ length-take-le i ws (omega arith)
+  -- a consumer with its rows, those before it and those after it
+  module _ (w : Row) (f h : List Row) (p : length f ≡ inflightOf w) (q : length h ≡ heldOf w) where
+    each-cons : (vs c : List Row) → eachSub of (w ∷ vs) (f ++ (h ++ c)) ≡ of w f h ∷ eachSub of vs c
+    unfolding eachSub
+    each-cons vs c =
+        let d : drop (inflightOf w) (f ++ (h ++ c)) ≡ h ++ c = drop-at f (h ++ c) (inflightOf w) p in
+        let one : take (inflightOf w) (f ++ (h ++ c)) ≡ f = take-at f (h ++ c) (inflightOf w) p in
+        let two : take (heldOf w) (drop (inflightOf w) (f ++ (h ++ c))) ≡ h = ap (take (heldOf w)) d ∙ take-at h c (heldOf w) q in
+        let three : drop (heldOf w) (drop (inflightOf w) (f ++ (h ++ c))) ≡ c = ap (drop (heldOf w)) d ∙ drop-at h c (heldOf w) q in
+        λ i. of w (one i) (two i) ∷ eachSub of vs (three i)
 
-nth-at : (p : List Def.Sub) (x : Def.Sub) (q : List Def.Sub) → nth (length p) (p ++ x ∷ q) ≡ some x
-nth-at [] x q = refl
-nth-at (y ∷ p) x q = nth-at p x q
+    pub each-around : (ws vs a c : List Row) → length a ≡ subRows ws → eachSub of (ws ++ w ∷ vs) (a ++ (f ++ (h ++ c))) ≡ eachSub of ws a ++ of w f h ∷ eachSub of vs c
+    each-around ws vs a c e =
+        each-append ws (w ∷ vs) (a ++ (f ++ (h ++ c)))
+        ∙ ap₂ (λ (x : List A) (y : List Row). x ++ eachSub of (w ∷ vs) y) (each-before ws a (f ++ (h ++ c)) (omega arith)) (drop-at a (f ++ (h ++ c)) (subRows ws) e)
+        ∙ ap (λ (x : List A). eachSub of ws a ++ x) (each-cons vs c)
 
-drop-past : (p : List Def.Sub) (x : Def.Sub) (q : List Def.Sub) → drop (suc (length p)) (p ++ x ∷ q) ≡ q
-drop-past [] x q = refl
-drop-past (y ∷ p) x q = drop-past p x q
+  -- what is read of the consumer at a place
+  abbrev pub ofIn : List Row → List Row → ℕ → A
+  ofIn ws rows i = of (getD ws i []) (flyingIn ws rows i) (heldIn ws rows i)
 
-pub subs-nth : (k : Kind) (ws rows : List Row) (i : ℕ) → i < length ws → nth i (subsAt k ws rows) ≡ some (subIn k ws rows i)
-subs-nth k ws rows i h =
-    let a : List Def.Sub = subsAt k (take i ws) rows in
-    let b : List Def.Sub = subsAt k (drop (suc i) ws) (afterIn ws rows i) in
-    ap₂ nth (sym (head-length k ws rows i h)) (subs-split k ws rows i h) ∙ nth-at a (subIn k ws rows i) b
+  pub each-split : (ws rows : List Row) (i : ℕ) → i < length ws
+      → eachSub of ws rows ≡ eachSub of (take i ws) rows ++ ofIn ws rows i ∷ eachSub of (drop (suc i) ws) (afterIn ws rows i)
+  unfolding eachSub
+  each-split ws rows i h = ap (λ (l : List Row). eachSub of l rows) (split-at ws i [] h) ∙ each-append (take i ws) (getD ws i [] ∷ drop (suc i) ws) rows
 
-pub subs-nth-none : (k : Kind) (ws rows : List Row) (i : ℕ) → length ws ≤ i → nth i (subsAt k ws rows) ≡ none
-unfolding subsAt
-subs-nth-none k [] rows i h = refl
-subs-nth-none k (w ∷ ws) rows zero h = absurd (not-suc-le-zero h)
-subs-nth-none k (w ∷ ws) rows (suc i) h = subs-nth-none k ws _ i (le-of-suc-le-suc h)
+  head-length : (ws rows : List Row) (i : ℕ) → i < length ws → length (eachSub of (take i ws) rows) ≡ i
+  head-length ws rows i h = each-length (take i ws) rows ∙ length-take-le i ws (omega arith)
 
-pub subs-set : (k : Kind) (ws rows : List Row) (i : ℕ) (s : Def.Sub) → i < length ws
-    → set (subsAt k ws rows) i s ≡ subsAt k (take i ws) rows ++ s ∷ subsAt k (drop (suc i) ws) (afterIn ws rows i)
-subs-set k ws rows i s h =
-    let a : List Def.Sub = subsAt k (take i ws) rows in
-    let b : List Def.Sub = subsAt k (drop (suc i) ws) (afterIn ws rows i) in
-    ap (λ (l : List Def.Sub). set l i s) (subs-split k ws rows i h) ∙ set-at a (subIn k ws rows i) b s i (head-length k ws rows i h)
+  pub each-nth : (ws rows : List Row) (i : ℕ) → i < length ws → nth i (eachSub of ws rows) ≡ some (ofIn ws rows i)
+  each-nth ws rows i h =
+      let a : List A = eachSub of (take i ws) rows in
+      let b : List A = eachSub of (drop (suc i) ws) (afterIn ws rows i) in
+      ap₂ nth (sym (head-length ws rows i h)) (each-split ws rows i h) ∙ nth-at a (ofIn ws rows i) b
 
--- another consumer in the place, with other rows; the rows before are as they were, and the later consumers see what they saw
-pub subs-put : (k : Kind) (ws rows : List Row) (i : ℕ) (w : Row) (f h c : List Row) → i < length ws → subRows (take i ws) ≤ length rows
-    → length f ≡ inflightOf w → length h ≡ heldOf w → subsAt k (drop (suc i) ws) c ≡ subsAt k (drop (suc i) ws) (afterIn ws rows i)
-    → subsAt k (set ws i w) (take (subRows (take i ws)) rows ++ (f ++ (h ++ c))) ≡ set (subsAt k ws rows) i (subAt k w f h)
-subs-put k ws rows i w f h c b e p q r =
-    let n : ℕ = subRows (take i ws) in
-    let a : List Row = take n rows in
-    ap (λ (l : List Row). subsAt k l (a ++ (f ++ (h ++ c)))) (set-split ws i w b)
-    ∙ subs-around k w f h p q (take i ws) (drop (suc i) ws) a c (length-take-le n rows e)
-    ∙ ap₂ (λ (x y : List Def.Sub). x ++ subAt k w f h ∷ y) (subs-front k (take i ws) n rows (omega arith)) r
-    ∙ sym (subs-set k ws rows i (subAt k w f h) b)
+  pub each-nth-none : (ws rows : List Row) (i : ℕ) → length ws ≤ i → nth i (eachSub of ws rows) ≡ none
+  unfolding eachSub
+  each-nth-none [] rows i h = refl
+  each-nth-none (w ∷ ws) rows zero h = absurd (not-suc-le-zero h)
+  each-nth-none (w ∷ ws) rows (suc i) h = each-nth-none ws _ i (le-of-suc-le-suc h)
 
--- another consumer with the same rows
-pub subs-reword : (k : Kind) (ws rows : List Row) (i : ℕ) (w : Row) → i < length ws → inflightOf w ≡ inflightOf (getD ws i []) → heldOf w ≡ heldOf (getD ws i [])
-    → subsAt k (set ws i w) rows ≡ set (subsAt k ws rows) i (subAt k w (flyingIn ws rows i) (heldIn ws rows i))
-unfolding subsAt
-subs-reword k ws rows i w b p q =
-    let r : List Row = fromIn ws rows i in
-    ap (λ (l : List Row). subsAt k l rows) (set-split ws i w b)
-    ∙ subs-append k (take i ws) (w ∷ drop (suc i) ws) rows
-    ∙ ap₂ (λ (m n : ℕ). subsAt k (take i ws) rows ++ subAt k w (take m r) (take n (drop m r)) ∷ subsAt k (drop (suc i) ws) (drop n (drop m r))) p q
-    ∙ sym (subs-set k ws rows i (subAt k w (flyingIn ws rows i) (heldIn ws rows i)) b)
+  pub each-set : (ws rows : List Row) (i : ℕ) (s : A) → i < length ws
+      → set (eachSub of ws rows) i s ≡ eachSub of (take i ws) rows ++ s ∷ eachSub of (drop (suc i) ws) (afterIn ws rows i)
+  each-set ws rows i s h =
+      let a : List A = eachSub of (take i ws) rows in
+      let b : List A = eachSub of (drop (suc i) ws) (afterIn ws rows i) in
+      ap (λ (l : List A). set l i s) (each-split ws rows i h) ∙ set-at a (ofIn ws rows i) b s i (head-length ws rows i h)
 
--- the consumer and its rows gone
-pub subs-gone : (k : Kind) (ws rows : List Row) (i : ℕ) (c : List Row) → i < length ws → subRows (take i ws) ≤ length rows
-    → subsAt k (drop (suc i) ws) c ≡ subsAt k (drop (suc i) ws) (afterIn ws rows i)
-    → subsAt k (take i ws ++ drop (suc i) ws) (take (subRows (take i ws)) rows ++ c) ≡ take i (subsAt k ws rows) ++ drop (suc i) (subsAt k ws rows)
-subs-gone k ws rows i c b e r =
-    let n : ℕ = subRows (take i ws) in
-    let a : List Row = take n rows in
-    let l : length a ≡ n = length-take-le n rows e in
-    let x : List Def.Sub = subsAt k (take i ws) rows in
-    let y : List Def.Sub = subsAt k (drop (suc i) ws) (afterIn ws rows i) in
-    let s : Def.Sub = subIn k ws rows i in
-    let d : length x ≡ i = head-length k ws rows i b in
-    let split : subsAt k ws rows ≡ x ++ s ∷ y = subs-split k ws rows i b in
-    let front : take i (subsAt k ws rows) ≡ x = ap (take i) split ∙ take-at x (s ∷ y) i d in
-    let back : drop (suc i) (subsAt k ws rows) ≡ y =
-    ap₂ (λ (m : ℕ) (u : List Def.Sub). drop (suc m) u) (sym d) split ∙ drop-past x s y in
-    subs-append k (take i ws) (drop (suc i) ws) (a ++ c)
-    ∙ ap₂ (λ (u : List Def.Sub) (v : List Row). u ++ subsAt k (drop (suc i) ws) v) (subs-before k (take i ws) a c (omega arith) ∙ subs-front k (take i ws) n rows (omega arith)) (drop-at a c n l)
-    ∙ ap₂ (λ (u v : List Def.Sub). u ++ v) (sym front) (r ∙ sym back)
+  -- another consumer in the place, with other rows; the rows before are as they were, and the later consumers see what they saw
+  pub each-put : (ws rows : List Row) (i : ℕ) (w : Row) (f h c : List Row) → i < length ws → subRows (take i ws) ≤ length rows
+      → length f ≡ inflightOf w → length h ≡ heldOf w → eachSub of (drop (suc i) ws) c ≡ eachSub of (drop (suc i) ws) (afterIn ws rows i)
+      → eachSub of (set ws i w) (take (subRows (take i ws)) rows ++ (f ++ (h ++ c))) ≡ set (eachSub of ws rows) i (of w f h)
+  each-put ws rows i w f h c b e p q r =
+      let n : ℕ = subRows (take i ws) in
+      let a : List Row = take n rows in
+      ap (λ (l : List Row). eachSub of l (a ++ (f ++ (h ++ c)))) (set-split ws i w b)
+      ∙ each-around w f h p q (take i ws) (drop (suc i) ws) a c (length-take-le n rows e)
+      ∙ ap₂ (λ (x y : List A). x ++ of w f h ∷ y) (each-front (take i ws) n rows (omega arith)) r
+      ∙ sym (each-set ws rows i (of w f h) b)
+
+  -- another consumer with the same rows
+  pub each-reword : (ws rows : List Row) (i : ℕ) (w : Row) → i < length ws → inflightOf w ≡ inflightOf (getD ws i []) → heldOf w ≡ heldOf (getD ws i [])
+      → eachSub of (set ws i w) rows ≡ set (eachSub of ws rows) i (of w (flyingIn ws rows i) (heldIn ws rows i))
+  unfolding eachSub
+  each-reword ws rows i w b p q =
+      let r : List Row = fromIn ws rows i in
+      ap (λ (l : List Row). eachSub of l rows) (set-split ws i w b)
+      ∙ each-append (take i ws) (w ∷ drop (suc i) ws) rows
+      ∙ ap₂ (λ (m n : ℕ). eachSub of (take i ws) rows ++ of w (take m r) (take n (drop m r)) ∷ eachSub of (drop (suc i) ws) (drop n (drop m r))) p q
+      ∙ sym (each-set ws rows i (of w (flyingIn ws rows i) (heldIn ws rows i)) b)
+
+  -- the consumer and its rows gone
+  pub each-gone : (ws rows : List Row) (i : ℕ) (c : List Row) → i < length ws → subRows (take i ws) ≤ length rows
+      → eachSub of (drop (suc i) ws) c ≡ eachSub of (drop (suc i) ws) (afterIn ws rows i)
+      → eachSub of (take i ws ++ drop (suc i) ws) (take (subRows (take i ws)) rows ++ c) ≡ take i (eachSub of ws rows) ++ drop (suc i) (eachSub of ws rows)
+  each-gone ws rows i c b e r =
+      let n : ℕ = subRows (take i ws) in
+      let a : List Row = take n rows in
+      let l : length a ≡ n = length-take-le n rows e in
+      let x : List A = eachSub of (take i ws) rows in
+      let y : List A = eachSub of (drop (suc i) ws) (afterIn ws rows i) in
+      let s : A = ofIn ws rows i in
+      let d : length x ≡ i = head-length ws rows i b in
+      let split : eachSub of ws rows ≡ x ++ s ∷ y = each-split ws rows i b in
+      let front : take i (eachSub of ws rows) ≡ x = ap (take i) split ∙ take-at x (s ∷ y) i d in
+      let back : drop (suc i) (eachSub of ws rows) ≡ y =
+      ap₂ (λ (m : ℕ) (u : List A). drop (suc m) u) (sym d) split ∙ drop-past x s y in
+      each-append (take i ws) (drop (suc i) ws) (a ++ c)
+      ∙ ap₂ (λ (u : List A) (v : List Row). u ++ eachSub of (drop (suc i) ws) v) (each-before (take i ws) a c (omega arith) ∙ each-front (take i ws) n rows (omega arith)) (drop-at a c n l)
+      ∙ ap₂ (λ (u v : List A). u ++ v) (sym front) (r ∙ sym back)
+
+-- ---- the view of them
+
+module _ (k : Kind) where
+  pub subs-length : (ws rows : List Row) → length (subsAt k ws rows) ≡ length ws
+  subs-length = each-length (subAt k)
+
+  pub subs-append : (ws vs rows : List Row) → subsAt k (ws ++ vs) rows ≡ subsAt k ws rows ++ subsAt k vs (drop (subRows ws) rows)
+  subs-append = each-append (subAt k)
+
+  pub subs-front : (ws : List Row) (n : ℕ) (rows : List Row) → subRows ws ≤ n → subsAt k ws (take n rows) ≡ subsAt k ws rows
+  subs-front = each-front (subAt k)
+
+  pub subs-agree : (ws : List Row) (n : ℕ) (x y : List Row) → subRows ws ≤ n → take n x ≡ take n y → subsAt k ws x ≡ subsAt k ws y
+  subs-agree = each-agree (subAt k)
+
+  pub subs-before : (ws a c : List Row) → subRows ws ≤ length a → subsAt k ws (a ++ c) ≡ subsAt k ws a
+  subs-before = each-before (subAt k)
+
+  pub subs-around : (w : Row) (f h : List Row) → length f ≡ inflightOf w → length h ≡ heldOf w
+      → (ws vs a c : List Row) → length a ≡ subRows ws → subsAt k (ws ++ w ∷ vs) (a ++ (f ++ (h ++ c))) ≡ subsAt k ws a ++ subAt k w f h ∷ subsAt k vs c
+  subs-around = each-around (subAt k)
+
+  pub subs-split : (ws rows : List Row) (i : ℕ) → i < length ws
+      → subsAt k ws rows ≡ subsAt k (take i ws) rows ++ subIn k ws rows i ∷ subsAt k (drop (suc i) ws) (afterIn ws rows i)
+  subs-split = each-split (subAt k)
+
+  pub subs-nth : (ws rows : List Row) (i : ℕ) → i < length ws → nth i (subsAt k ws rows) ≡ some (subIn k ws rows i)
+  subs-nth = each-nth (subAt k)
+
+  pub subs-nth-none : (ws rows : List Row) (i : ℕ) → length ws ≤ i → nth i (subsAt k ws rows) ≡ none
+  subs-nth-none = each-nth-none (subAt k)
+
+  pub subs-set : (ws rows : List Row) (i : ℕ) (s : Def.Sub) → i < length ws
+      → set (subsAt k ws rows) i s ≡ subsAt k (take i ws) rows ++ s ∷ subsAt k (drop (suc i) ws) (afterIn ws rows i)
+  subs-set = each-set (subAt k)
+
+  pub subs-put : (ws rows : List Row) (i : ℕ) (w : Row) (f h c : List Row) → i < length ws → subRows (take i ws) ≤ length rows
+      → length f ≡ inflightOf w → length h ≡ heldOf w → subsAt k (drop (suc i) ws) c ≡ subsAt k (drop (suc i) ws) (afterIn ws rows i)
+      → subsAt k (set ws i w) (take (subRows (take i ws)) rows ++ (f ++ (h ++ c))) ≡ set (subsAt k ws rows) i (subAt k w f h)
+  subs-put = each-put (subAt k)
+
+  pub subs-reword : (ws rows : List Row) (i : ℕ) (w : Row) → i < length ws → inflightOf w ≡ inflightOf (getD ws i []) → heldOf w ≡ heldOf (getD ws i [])
+      → subsAt k (set ws i w) rows ≡ set (subsAt k ws rows) i (subAt k w (flyingIn ws rows i) (heldIn ws rows i))
+  subs-reword = each-reword (subAt k)
+
+  pub subs-gone : (ws rows : List Row) (i : ℕ) (c : List Row) → i < length ws → subRows (take i ws) ≤ length rows
+      → subsAt k (drop (suc i) ws) c ≡ subsAt k (drop (suc i) ws) (afterIn ws rows i)
+      → subsAt k (take i ws ++ drop (suc i) ws) (take (subRows (take i ws)) rows ++ c) ≡ take i (subsAt k ws rows) ++ drop (suc i) (subsAt k ws rows)
+  subs-gone = each-gone (subAt k)
 
 -- ---- the rows by their places
 

@@ -1,6 +1,6 @@
--- The destination in lent buffers, as docs/LAYOUT.md has it word by word: `view` is what they hold, and `formed` says that the counts fit the
--- tables. A mark is 0 for no and any other word for yes; a redelivery counter is the lower half of its word; words that are not in use are not
--- looked at. Assumes nothing.
+-- The destination in lent buffers, as docs/LAYOUT.md has it word by word: `view` is what they hold, `formed` says that the counts fit the
+-- tables, and `strict` that each mark in use is 0 or 1 and each redelivery in use an i32. `view` reads a mark that is not 0 as yes, and the lower
+-- half of a redelivery; of words that are not in use nothing is asked. Assumes nothing.
 use Prim.Native.Nat.{ℕ, zero, suc, _+_}
 use mathlib.Core.Bool.{Bool, true, false, not, _&&_, _||_}
 use mathlib.Core.List.{List, [], _∷_, map}
@@ -8,12 +8,12 @@ use mathlib.Core.Option.{Option, none, some}
 use lib.Dec.{leb, ltb, eqb}
 use lib.ListN.{length, take, drop}
 use mir.Val.{boolByte}
-use Rattle.words.specs.Words.{unsigned}
+use Rattle.words.specs.Words.{unsigned, isInt}
 use Rattle.audit.specs.Audit as Ring
 use Rattle.audit.specs.declared.Audit as RingState
 use Rattle.entry.specs.Entry.{entryOf}
 use Rattle.model.specs.Model.{idOf}
-use Rattle.definition.specs.Base.{if_then_else_, every}
+use Rattle.definition.specs.Base.{if_then_else_, all, every}
 use Rattle.definition.specs.Types.{Kind, queue, topic, Id, Entry, Inflight, Sub, Stats, Held, Audit, Dest, Event, letter, message, null}
 use Rattle.definition.specs.Consumer.{zeroStats}
 use Rattle.definition.specs.Calls.{Lengths, short, stateShort, sound, Call, Result, refused, call}
@@ -84,10 +84,14 @@ subAt k w flying held = record {
 }
 
 -- the consumers, each with its rows: the rows stand in the consumers' order
-unfoldable pub subsAt : Kind → List Row → List Row → List Sub
-subsAt k [] rows = []
-subsAt k (w ∷ ws) rows =
-    subAt k w (take (inflightOf w) rows) (take (heldOf w) (drop (inflightOf w) rows)) ∷ subsAt k ws (drop (heldOf w) (drop (inflightOf w) rows))
+module _ {A : Type 0} (of : Row → List Row → List Row → A) where
+  unfoldable pub eachSub : List Row → List Row → List A
+  eachSub [] rows = []
+  eachSub (w ∷ ws) rows =
+      of w (take (inflightOf w) rows) (take (heldOf w) (drop (inflightOf w) rows)) ∷ eachSub ws (drop (heldOf w) (drop (inflightOf w) rows))
+
+abbrev pub subsAt : Kind → List Row → List Row → List Sub
+subsAt k ws rows = eachSub (subAt k) ws rows
 
 -- how many rows the consumers have
 unfoldable pub subRows : List Row → ℕ
@@ -146,6 +150,42 @@ ringsFormed (suc n) l = Ring.auditOk (ringAt l) && ringsFormed n (drop 1029 l)
 abbrev pub usedRows : Buffers → ℕ
 usedRows b = subRows (usedSubs b) + (at 15 (b .head) + at 16 (b .head))
 
+-- ---- words in use
+
+-- a mark is 0 or 1
+abbrev pub isMark : ℕ → Bool
+isMark w = leb w 1
+
+-- the words of an entry, in whatever place: persistent, redelivery
+unfoldable pub entryStrict : Row → Bool
+entryStrict w = isMark (at 2 w) && isInt (at 5 w)
+
+-- and in flight: freed, tx
+unfoldable pub flyingStrict : Row → Bool
+flyingStrict w = entryStrict w && (isMark (at 7 w) && isMark (at 8 w))
+
+-- those of a consumer: no local, browser, finished, a pull waits
+unfoldable pub wordsStrict : Row → Bool
+wordsStrict w = every (isMark (at 5 w) ∷ isMark (at 6 w) ∷ isMark (at 7 w) ∷ isMark (at 10 w) ∷ [])
+
+-- with its rows in flight and those that it holds
+unfoldable pub subStrict : Row → List Row → List Row → Bool
+subStrict w flying held = every (wordsStrict w ∷ all flyingStrict flying ∷ all entryStrict held ∷ [])
+
+-- the consumers, each with its rows
+abbrev pub subsStrict : List Row → List Row → Bool
+subsStrict ws rows = every (eachSub subStrict ws rows)
+
+-- consumers, and so many rows after theirs
+unfoldable pub tablesStrict : ℕ → List Row → List Row → Bool
+tablesStrict others ws rows = subsStrict ws rows && all entryStrict (take others (drop (subRows ws) rows))
+
+-- and the head: kind, idle
+unfoldable pub strict : Buffers → Bool
+strict b =
+    let h = b .head in
+    every (isMark (at 0 h) ∷ isMark (at 5 h) ∷ tablesStrict (at 15 h + at 16 h) (usedSubs b) (b .rows) ∷ [])
+
 unfoldable pub formed : Buffers → Bool
 formed b = let h = b .head in every (
     leb (at 12 h) 32
@@ -153,6 +193,7 @@ formed b = let h = b .head in every (
     ∷ leb (at 14 h) 8
     ∷ leb (usedRows b) 512
     ∷ ringsFormed (at 14 h) (drop 113 h)
+    ∷ strict b
     ∷ [])
 
 -- refusal 2 is for buffers that are not sound
@@ -204,5 +245,5 @@ bufferPage b lines offset limit =
 
 -- opens the definitions of this file
 unfoldable pub layoutOpen : Unit {0}
-unfolding subAt subsAt subRows idsAt auditsAt view ringsFormed formed eventWords soundBuffers bufferStep bufferCall bufferQuery bufferCounters bufferPage
+unfolding subAt eachSub subRows idsAt auditsAt view ringsFormed entryStrict flyingStrict wordsStrict subStrict tablesStrict strict formed eventWords soundBuffers bufferStep bufferCall bufferQuery bufferCounters bufferPage
 layoutOpen = tt

@@ -10,7 +10,7 @@ use lib.ListN.{length, take}
 use Rattle.definition.specs.Base.{if_then_else_, empty}
 use Rattle.definition.specs.Types.{Kind, Id, Audit, Dest}
 use Rattle.definition.specs.Destination.{Out, dispatchQueue}
-use Rattle.definition.specs.Layout.{Row, subsAt}
+use Rattle.definition.specs.Layout.{Row, eachSub, subsAt}
 use Rattle.definition.proofs.Tests.{if-true, if-false}
 use Rattle.state.specs.declared.Head.{Head}
 use Rattle.state.specs.State.{headView, kindBy}
@@ -24,11 +24,11 @@ use Rattle.queues.proofs.Guard.{scans-yes}
 use Rattle.dispatch.specs.Dispatch.{Sent}
 
 none-joined : (d : Head) (subs rows : List Row) (producers : List Id) (audits : List Audit) → d .consumers ≡ 0 → empty (headView d subs rows producers audits .subs) ≡ true
-unfolding headView subsAt
+unfolding headView eachSub
 none-joined d subs rows producers audits e = ap (λ (n : ℕ). empty (subsAt (kindBy (d .queue)) (take n subs) rows)) e
 
 some-joined : (n : ℕ) (k : Kind) (subs rows : List Row) → 0 < n → n ≤ length subs → empty (subsAt k (take n subs) rows) ≡ false
-unfolding subsAt
+unfolding eachSub
 some-joined zero k subs rows h l = absurd (omega arith)
 some-joined (suc n) k [] rows h l = absurd (omega arith)
 some-joined (suc n) k (w ∷ ws) rows h l = refl

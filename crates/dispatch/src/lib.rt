@@ -13,9 +13,6 @@ use entry::Row;
 use state::Event;
 use state::Head;
 
-// No clock is above 2^62.
-const CLOCK_MOST: u64 = 4611686018427387904;
-
 // A queue's: browsers first, then the scan over consumers. Where the numbers do not fit the tables, or with a clock above 2^62,
 // nothing happens.
 fn dispatch_queue(
@@ -28,7 +25,7 @@ fn dispatch_queue(
     requires { ⌜ d .queue ≡ true ⌝ }
     ensures { λ r. ⌜ LeavesIf (fits (now (subs .entry)) d (length (now (rows .entry))) (length (now (events .entry))) && leb clock (2 ^ 62)) (Sent d r) (dispatchQueue clock) d r (now (subs .entry)) (now (rows .entry)) (now (events .entry)) (now (subs .exit)) (now (rows .exit)) (now (events .exit)) ⌝ }
 {
-    if CLOCK_MOST < clock {
+    if entry::CLOCK_MOST < clock {
         return d;
     }
     if !state::fits(subs, d, rows.len(), events.len()) {

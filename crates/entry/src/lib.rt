@@ -1,5 +1,6 @@
 // An entry by value (entry.rs), and the words of a row: six of the entry, three of its place.
 ghost use mathlib.Core.Path.{_≡_};
+ghost use Rattle.words.specs.Words.{signed};
 ghost use Rattle.entry.specs.Entry.{expired, redelivered, selects, entryOf, rowOf};
 
 pub type Row = [u64; 9];
@@ -13,6 +14,9 @@ pub const TX: usize = 8;
 
 // The selector that stands for none.
 pub const NO_SELECTOR: u64 = 64;
+
+// No clock is above 2^62.
+pub const CLOCK_MOST: u64 = 4611686018427387904;
 
 const MOST_I32: i32 = 2147483647;
 
@@ -44,6 +48,13 @@ impl Entry {
             self
         }
     }
+}
+
+// Whether an entry has expired by the clock that a word holds.
+pub fn expired_by(e: Entry, clock: u64) -> bool
+    ensures { λ r. ⌜ r ≡ expired (signed clock) e ⌝ }
+{
+    e.expired(words::signed_of(clock))
 }
 
 // Whether a selector accepts the entry with this match word: bit s for selector s.

@@ -11,7 +11,7 @@ use Rattle.definition.specs.Types.{Kind, withTpending}
 use Rattle.definition.specs.Types as Def
 use Rattle.definition.specs.Destination as Destination
 use Rattle.definition.specs.Destination.{sweepList, sweepSubs}
-use Rattle.definition.specs.Layout.{Row, subsAt, subRows}
+use Rattle.definition.specs.Layout.{Row, eachSub, subsAt, subRows}
 use Rattle.table.proofs.Lists.{agree-drop}
 use Rattle.consumers.specs.declared.Sub.{Sub}
 use Rattle.consumers.specs.Consumers.{subOf, subWords, subView}
@@ -39,14 +39,14 @@ whole most now k ws m i base gone subs rows =
 
 pub whole-start : (most now : ℕ) (k : Kind) (ws : List Row) (m gone : ℕ) (subs rows : List Row)
     → whole most now k ws m 0 0 gone subs rows ≡ ended [] (take m (drop (subRows ws) rows)) gone (sweepSubs (most - gone) now (subsAt k ws rows))
-unfolding whole subsAt
+unfolding whole eachSub
 whole-start most now k ws m gone subs rows =
     let e : 0 + subRows ws ≡ subRows ws = omega arith in
     ap (λ (n : ℕ). ended [] (take m (drop n rows)) gone (sweepSubs (most - gone) now (subsAt k ws rows))) e
 
 pub whole-end : (most now : ℕ) (k : Kind) (ws : List Row) (m i base gone : ℕ) (subs rows : List Row) → i ≡ length ws
     → whole most now k ws m i base gone subs rows ≡ record { subs = subsAt k (take i subs) rows; others = take m (drop base rows); gone = gone }
-unfolding whole subsAt subRows sweepSubs
+unfolding whole eachSub subRows sweepSubs
 whole-end most now k ws m i base gone subs rows e =
     let none : drop i ws ≡ [] = ap (λ (n : ℕ). drop n ws) e ∙ drop-length ws in
     let z : base + 0 ≡ base = omega arith in

@@ -51,7 +51,7 @@ fn met(n: Next, e: Entry, clock: u64) -> Next
     requires { ⌜ clock ≤ 2 ^ 62 ⌝ }
     ensures { λ r. ⌜ nextOf r ≡ (if expired (pos clock) e then sooner e (nextOf n) else nextOf n) ⌝ }
 {
-    if !topics::expired_by(e, clock) {
+    if !entry::expired_by(e, clock) {
         return n;
     }
     if !n.found {
@@ -210,7 +210,7 @@ pub fn sweep(
     if !state::fits(subs, d, rows.len(), events.len()) {
         return Answer::refused(2, d);
     }
-    if topics::CLOCK_MOST < clock {
+    if entry::CLOCK_MOST < clock {
         return Answer::refused(2, d);
     }
     if state::ROWS < most {

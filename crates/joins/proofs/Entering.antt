@@ -18,7 +18,7 @@ use Rattle.definition.specs.Types.{Kind, queue, topic, Id, Audit, Entry, Held, 
 use Rattle.definition.specs.Types as Def
 use Rattle.definition.specs.Consumer.{addExpired}
 use Rattle.definition.specs.Destination.{Spec, newSub, count, joined}
-use Rattle.definition.specs.Layout.{Row, heldAt, browserAt, tpendingAt, subsAt, subRows}
+use Rattle.definition.specs.Layout.{Row, heldAt, browserAt, tpendingAt, eachSub, subsAt, subRows}
 use Rattle.definition.proofs.Tests.{if-true, if-false, and-both}
 use Rattle.definition.proofs.Lists.{all-end}
 use Rattle.consumers.specs.declared.Sub.{Sub}
@@ -204,7 +204,7 @@ module _ (now : ℕ) (p : SubSpec) (d : Head) (subs rows rows′ events : List R
     size = ap subRows table-is ∙ rows-append ws (new ∷ []) ∙ ap (λ (m : ℕ). subRows ws + m) new-rows
 
     consumers-are : subsAt kd (take (d .consumers + 1) subs′) (a ++ h) ≡ subsAt kd ws a ++ subView kd (newOf p n) [] h ∷ []
-    unfolding subsAt
+    unfolding eachSub
     consumers-are =
         ap₂ (λ (l m : List Row). subsAt kd l m) table-is (ap (λ (l : List Row). a ++ l) (sym (append-nil h)))
         ∙ subs-around kd new [] h (sym (inflight-stored (newOf p n))) (eh ∙ sym (held-stored (newOf p n))) ws [] a [] ea

@@ -20,9 +20,6 @@ use model::Id;
 use state::Event;
 use state::Head;
 
-// No clock is above 2^62.
-const CLOCK_MOST: u64 = 4611686018427387904;
-
 // What a consumer asks for. The identifier is kept as its three words.
 pub struct SubSpec {
     pub conn: u64,
@@ -209,7 +206,7 @@ fn refusal_of(subs: &[SubRow], d: Head, spec: SubSpec, k: usize) -> u64
 pub fn refusal(subs: &[SubRow], rows: &[Row], d: Head, spec: SubSpec, clock: u64) -> u64
     ensures { λ r. ⌜ Refused (fits (now (subs .entry)) d (length (now (rows .entry))) 545 && leb clock (2 ^ 62)) clock spec d (now (subs .entry)) (now (rows .entry)) r ⌝ }
 {
-    if CLOCK_MOST < clock {
+    if entry::CLOCK_MOST < clock {
         return 2;
     }
     if !state::fits(subs, d, rows.len(), state::EVENTS) {
@@ -231,7 +228,7 @@ pub fn join(
 ) -> Head
     ensures { λ r. ⌜ LeavesIf (joins clock spec (now (subs .entry)) d (now (rows .entry)) (length (now (events .entry)))) ((r .events + r .used ≤ 512) × (d .stats .expired + d .waiting ≤ 2 ^ 62 → fits (now (subs .exit)) r (length (now (rows .entry))) (length (now (events .entry))) ≡ true)) (silent (joined clock (specOf spec))) d r (now (subs .entry)) (now (rows .entry)) (now (events .entry)) (now (subs .exit)) (now (rows .exit)) (now (events .entry)) ⌝ }
 {
-    if CLOCK_MOST < clock {
+    if entry::CLOCK_MOST < clock {
         return d;
     }
     if !state::fits(subs, d, rows.len(), events.len()) {

@@ -11,7 +11,7 @@ use Rattle.definition.specs.Base.{all}
 use Rattle.definition.specs.Types.{Kind}
 use Rattle.definition.specs.Calls.{bound, subTests, subSound, soundTests, sound}
 use Rattle.definition.specs.Words.{at}
-use Rattle.definition.specs.Layout.{Row, Buffers, inflightOf, heldOf, subAt, subsAt, usedSubs, view, formed, soundBuffers}
+use Rattle.definition.specs.Layout.{Row, Buffers, inflightOf, heldOf, subAt, eachSub, subsAt, usedSubs, view, formed, soundBuffers}
 use Rattle.definition.proofs.Tests.{and-left, and-right, and-both}
 use Rattle.definition.proofs.Thin.{every-all}
 use Rattle.pulls.specs.Pulls.{risable}
@@ -24,7 +24,7 @@ sub-rises k used u w flying held h =
     lt-ltb (at 12 w) 72057594037927937 (omega arith)
 
 subs-rise : (k : Kind) (used : ℕ) → used < 2 ^ 40 → (ws rows : List Row) → all (subSound k used) (subsAt k ws rows) ≡ true → all risable ws ≡ true
-unfolding subsAt
+unfolding eachSub
 subs-rise k used u [] rows h = refl
 subs-rise k used u (w ∷ ws) rows h =
     let f : List Row = take (inflightOf w) rows in

@@ -24,8 +24,6 @@ use stats::Stats;
 // Most lines of a page.
 pub const PAGE_MAX: usize = 50;
 
-const CLOCK_MOST: u64 = 4611686018427387904;
-
 // The refusal (0: answered) and the answer.
 #[repr(C)]
 pub struct Asked {
@@ -234,7 +232,7 @@ pub fn idle_for(head: &[u64], subs: &[SubRow], rows: &[Row], clock: u64, secs: u
     if refusal != 0 {
         return Asked { refusal, answer: 0 };
     }
-    if CLOCK_MOST < clock {
+    if entry::CLOCK_MOST < clock {
         return Asked {
             refusal: 3,
             answer: 0,

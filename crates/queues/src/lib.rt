@@ -14,9 +14,6 @@ use state::Event;
 use state::Head;
 use stats::Stats;
 
-// No clock is above 2^62.
-const CLOCK_MOST: u64 = 4611686018427387904;
-
 // From there a delivery number, or a counter, can rise by a full table and is no more than 2^63.
 const NEXT_MOST: u64 = 4611686018427387904;
 
@@ -268,7 +265,7 @@ fn next_fit(subs: &[SubRow], n: usize) -> bool
 fn can_scan(subs: &[SubRow], d: Head, rows: usize, events: usize, clock: u64) -> bool
     ensures { λ r. ⌜ r ≡ scans clock (now (subs .entry)) d rows events ⌝ }
 {
-    if CLOCK_MOST < clock {
+    if entry::CLOCK_MOST < clock {
         return false;
     }
     if !d.queue {

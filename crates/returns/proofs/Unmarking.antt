@@ -16,7 +16,7 @@ use Rattle.definition.specs.Types.{Kind, Id, Inflight}
 use Rattle.definition.specs.Types as Def
 use Rattle.definition.specs.Destination.{isId, noTx, unmarked}
 use Rattle.definition.specs.Words.{kindBy}
-use Rattle.definition.specs.Layout.{Row, flag, idAt, heldAt, inflightAt, inflightOf, heldOf, subAt, subsAt, subRows}
+use Rattle.definition.specs.Layout.{Row, flag, idAt, heldAt, inflightAt, inflightOf, heldOf, subAt, eachSub, subsAt, subRows}
 use Rattle.definition.proofs.Tests.{if-true, if-false}
 use Rattle.table.specs.Table.{mapRows, unmarkRow}
 use Rattle.table.proofs.Lists.{slice-take, agree-later}
@@ -85,7 +85,7 @@ module _ (id : Id) (n : ℕ) (subs rows₀ : List Row) where
     pub said : (k : Kind) → subsAt k (take i ws) rows ≡ map (one id) (subsAt k (take i ws) rows₀)
 
   pub unmarking-start : Unmarking 0 0 rows₀
-  unfolding subsAt subRows
+  unfolding eachSub subRows
   unmarking-start = record { start = refl; within = omega arith; size = refl; rest = refl; said = λ k. refl }
 
 module _ (id : Id) (d : Head) (subs rows₀ : List Row) (a : Fits subs d (length rows₀) 545) where
@@ -186,7 +186,7 @@ module _ (id : Id) (d : Head) (subs rows₀ : List Row) (a : Fits subs d (length
 
           -- the consumers up to this one
           upto : (l : List Row) (v : Def.Sub) → subAt kind w (take f (drop base l)) (take h (drop f (drop base l))) ≡ v → subsAt kind (take (suc i) us) l ≡ subsAt kind (take i us) l ++ v ∷ []
-          unfolding subsAt
+          unfolding eachSub
           upto l v e =
               ap (λ (y : List Row). subsAt kind y l) (take-suc us i [] (omega (arith, many)))
               ∙ subs-append kind (take i us) (w ∷ []) l

@@ -88,7 +88,7 @@ fn put_back(
     ensures { λ r. ⌜ Moves from (reinsert clock (e ∷ [])) d r (now (subs .entry)) (now (rows .entry)) (now (subs .exit)) (now (rows .exit)) ⌝ }
     ensures { λ r. ⌜ r .reserved ≡ d .reserved ⌝ }
 {
-    if topics::expired_by(e, clock) {
+    if entry::expired_by(e, clock) {
         table::close_gap(rows, from, 1, d.used);
         d.used = d.used - 1;
         return d.count_expired(1);
@@ -253,7 +253,7 @@ pub fn leave(
 ) -> Head
     ensures { λ r. ⌜ LeavesIf (inBounds clock (now (subs .entry)) d (length (now (rows .entry))) (length (now (events .entry)))) (r .events + r .used ≤ 512) (silent (left clock id last)) d r (now (subs .entry)) (now (rows .entry)) (now (events .entry)) (now (subs .exit)) (now (rows .exit)) (now (events .entry)) ⌝ }
 {
-    if topics::CLOCK_MOST < clock {
+    if entry::CLOCK_MOST < clock {
         return d;
     }
     if !state::fits(subs, d, rows.len(), events.len()) {
@@ -344,7 +344,7 @@ pub fn release(
 ) -> Head
     ensures { λ r. ⌜ LeavesIf (inBounds clock (now (subs .entry)) d (length (now (rows .entry))) (length (now (events .entry)))) (r .events + r .used ≤ 512) (silent (released clock id)) d r (now (subs .entry)) (now (rows .entry)) (now (events .entry)) (now (subs .exit)) (now (rows .exit)) (now (events .entry)) ⌝ }
 {
-    if topics::CLOCK_MOST < clock {
+    if entry::CLOCK_MOST < clock {
         return d;
     }
     if !state::fits(subs, d, rows.len(), events.len()) {

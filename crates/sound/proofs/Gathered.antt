@@ -14,7 +14,7 @@ use Rattle.definition.specs.Types.{Kind, queue, topic, Entry}
 use Rattle.definition.specs.Consumer.{isBrowser}
 use Rattle.definition.specs.Calls.{seqs, flying, rowsOf, taken}
 use Rattle.definition.specs.Words.{at}
-use Rattle.definition.specs.Layout.{Row, flag, browserAt, subAt, subsAt}
+use Rattle.definition.specs.Layout.{Row, flag, browserAt, subAt, eachSub, subsAt}
 use Rattle.definition.proofs.Thin.{map-append}
 use mathlib.Core.List.{append-nil}
 use Rattle.sound.specs.Sound.{kindBy, seqsAt, apartBy}
@@ -78,7 +78,7 @@ module _ (w : Row) (rows : List Row) (base : ℕ) where
 module _ (subs : List Row) (i n : ℕ) (b : n ≤ length subs) (rows : List Row) (base : ℕ) where
   taken-turn : i < n → let w = getD subs i [] in seqs (taken (subsAt queue (slice i n subs) (drop base rows)))
       ≡ seqsAt (take (if flag (at 6 w) then 0 else at 14 w) (drop base rows)) ++ seqs (taken (subsAt queue (slice (i + 1) n subs) (drop (base + (at 14 w + at 15 w)) rows)))
-  unfolding subsAt
+  unfolding eachSub
   taken-turn h =
       let w = getD subs i [] in
       let s = subAt queue w (take (at 14 w) (drop base rows)) (take (at 15 w) (drop (at 14 w) (drop base rows))) in
@@ -103,7 +103,7 @@ module _ (subs : List Row) (i n : ℕ) (b : n ≤ length subs) (rows : List Row)
         ∙ e
 
     pub taken-end : i ≡ n → take end out ≡ total
-    unfolding subsAt
+    unfolding eachSub
     taken-end q =
         sym (ap (λ (l : List Row). take end out ++ seqs (taken (subsAt queue l (drop base rows)))) (part-end subs i n q) ∙ append-nil (take end out)) ∙ e
 

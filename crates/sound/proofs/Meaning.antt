@@ -20,7 +20,7 @@ use Rattle.definition.specs.Types.{Kind, queue, topic, Entry, Sub, Dest}
 use Rattle.definition.specs.Consumer.{shown, isBrowser}
 use Rattle.definition.specs.Calls.{word, idOk, entryOk, clockOk, bound, seqs, flying, rowsOf, subTests, subSound, consumerRows, taken, held, allRows, placed, auditOk, soundTests, sound}
 use Rattle.definition.specs.Words.{at, kindOf}
-use Rattle.definition.specs.Layout.{Row, Buffers, idAt, heldAt, subAt, subsAt, subRows, idsAt, ringAt, auditsAt, view, usedRows, ringsFormed, formed, soundBuffers}
+use Rattle.definition.specs.Layout.{Row, Buffers, idAt, heldAt, subAt, eachSub, subsAt, subRows, idsAt, ringAt, auditsAt, view, usedRows, ringsFormed, formed, soundBuffers}
 use mathlib.Core.List.{append-nil}
 use Rattle.definition.proofs.Tests.{and-left, and-right, and-both}
 use Rattle.definition.proofs.Thin.{every-all, all-every, map-append}
@@ -229,12 +229,12 @@ own-subs topic u (s ∷ ss) o a t =
     (own-subs topic u ss (and-right (ownSound topic (bound u) s) (all (ownSound topic (bound u)) ss) o) (and-right (apartBy topic s) (all (apartBy topic) ss) a) refl)
 
 subs-count : (k : Kind) (ws rows : List Row) → length (subsAt k ws rows) ≡ length ws
-unfolding subsAt
+unfolding eachSub
 subs-count k [] rows = refl
 subs-count k (w ∷ ws) rows = ap suc (subs-count k ws (drop (at 15 w) (drop (at 14 w) rows)))
 
 rows-count : (k : Kind) (ws rows : List Row) → length (consumerRows (subsAt k ws rows)) ≤ subRows ws
-unfolding subsAt subRows
+unfolding eachSub subRows
 rows-count k [] rows = omega arith
 rows-count k (w ∷ ws) rows =
     let f = take (at 14 w) rows in

@@ -22,7 +22,7 @@ use Rattle.definition.specs.Types.{Kind, queue, topic, Id, Entry, Sub}
 use Rattle.definition.specs.Consumer.{shown}
 use Rattle.definition.specs.Calls.{idOk, entryOk, optional, seqs, rowsOf, distinctIds}
 use Rattle.definition.specs.Words.{at}
-use Rattle.definition.specs.Layout.{Row, flag, idAt, inflightAt, browserAt, tpendingAt, subAt, subsAt, subRows}
+use Rattle.definition.specs.Layout.{Row, flag, idAt, inflightAt, browserAt, tpendingAt, subAt, eachSub, subsAt, subRows}
 use mathlib.Core.List.{append-nil}
 use Rattle.definition.proofs.Tests.{and-left, and-right, and-both}
 use Rattle.definition.proofs.Thin.{every-all, all-every}
@@ -312,7 +312,7 @@ module _ (subs : List Row) (i n : ℕ) (b : n ≤ length subs) where
     here = let w = getD subs i [] in subAt k w (take (at 14 w) (drop base rows)) (take (at 15 w) (drop (at 14 w) (drop base rows)))
 
     walk-turn : i < n → (p here && all p (subsAt k (slice (i + 1) n subs) (drop (base + (at 14 (getD subs i []) + at 15 (getD subs i []))) rows))) ≡ total
-    unfolding subsAt
+    unfolding eachSub
     walk-turn h =
         let w = getD subs i [] in
         let d : drop (at 15 w) (drop (at 14 w) (drop base rows)) ≡ drop (base + (at 14 w + at 15 w)) rows =
@@ -327,7 +327,7 @@ module _ (subs : List Row) (i n : ℕ) (b : n ≤ length subs) where
     walk-next h q = sym (ap (λ (t : Bool). t && all p (subsAt k (slice (i + 1) n subs) (drop (base + (at 14 (getD subs i []) + at 15 (getD subs i []))) rows))) q) ∙ walk-turn h
 
     pub walk-end : i ≡ n → true ≡ total
-    unfolding subsAt
+    unfolding eachSub
     walk-end q = sym (ap (λ (l : List Row). all p (subsAt k l (drop base rows))) (part-end subs i n q)) ∙ e
 
   module _ (total : Bool) (e : idsApart (slice i n subs) ≡ total) where
@@ -364,11 +364,11 @@ pub same-id-words : (c s v c2 s2 v2 : ℕ) → s < 2 ^ 64 → v < 2 ^ 64 → s2 
 same-id-words c s v c2 s2 v2 hs hv hs2 hv2 = ap₂ (λ (x y : Bool). eqb c c2 && (x && y)) (same-words s s2 hs hs2) (same-words v v2 hv hv2)
 
 others-ids : (k : Kind) (j : Id) (ws rows : List Row) → all (λ r. not (sameId (r .id) j)) (subsAt k ws rows) ≡ all (λ v. not (sameId (idAt v) j)) ws
-unfolding subsAt subAt
+unfolding eachSub subAt
 others-ids k j [] rows = refl
 others-ids k j (w ∷ ws) rows = ap (λ (t : Bool). not (sameId (idAt w) j) && t) (others-ids k j ws (drop (at 15 w) (drop (at 14 w) rows)))
 
 pub ids-means : (k : Kind) (ws rows : List Row) → distinctIds (subsAt k ws rows) ≡ idsApart ws
-unfolding subsAt subAt
+unfolding eachSub subAt
 ids-means k [] rows = refl
 ids-means k (w ∷ ws) rows = ap₂ _&&_ (others-ids k (idAt w) ws (drop (at 15 w) (drop (at 14 w) rows))) (ids-means k ws (drop (at 15 w) (drop (at 14 w) rows)))

@@ -20,8 +20,6 @@ type SubRow = [u64; 16];
 
 const CALLS_MOST: u64 = 1099511627776;
 
-const CLOCK_MOST: u64 = 4611686018427387904;
-
 const SEQ_END: u64 = 9223372036854775808;
 
 const PREFETCH_END: u64 = 2147483648;
@@ -49,7 +47,7 @@ fn idle_ok(head: &[u64]) -> bool
     requires { do ⌜ 8345 ≤ (← ⟦head.len()⟧) ⌝ }
     ensures { λ r. ⌜ r ≡ idleOk (now (head .entry)) ⌝ }
 {
-    (head[5] == 0) | (head[6] <= CLOCK_MOST)
+    (head[5] == 0) | (head[6] <= entry::CLOCK_MOST)
 }
 
 fn counters_ok(head: &[u64], most: u64) -> bool

@@ -11,14 +11,14 @@ use Rattle.definition.specs.Base.{all, every, tally}
 use Rattle.definition.specs.Types.{Kind, Id, Audit}
 use Rattle.definition.specs.Calls.{stateShort, short, bound, subTests, subSound, soundTests, sound}
 use Rattle.definition.specs.Words.{at}
-use Rattle.definition.specs.Layout.{Row, Buffers, inflightOf, heldOf, inflightAt, subAt, subsAt, subRows, idsAt, auditsAt, ringsFormed, usedRows, view, formed, soundBuffers, lengthsOf}
+use Rattle.definition.specs.Layout.{Row, Buffers, inflightOf, heldOf, inflightAt, subAt, eachSub, subsAt, subRows, idsAt, auditsAt, ringsFormed, usedRows, view, strict, formed, soundBuffers, lengthsOf}
 use Rattle.definition.proofs.Tests.{and-left, and-right, and-both, or-no-left, or-no-right}
 use Rattle.definition.proofs.Thin.{every-all, all-every, tally-length}
 use Rattle.consumers.specs.Table.{fitting}
 use Rattle.state.specs.declared.Head.{Head}
-use Rattle.state.specs.State.{headOf, headView, loaded, withCallsUsed}
+use Rattle.state.specs.State.{headOf, headView, strictTables, loaded, withCallsUsed}
 use Rattle.state.specs.Fits.{fits, Fits}
-use Rattle.state.proofs.View.{loaded-long, loaded-view}
+use Rattle.state.proofs.View.{loaded-long, loaded-view, loaded-strict}
 
 -- ---- facts
 
@@ -98,7 +98,7 @@ sub-fits k used u w flying held l h =
     and-both _ _ (le-leb (at 13 w) (at 14 w) (omega arith)) (and-both _ _ (le-leb (at 8 w) 72057594037927937 (omega arith)) (le-leb (at 12 w) 72057594037927937 (omega arith)))
 
 subs-fit : (k : Kind) (used : ℕ) → used ≤ 2 ^ 40 → (ws rows : List Row) → all (subSound k used) (subsAt k ws rows) ≡ true → all fitting ws ≡ true
-unfolding subsAt
+unfolding eachSub
 subs-fit k used u [] rows h = refl
 subs-fit k used u (w ∷ ws) rows h =
     let n : length (take (inflightOf w) rows) ≤ inflightOf w = omega (arith, length-take (inflightOf w) rows) in
@@ -173,7 +173,7 @@ module _ (b : Buffers) (events : ℕ) (long : Long b events) (s : soundBuffers b
   counts : (at 12 h ≤ 32) × (at 13 h ≤ 32) × (at 14 h ≤ 8) × (usedRows b ≤ 512)
   unfolding soundBuffers formed
   counts =
-      let f = every-all (leb (at 12 h) 32 ∷ leb (at 13 h) 32 ∷ leb (at 14 h) 8 ∷ leb (usedRows b) 512 ∷ ringsFormed (at 14 h) (drop 113 h) ∷ []) (and-left _ _ s) in
+      let f = every-all (leb (at 12 h) 32 ∷ leb (at 13 h) 32 ∷ leb (at 14 h) 8 ∷ leb (usedRows b) 512 ∷ ringsFormed (at 14 h) (drop 113 h) ∷ strict b ∷ []) (and-left _ _ s) in
       (leb-true _ _ (f .0), leb-true _ _ (f .1 .0), leb-true _ _ (f .1 .1 .0), leb-true _ _ (f .1 .1 .1 .0))
 
   -- the numbers of sound buffers, as they are loaded, fit
@@ -189,3 +189,10 @@ module _ (b : Buffers) (events : ℕ) (long : Long b events) (s : soundBuffers b
 
   pub sound-fits : fits (b .subs) (loaded h (b .subs)) (length (b .rows)) events ≡ true
   sound-fits = ap (λ (d : Head). fits (b .subs) d (length (b .rows)) events) sound-loaded ∙ facts-fit (b .subs) (headOf h (usedRows b)) (length (b .rows)) events sound-facts
+
+  -- and strict
+  pub sound-strict : strictTables (headOf h (usedRows b)) (b .subs) (b .rows) ≡ true
+  unfolding soundBuffers formed
+  sound-strict =
+      let f = every-all (leb (at 12 h) 32 ∷ leb (at 13 h) 32 ∷ leb (at 14 h) 8 ∷ leb (usedRows b) 512 ∷ ringsFormed (at 14 h) (drop 113 h) ∷ strict b ∷ []) (and-left _ _ s) in
+      loaded-strict (b .subs) (b .rows) h (usedRows b) (f .1 .1 .1 .1 .1 .0)

@@ -11,7 +11,7 @@ use Rattle.definition.specs.Types as Def
 use Rattle.definition.specs.Destination.{Out, touchIdle}
 use Rattle.definition.specs.Layout.{Row, subRows, eventWords}
 use Rattle.state.specs.declared.Head.{Head}
-use Rattle.state.specs.State.{headView, withIdle, touched}
+use Rattle.state.specs.State.{headView, strictTables, withIdle, touched}
 use Rattle.state.specs.Leaves.{silent, both, Leaves, LeavesIf, Untouched}
 use Rattle.state.specs.Ready.{Stands}
 use Rattle.state.proofs.View.{touched-mark, touch-view}
@@ -37,6 +37,7 @@ leaves-as f g d r subs rows events subs′ rows′ events′ h a = record {
   consumers = a .consumers;
   used = a .used;
   rows-used = a .rows-used;
+  strict = a .strict;
   subs-past = a .subs-past;
   rows-past = a .rows-past;
   subs-length = a .subs-length;
@@ -84,6 +85,7 @@ module _ (f g : Dest → Out) (d r q : Head) (subs rows events subs′ rows′ e
       consumers = b .consumers;
       used = b .used;
       rows-used = b .rows-used;
+      strict = λ h. b .strict (a .strict h);
       subs-past = b .subs-past ∙ a .subs-past;
       rows-past = b .rows-past ∙ a .rows-past;
       subs-length = b .subs-length ∙ a .subs-length;
@@ -95,8 +97,8 @@ module _ (d : Head) (subs rows events : List Row) (s : Stands d subs) where
   -- the tables as they are, with a head that has the same counts
   quiet : (f : Dest → Dest) (r : Head) → ((producers : List Id) (audits : List Audit) → length producers ≡ d .producers → headView r subs rows producers audits ≡ f (headView d subs rows producers audits))
       → r .events ≡ d .events → r .producers ≡ d .producers → r .audits ≡ d .audits → r .queue ≡ d .queue → Stands r subs
-      → Leaves (silent f) d r subs rows events subs rows events
-  quiet f r v e p a q t = record {
+      → strictTables r subs rows ≡ strictTables d subs rows → Leaves (silent f) d r subs rows events subs rows events
+  quiet f r v e p a q t w = record {
     view = v;
     sent = λ producers audits h. ap (λ (n : ℕ). take n events) e ∙ sym (append-nil (take (d .events) events));
     later = refl;
@@ -107,6 +109,7 @@ module _ (d : Head) (subs rows events : List Row) (s : Stands d subs) where
     consumers = t .consumers;
     used = t .used;
     rows-used = t .rows-used;
+    strict = λ h. w ∙ h;
     subs-past = refl;
     rows-past = refl;
     subs-length = refl;
@@ -116,7 +119,7 @@ module _ (d : Head) (subs rows events : List Row) (s : Stands d subs) where
 
   -- nothing
   pub leaves-rest : Leaves (silent (λ t. t)) d d subs rows events subs rows events
-  leaves-rest = quiet (λ t. t) d (λ producers audits h. refl) refl refl refl refl s
+  leaves-rest = quiet (λ t. t) d (λ producers audits h. refl) refl refl refl refl s refl
 
   -- `touch_idle`
   pub leaves-touch : (now : ℕ) → 32 ≤ length subs → 512 ≤ length rows → Leaves (silent (touchIdle now)) d (touched now d) subs rows events subs rows events
@@ -126,3 +129,4 @@ module _ (d : Head) (subs rows events : List Row) (s : Stands d subs) where
       (λ producers audits h. touch-view subs rows producers audits now d (omega (arith, s .consumers)) (omega (arith, s .rows-used, s .used)) h)
       (ap (λ (x : Head). x .events) m) (ap (λ (x : Head). x .producers) m) (ap (λ (x : Head). x .audits) m) (ap (λ (x : Head). x .queue) m)
       (rw m (record { consumers = s .consumers; used = s .used; rows-used = s .rows-used }))
+      (ap (λ (x : Head). strictTables x subs rows) m)

@@ -13,15 +13,25 @@ use lib.Seq.{drop-drop}
 use Rattle.words.proofs.Words.{flag-of-word}
 use Rattle.definition.specs.Base.{if_then_else_, every, empty}
 use Rattle.definition.proofs.Tests.{by-if}
+use Rattle.definition.proofs.Thin.{every-all}
 use Rattle.definition.specs.Types.{Kind, queue, topic, Id, Audit, Dest}
 use Rattle.definition.specs.Types as Def
 use Rattle.definition.specs.Destination.{marked, touchIdle}
 use Rattle.definition.specs.Words.{at, kindOf}
-use Rattle.definition.specs.Layout.{Row, subsAt, subRows, idsAt, auditsAt, ringsFormed, formed, view}
+use Rattle.definition.specs.Layout.{Row, eachSub, subsAt, subRows, idsAt, auditsAt, ringsFormed, isMark, strict, formed, view}
+use Rattle.consumers.proofs.Strict.{mark-byte}
 use Rattle.state.specs.declared.Head.{Head}
-use Rattle.state.specs.State.{headOf, headWords, headView, usedOf, loaded, stored, kindBy, kindWord, withEvents, withIdle, notIdle, touched}
+use Rattle.state.specs.State.{headOf, headWords, headView, strictTables, usedOf, loaded, stored, kindBy, kindWord, withEvents, withIdle, notIdle, touched}
 
 -- ---- loaded and stored
+
+kind-mark : (b : Bool) → isMark (kindWord b) ≡ true
+kind-mark true = refl
+kind-mark false = refl
+
+and-true : (b : Bool) → (b && true) ≡ b
+and-true true = refl
+and-true false = refl
 
 pub kind-word : (b : Bool) → kindOf (kindWord b) ≡ kindBy b
 kind-word true = refl
@@ -65,11 +75,19 @@ module _ (subs rows : List Row) where
   unfolding headView headWords view
   stored-view d h l = rw (stored-long d h l, drop-drop 96 17 h, kind-word (d .queue), flag-of-word (d .idle))
 
+  pub stored-strict : (d : Head) (h : List ℕ) → 8345 ≤ length h → strict (record { head = stored d h; subs = subs; rows = rows }) ≡ strictTables d subs rows
+  unfolding headWords strict
+  stored-strict d h l = rw (stored-long d h l, kind-mark (d .queue), mark-byte (d .idle), and-true)
+
+  pub loaded-strict : (h : List ℕ) (used : ℕ) → strict (record { head = h; subs = subs; rows = rows }) ≡ true → strictTables (headOf h used) subs rows ≡ true
+  unfolding headOf strict
+  loaded-strict h used s = every-all (isMark (at 0 h) ∷ isMark (at 5 h) ∷ strictTables (headOf h used) subs rows ∷ []) s .1 .1 .0
+
   pub stored-formed : (d : Head) (h : List ℕ) → 8345 ≤ length h
       → formed (record { head = stored d h; subs = subs; rows = rows })
-      ≡ every (leb (d .consumers) 32 ∷ leb (d .producers) 32 ∷ leb (d .audits) 8 ∷ leb (subRows (take (d .consumers) subs) + (d .reserved + d .waiting)) 512 ∷ ringsFormed (d .audits) (drop 113 h) ∷ [])
+      ≡ every (leb (d .consumers) 32 ∷ leb (d .producers) 32 ∷ leb (d .audits) 8 ∷ leb (subRows (take (d .consumers) subs) + (d .reserved + d .waiting)) 512 ∷ ringsFormed (d .audits) (drop 113 h) ∷ strictTables d subs rows ∷ [])
   unfolding headWords formed
-  stored-formed d h l = rw (stored-long d h l, drop-drop 96 17 h)
+  stored-formed d h l = rw (stored-strict d h l, stored-long d h l, drop-drop 96 17 h)
 
 -- ---- one number changed
 
@@ -95,7 +113,7 @@ empty-map f [] = refl
 empty-map f (x ∷ l) = refl
 
 empty-subs : (k : Kind) (ws rows : List Row) → empty (subsAt k ws rows) ≡ empty ws
-unfolding subsAt
+unfolding eachSub
 empty-subs k [] rows = refl
 empty-subs k (w ∷ ws) rows = refl
 

@@ -8,7 +8,7 @@ use Rattle.definition.specs.Types.{Id, Audit, Dest}
 use Rattle.definition.specs.Destination.{Out}
 use Rattle.definition.specs.Layout.{Row, subRows, eventWords}
 use Rattle.state.specs.declared.Head.{Head}
-use Rattle.state.specs.State.{headView}
+use Rattle.state.specs.State.{headView, strictTables}
 
 -- a part that sends nothing
 abbrev pub silent : (Dest → Dest) → Dest → Out
@@ -18,8 +18,8 @@ silent f t = record { dest = f t; events = [] }
 abbrev pub both : (Dest → Out) → (Dest → Out) → Dest → Out
 both f g t = record { dest = g (f t .dest) .dest; events = f t .events ++ g (f t .dest) .events }
 
--- the destination and the events are as f has them, whatever the producers and audits; the counts stand within the tables; and what is no
--- part of the state, or not sent, is as it was
+-- the destination and the events are as f has them, whatever the producers and audits; the counts stand within the tables; strict words stay
+-- strict; and what is no part of the state, or not sent, is as it was
 pub record Leaves (f : Dest → Out) (d r : Head) (subs rows events subs′ rows′ events′ : List Row) : Type 0 where
   pub view : (producers : List Id) (audits : List Audit) → length producers ≡ d .producers → headView r subs′ rows′ producers audits ≡ f (headView d subs rows producers audits) .dest
   pub sent : (producers : List Id) (audits : List Audit) → length producers ≡ d .producers → take (r .events) events′ ≡ take (d .events) events ++ map eventWords (f (headView d subs rows producers audits) .events)
@@ -31,6 +31,7 @@ pub record Leaves (f : Dest → Out) (d r : Head) (subs rows events subs′ rows
   pub consumers : r .consumers ≤ 32
   pub used : r .used ≤ 512
   pub rows-used : subRows (take (r .consumers) subs′) + (r .reserved + r .waiting) ≡ r .used
+  pub strict : strictTables d subs rows ≡ true → strictTables r subs′ rows′ ≡ true
   pub subs-past : drop 32 subs′ ≡ drop 32 subs
   pub rows-past : drop 512 rows′ ≡ drop 512 rows
   pub subs-length : length subs′ ≡ length subs

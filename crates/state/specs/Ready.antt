@@ -8,7 +8,7 @@ use Rattle.definition.specs.Types.{Id, Audit}
 use Rattle.definition.specs.Calls.{sound}
 use Rattle.definition.specs.Layout.{Row, subRows}
 use Rattle.state.specs.declared.Head.{Head}
-use Rattle.state.specs.State.{headView}
+use Rattle.state.specs.State.{headView, strictTables}
 
 -- the counts stand within the tables
 pub record Stands (d : Head) (subs : List Row) : Type 0 where
@@ -31,4 +31,5 @@ pub record Ready (d : Head) (subs rows events : List Row) : Type 0 where
   pub left : d .«calls_used» + 1 ≤ d .«call_limit»
   pub none-sent : d .events ≡ 0
   pub stands : Stands d subs
+  pub strict : strictTables d subs rows ≡ true
   pub long : Long subs rows events

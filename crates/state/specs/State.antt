@@ -12,7 +12,7 @@ use Rattle.definition.specs.Types.{Kind, queue, topic, Id, Audit, Dest}
 use Rattle.definition.specs.Consumer.{zeroStats}
 use Rattle.definition.specs.Words.{at}
 pub use Rattle.definition.specs.Words.{kindBy}
-use Rattle.definition.specs.Layout.{Row, flag, heldAt, subsAt, subRows, statsAt}
+use Rattle.definition.specs.Layout.{Row, flag, heldAt, subsAt, subRows, statsAt, tablesStrict}
 use Rattle.stats.specs.declared.Stats.{Stats}
 use Rattle.state.specs.declared.Head.{Head}
 use Rattle.state.specs.declared.Answer.{Answer}
@@ -96,6 +96,10 @@ headView d subs rows producers audits =
       idle = if d .idle then some (d .«idle_since») else none;
       reserved = map heldAt (take (d .reserved) others);
     }
+
+-- the words in use of the tables are strict
+abbrev pub strictTables : Head → List Row → List Row → Bool
+strictTables d subs rows = tablesStrict (d .reserved + d .waiting) (take (d .consumers) subs) rows
 
 -- ---- the numbers, one changed
 

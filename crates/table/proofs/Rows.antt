@@ -11,7 +11,9 @@ use Rattle.words.proofs.Words.{int-fits, int-unsigned}
 use Rattle.definition.specs.Base.{if_then_else_}
 use Rattle.entry.specs.Entry.{entryOf, oneMore, redelivered}
 use Rattle.entry.proofs.Redelivery.{oneMore-fits}
-use Rattle.table.specs.Table.{Row, inRange, isFreed, freedRow, markRow, raisedRow, redeliverRow, unmarkRow}
+use Rattle.definition.specs.Consumer.{inflightOf}
+use Rattle.definition.specs.Layout.{flag, inflightAt}
+use Rattle.table.specs.Table.{Row, inRange, isFreed, freedRow, markRow, raisedRow, redeliverRow, unmarkRow, flownRow}
 
 -- another word is as it was
 pub word-kept : (w : Row) (k v j : ℕ) → (j ≡ k → ⊥) → getD (set w k v) j 0 ≡ getD w j 0
@@ -81,3 +83,17 @@ redeliver-length first last w = by (inRange first last w)
     by : (b : Bool) → length (if b then raisedRow w else w) ≡ length w
     by true = simp length-set
     by false = refl
+
+-- ---- a row as it goes out
+
+pub flown-row : (n : ℕ) (w : Row) → length w ≡ 9 → inflightAt (flownRow n w) ≡ inflightOf n (entryOf w)
+flown-row n w e =
+    let a : Row = set w 6 n in
+    let b : Row = set a 7 0 in
+    let k : 8 < length b = simp length-set (omega arith) in
+    let h : 7 < length a = simp length-set (omega arith) in
+    let six : getD (set b 8 0) 6 0 ≡ n = word-kept b 8 0 6 (below (omega arith)) ∙ word-kept a 7 0 6 (below (omega arith)) ∙ getD-set-same w 6 n 0 (omega arith) in
+    let seven : getD (set b 8 0) 7 0 ≡ 0 = word-kept b 8 0 7 (below (omega arith)) ∙ getD-set-same a 7 0 0 h in
+    let eight : getD (set b 8 0) 8 0 ≡ 0 = getD-set-same b 8 0 0 k in
+    let entry : entryOf (set b 8 0) ≡ entryOf w = place-kept b 8 0 (omega arith) ∙ place-kept a 7 0 (omega arith) ∙ place-kept w 6 n (omega arith) in
+    λ j. record { dseq = six j; entry = entry j; freed = flag (seven j); tx = flag (eight j) }

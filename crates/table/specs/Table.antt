@@ -102,6 +102,10 @@ redeliverRow first last r = if inRange first last r then raisedRow r else r
 abbrev pub unmarkRow : Row → Row
 unmarkRow r = set r 8 0
 
+-- sent with a delivery number, neither freed nor acknowledged in a transaction
+abbrev pub flownRow : ℕ → Row → Row
+flownRow dseq r = set (set (set r 6 dseq) 7 0) 8 0
+
 -- the rows of from..to that pass a test are gone from the first n; the last of the n places keep what they held
 unfoldable pub removed : (Row → Bool) → ℕ → ℕ → ℕ → List Row → List Row
 removed p from to n rs = take from rs ++ (keep (λ r. not (p r)) (slice from to rs) ++ (slice to n rs ++ drop (n - tally p (slice from to rs)) rs))

@@ -7,7 +7,7 @@ ghost use lib.ListN.{length, getD};
 ghost use lib.Seq.{slice};
 ghost use Rattle.definition.specs.Base.{if_then_else_, tally};
 ghost use Rattle.table.specs.Table.{closeGap, insertRow, openGap, findSeq, placeOf};
-ghost use Rattle.table.specs.Table.{inRange, isFreed, hasSeq, countRows, mapRows, freedRow, markRow, raisedRow, redeliverRow, unmarkRow};
+ghost use Rattle.table.specs.Table.{inRange, isFreed, hasSeq, countRows, mapRows, freedRow, markRow, raisedRow, redeliverRow, unmarkRow, flownRow};
 ghost use Rattle.table.specs.Table.{compacted, removeRows, removedRows, removedRange};
 use entry::DSEQ;
 use entry::FREED;
@@ -161,6 +161,18 @@ fn raised_row(row: Row) -> Row
     let mut r = row;
     let e = entry::entry_of(row).redelivered();
     r[REDELIVERY] = words::word_of_int(e.redelivery);
+    r
+}
+
+// A row as it goes out: with a delivery number, neither freed nor acknowledged in a transaction.
+pub fn flown(row: Row, dseq: u64) -> Row
+    ensures { λ r. ⌜ r ≡ flownRow dseq row ⌝ }
+    ensures { λ r. ⌜ length row ≡ 9 ⌝ }
+{
+    let mut r = row;
+    r[DSEQ] = dseq;
+    r[FREED] = 0;
+    r[TX] = 0;
     r
 }
 

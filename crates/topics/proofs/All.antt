@@ -11,7 +11,7 @@ use Rattle.definition.specs.Types.{topic}
 use Rattle.definition.specs.Types as Def
 use Rattle.definition.specs.Consumer.{_⊕_, Step, serveTopic}
 use Rattle.definition.specs.Destination.{Served, serveAll}
-use Rattle.definition.specs.Layout.{Row, subsAt, subRows, eventWords}
+use Rattle.definition.specs.Layout.{Row, eachSub, subsAt, subRows, eventWords}
 use Rattle.definition.proofs.Local.{⊕-zero, ⊕-assoc}
 use Rattle.consumers.specs.declared.Sub.{Sub}
 use Rattle.consumers.specs.Consumers.{subOf, subWords, subView}
@@ -41,7 +41,7 @@ whole now ws i base d subs rows events =
 -- at the start
 pub whole-start : (now : ℕ) (ws : List Row) (d : Head) (subs rows events : List Row)
     → whole now ws 0 0 d subs rows events ≡ ended [] (take (d .reserved + d .waiting) (drop (subRows ws) rows)) (d .stats) (take (d .events) events) (serveAll now (subsAt topic ws rows))
-unfolding whole subsAt
+unfolding whole eachSub
 whole-start now ws d subs rows events =
     let e : 0 + subRows ws ≡ subRows ws = omega arith in
     ap (λ (n : ℕ). ended [] (take (d .reserved + d .waiting) (drop n rows)) (d .stats) (take (d .events) events) (serveAll now (subsAt topic ws rows))) e
@@ -49,7 +49,7 @@ whole-start now ws d subs rows events =
 -- at the end
 pub whole-end : (now : ℕ) (ws : List Row) (i base : ℕ) (d : Head) (subs rows events : List Row) → i ≡ length ws
     → whole now ws i base d subs rows events ≡ record { subs = subsAt topic (take i subs) rows; others = take (d .reserved + d .waiting) (drop base rows); stats = d .stats; events = take (d .events) events }
-unfolding whole subsAt subRows serveAll
+unfolding whole eachSub subRows serveAll
 whole-end now ws i base d subs rows events e =
     let none : drop i ws ≡ [] = ap (λ (n : ℕ). drop n ws) e ∙ drop-length ws in
     let z : base + 0 ≡ base = omega arith in

@@ -8,7 +8,7 @@ use lib.ListN.{length, take, drop, getD, set}
 use lib.Seq.{drop-cons, drop-drop, take-suc, take-suc-set}
 use Rattle.definition.specs.Types.{Kind}
 use Rattle.definition.specs.Types as Def
-use Rattle.definition.specs.Layout.{Row, inflightOf, heldOf, subAt, subsAt, subRows}
+use Rattle.definition.specs.Layout.{Row, inflightOf, heldOf, subAt, eachSub, subsAt, subRows}
 use Rattle.consumers.specs.Consumers.{subOf, subView}
 use Rattle.consumers.proofs.View.{sub-at, subs-append, subs-agree, rows-append}
 
@@ -29,7 +29,7 @@ rows-one pre x = omega (arith, rows-append pre (x ∷ []))
 pub subs-done : (k : Kind) (pre : List Row) (x : Row) (base : ℕ) (rows rows′ : List Row) (y : Def.Sub) → base ≡ subRows pre → take base rows′ ≡ take base rows
     → subView k (subOf x) (take (inflightOf x) (drop base rows′)) (take (heldOf x) (drop (base + inflightOf x) rows′)) ≡ y
     → subsAt k (pre ++ (x ∷ [])) rows′ ≡ subsAt k pre rows ++ (y ∷ [])
-unfolding subsAt
+unfolding eachSub
 subs-done k pre x base rows rows′ y ends low is =
     let f : List Row = take (inflightOf x) (drop base rows′) in
     let first : subsAt k pre rows′ ≡ subsAt k pre rows = subs-agree k pre base rows′ rows (omega arith) low in
@@ -53,7 +53,7 @@ module _ (ws : List Row) (i : ℕ) (more : i < length ws) where
   -- the next consumer, whose rows begin at base, and the rest
   pub subs-next : (k : Kind) (base : ℕ) (rows : List Row) → subsAt k (drop i ws) (drop base rows)
       ≡ subView k (subOf w) (take (inflightOf w) (drop base rows)) (take (heldOf w) (drop (base + inflightOf w) rows)) ∷ subsAt k (drop (suc i) ws) (drop (base + inflightOf w + heldOf w) rows)
-  unfolding subsAt
+  unfolding eachSub
   subs-next k base rows =
       let f : List Row = take (inflightOf w) (drop base rows) in
       let one : drop (inflightOf w) (drop base rows) ≡ drop (base + inflightOf w) rows = drop-drop (inflightOf w) base rows in

@@ -85,23 +85,6 @@ ran-turn now c es s v h =
     seen-eq v (t .sub) (⊕-assoc (v .stats) c (t .counts)) (append-assoc (v .events) (map eventWords es) (map eventWords (t .events)) ∙ ap (λ (l : List Row). v .events ++ l) (sym (map-append eventWords es (t .events))))
     ∙ ap (λ (x : Step). stepped x v) (sym h)
 
--- ---- a row as it goes out
-
-other : {j k : ℕ} → j < k → j ≡ k → ⊥
-other h e = omega arith
-
-pub flown-row : (w : Row) (n : ℕ) → length w ≡ 9 → inflightAt (set (set (set w 6 n) 7 0) 8 0) ≡ inflightOf n (entryOf w)
-flown-row w n e =
-    let a : Row = set w 6 n in
-    let b : Row = set a 7 0 in
-    let k : 8 < length b = simp length-set (omega arith) in
-    let h : 7 < length a = simp length-set (omega arith) in
-    let six : getD (set b 8 0) 6 0 ≡ n = word-kept b 8 0 6 (other (omega arith)) ∙ word-kept a 7 0 6 (other (omega arith)) ∙ getD-set-same w 6 n 0 (omega arith) in
-    let seven : getD (set b 8 0) 7 0 ≡ 0 = word-kept b 8 0 7 (other (omega arith)) ∙ getD-set-same a 7 0 0 h in
-    let eight : getD (set b 8 0) 8 0 ≡ 0 = getD-set-same b 8 0 0 k in
-    let entry : entryOf (set b 8 0) ≡ entryOf w = place-kept b 8 0 (omega arith) ∙ place-kept a 7 0 (omega arith) ∙ place-kept w 6 n (omega arith) in
-    λ j. record { dseq = six j; entry = entry j; freed = flag (seven j); tx = flag (eight j) }
-
 pub redelivery-fits : (w : Row) → SFits w32 (entryOf w .redelivery)
 unfolding entryOf
 redelivery-fits w = int-fits (getD w 5 0)

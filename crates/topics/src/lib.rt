@@ -4,46 +4,20 @@ ghost use Prim.Native.Nat.{_+_, _≤_, _<_, _^_};
 ghost use mathlib.Core.Bool.{false, not, _&&_};
 ghost use lib.Dec.{leb};
 ghost use lib.ListN.{length, drop};
-ghost use Rattle.words.specs.Words.{signed};
-ghost use Rattle.entry.specs.Entry.{expired, entryOf};
-ghost use Rattle.definition.specs.Consumer.{inflightOf};
-ghost use Rattle.definition.specs.Layout.{inflightAt};
 ghost use Rattle.definition.specs.Destination.{dispatchTopic};
 ghost use Rattle.state.specs.Fits.{Fits, fits};
 ghost use Rattle.state.specs.Leaves.{Leaves, LeavesIf};
 ghost use Rattle.topics.specs.Topics.{Fine, Kept, seen, ran, sentSub, Dispatched};
 use consumers::Sub;
 use consumers::SubRow;
-use entry::Entry;
 use entry::Row;
 use state::Event;
 use state::Head;
-
-// No clock is above 2^62.
-pub const CLOCK_MOST: u64 = 4611686018427387904;
 
 // What serving one consumer leaves.
 struct Served {
     sub: Sub,
     head: Head,
-}
-
-// Whether an entry has expired by the clock that a word holds.
-pub fn expired_by(e: Entry, clock: u64) -> bool
-    ensures { λ r. ⌜ r ≡ expired (signed clock) e ⌝ }
-{
-    e.expired(words::signed_of(clock))
-}
-
-// A row as it goes out: with a delivery number, neither freed nor acknowledged in a transaction.
-pub fn flown(row: Row, dseq: u64) -> Row
-    ensures { λ r. ⌜ inflightAt r ≡ inflightOf dseq (entryOf row) ⌝ }
-{
-    let mut r = row;
-    r[entry::DSEQ] = dseq;
-    r[entry::FREED] = 0;
-    r[entry::TX] = 0;
-    r
 }
 
 // `Sub::send`: the first held row is the last in flight, and no pull waits.
@@ -83,7 +57,7 @@ fn serve_topic(
         let first = base + s.inflight;
         let row = rows[first];
         let e = entry::entry_of(row);
-        if expired_by(e, clock) {
+        if entry::expired_by(e, clock) {
             table::close_gap(rows, first, 1, d.used);
             d.used = d.used - 1;
             d = d.count_expired(1);
@@ -91,7 +65,7 @@ fn serve_topic(
         } else {
             d = state::push_message(events, d, s.conn, s.session, s.value, e.seq, e.redelivery);
             d = d.count_dispatched();
-            rows[first] = flown(row, s.next_dseq);
+            rows[first] = table::flown(row, s.next_dseq);
             s = sent(s);
         }
     }
@@ -136,7 +110,7 @@ pub fn dispatch_topic(
 ) -> Head
     ensures { λ r. ⌜ LeavesIf (fits (now (subs .entry)) d (length (now (rows .entry))) (length (now (events .entry))) && (leb clock (2 ^ 62) && not (d .queue))) (Dispatched d r) (dispatchTopic clock) d r (now (subs .entry)) (now (rows .entry)) (now (events .entry)) (now (subs .exit)) (now (rows .exit)) (now (events .exit)) ⌝ }
 {
-    if CLOCK_MOST < clock {
+    if entry::CLOCK_MOST < clock {
         return d;
     }
     if d.queue {

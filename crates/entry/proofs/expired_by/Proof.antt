@@ -1,13 +1,13 @@
--- `topics::expired_by` meets its contract. Assumes nothing.
+-- `entry::expired_by` meets its contract. Assumes nothing.
 use mathlib.Core.Path.{ap, _∙_}
 use lib.IntN.{ℤ}
 use mir.Syntax.{w64}
 use mir.Val.{SFits}
 use mir.ValLaws.{toZ-ofZ}
 use Rattle.entry.specs.Entry.{expired}
 use borrow.Author.Needs.{needs}
-use Rattle.topics.proofs.expired_by.Statement.{statement}
-use Rattle.topics.proofs.expired_by.Tie as tie
+use Rattle.entry.proofs.expired_by.Statement.{statement}
+use Rattle.entry.proofs.expired_by.Tie as tie
 
 signed-of-requires : tie.Need-signed-of-requires
 signed-of-requires c κs = search needs
