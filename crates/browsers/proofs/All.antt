@@ -18,7 +18,7 @@ use Rattle.definition.proofs.Local.{⊕-zero, ⊕-assoc, alone}
 use Rattle.table.proofs.Lists.{slice-take, agree-drop}
 use Rattle.consumers.specs.Consumers.{subOf, subView}
 use Rattle.state.specs.declared.Head.{Head}
-use Rattle.topics.proofs.Line.{subs-done, left-size, subs-next, subs-rest}
+use Rattle.consumers.proofs.Line.{subs-done, left-size, subs-next, subs-rest}
 
 -- the consumers, the reserved rows, what waits, the counters and the events
 pub record Whole : Type 0 where

@@ -7,7 +7,7 @@ use native.Mathlib.Numerals.{add-one}
 use native.Mathlib.Omega.{arith}
 use borrow.Author.Tests.{le-leb}
 use lib.ListN.{length, take, drop, getD, set, length-set}
-use lib.Seq.{length-take-le, getD-take, drop-length, drop-set-lt, take-take}
+use lib.Seq.{length-take-le, getD-take, drop-drop, drop-length, drop-set-lt, take-add, take-take}
 use Rattle.entry.specs.Entry.{entryOf}
 use Rattle.definition.specs.Base.{all, is-some}
 use Rattle.definition.specs.Types.{Entry, Kind, queue, Id, Audit}
@@ -15,23 +15,24 @@ use Rattle.definition.specs.Types as Def
 use Rattle.definition.specs.Consumer.{_⊕_, isBrowser, Browse, dispatchBrowser}
 use Rattle.definition.specs.Destination.{Browsed, browsers}
 use Rattle.definition.specs.Words.{at}
-use Rattle.definition.specs.Layout.{Row, inflightOf, heldOf, heldAt, browserAt, subsAt, subRows, eventWords}
+use Rattle.definition.specs.Layout.{Row, inflightOf, heldOf, heldAt, browserAt, subsAt, subRows, eventWords, entryStrict, tablesStrict}
 use Rattle.definition.proofs.Tests.{if-true, if-false}
-use Rattle.definition.proofs.Lists.{all-end}
+use Rattle.definition.proofs.Lists.{all-end, all-append}
 use Rattle.definition.proofs.Local.{⊕-zero, alone}
-use Rattle.table.proofs.Lists.{same-after, agree-later}
+use Rattle.table.proofs.Lists.{same-after, agree-drop, agree-later}
 use Rattle.consumers.specs.declared.Sub.{Sub}
 use Rattle.consumers.specs.Consumers.{subOf, subWords, subView}
 use Rattle.consumers.proofs.Laws.{fitting-at}
 use Rattle.consumers.proofs.Words.{round}
 use Rattle.state.specs.declared.Head.{Head}
-use Rattle.state.specs.State.{headView, kindBy, withWaiting}
+use Rattle.state.specs.State.{headView, strictTables, kindBy, withWaiting}
 use Rattle.state.specs.Fits.{Fits}
 use Rattle.state.specs.Leaves.{Leaves}
 use Rattle.topics.specs.Topics.{moved}
-use Rattle.topics.proofs.Line.{stored-next, same-next, rows-one, left-size}
+use Rattle.consumers.proofs.Strict.{stored-strict, all-left, all-right}
+use Rattle.consumers.proofs.Line.{stored-next, same-next, rows-one, left-size, LineStrict, line-start, line-end, line-own, line-words, line-others, line-step}
 use Rattle.browsers.specs.Browsers.{browsed, nextFits, Served}
-use Rattle.browsers.specs.Serving.{Shown, shown, between, Fine, Kept, Done}
+use Rattle.browsers.specs.Serving.{Shown, shown, between, Fine, Kept, Strict, Done}
 use Rattle.browsers.proofs.All.{Whole, whole, whole-start, whole-end, reservedRows, waitingRows, met, waits-after, whole-turn}
 
 -- the counts, with i consumers done
@@ -56,6 +57,7 @@ pub record Round (now : ℕ) (subs₀ rows₀ events₀ : List Row) (d₀ : Head
   pub nexts : all nextFits (take i subs) ≡ true
   pub past : drop (d₀ .used) rows ≡ drop (d₀ .used) rows₀
   pub later : drop (d .events) events ≡ drop (d .events) events₀
+  pub strict : strictTables d₀ subs₀ rows₀ ≡ true → LineStrict (d .reserved + d .waiting) (take (d₀ .consumers) subs₀) subs i base rows
   pub said : whole now (take (d₀ .consumers) subs₀) i base d subs rows events ≡ whole now (take (d₀ .consumers) subs₀) 0 0 d₀ subs₀ rows₀ events₀
 
 module _ (now : ℕ) (subs₀ rows₀ events₀ : List Row) (d₀ : Head) (fits : Fits subs₀ d₀ (length rows₀) (length events₀)) where
@@ -78,6 +80,7 @@ module _ (now : ℕ) (subs₀ rows₀ events₀ : List Row) (d₀ : Head) (fits 
     nexts = refl;
     past = refl;
     later = refl;
+    strict = line-start (d₀ .reserved + d₀ .waiting) ws subs₀ rows₀;
     said = refl;
   }
 
@@ -190,6 +193,10 @@ module _ (now : ℕ) (subs₀ rows₀ events₀ : List Row) (d₀ : Head) (fits 
               nexts = ap (all nextFits) front ∙ all-end nextFits (take i subs) w (g .nexts) (le-leb (at 8 w) (2 ^ 62) (omega (arith, fitting-at ws i (fits .fitted) here .1)));
               past = g .past;
               later = g .later;
+              strict = λ z.
+                let l = g .strict z in
+                line-step (d .reserved + d .waiting) ws subs i base rows here l subs w rows (subRows post) end end (d .reserved + d .waiting) front (g .ends) refl refl (line-words (d .reserved + d .waiting) ws subs i base rows here l)
+                (line-own (d .reserved + d .waiting) ws subs i base rows here l) refl (omega arith) refl (line-others (d .reserved + d .waiting) ws subs i base rows here l end refl);
               said = whole-pass ∙ g .said;
             }
 
@@ -232,6 +239,58 @@ module _ (now : ℕ) (subs₀ rows₀ events₀ : List Row) (d₀ : Head) (fits 
             (ap (λ (x : Shown). x .before) (done .said)) stored agrees waits (ap (λ (x : Shown). x .stats) (done .said)) (ap (λ (x : Shown). x .events) (done .said))
             (ap (λ (p : List Entry). met now p mine) waited ∙ if-true (dispatchBrowser now (v .pending) mine) (alone (v .pending) mine) (browses ∙ shows))
 
+        -- the rows after the consumers': the reserved ones as they were, and those that wait
+        others-strict : LineStrict (d .reserved + d .waiting) ws subs i base rows → Strict base (between base s d) t r rows′
+            → all entryStrict (take (r .reserved + r .waiting) (drop (base + t .inflight + t .held + subRows post) rows′)) ≡ true
+        unfolding shown subOf
+        others-strict l z =
+            let n : ℕ = between base s d in
+            let c : ℕ = subRows post in
+            let end : ℕ = base + s .inflight + s .held in
+            let end′ : ℕ = base + t .inflight + t .held in
+            let res : r .reserved ≡ d .reserved = ap (λ (x : Head). x .reserved) (k .head) in
+            let spans : end + n + d .waiting ≡ d .used = omega (arith, m-is, left, g .ready .rows) in
+            let agrees : take n (drop end′ rows′) ≡ take n (drop end rows) =
+            sym (take-take n (r .used - end′) (drop end′ rows′) (omega (arith, k .rows))) ∙ ap (λ (x : Shown). x .after) (done .said) ∙ take-take n (d .used - end) (drop end rows) (omega arith) in
+            let old = ap (all entryStrict) (sym (take-add (d .reserved) (d .waiting) (drop (end + c) rows))) ∙ line-others (d .reserved + d .waiting) ws subs i base rows here l end refl in
+            let kept : take (r .reserved) (drop (end′ + c) rows′) ≡ take (d .reserved) (drop (end + c) rows) =
+            ap₂ take (res ∙ sym between-less) (sym (drop-drop c end′ rows′)) ∙ agree-drop c n (drop end′ rows′) (drop end rows) agrees (omega (arith, m-is)) ∙ ap₂ take between-less (drop-drop c end rows) in
+            let from : end′ + c + r .reserved ≡ end′ + n = omega (arith, m-is, res) in
+            let waits : take (r .waiting) (drop (r .reserved) (drop (end′ + c) rows′)) ≡ drop n (take (r .used - end′) (drop end′ rows′)) =
+            ap (take (r .waiting)) (drop-drop (r .reserved) (end′ + c) rows′ ∙ ap (λ (x : ℕ). drop x rows′) from) ∙ sym (waits-after end′ n (r .waiting) (r .used) rows′ (k .rows)) in
+            ap (all entryStrict) (take-add (r .reserved) (r .waiting) (drop (end′ + c) rows′))
+            ∙ all-append entryStrict (take (r .reserved) (drop (end′ + c) rows′)) _ (ap (all entryStrict) kept ∙ all-left entryStrict (take (d .reserved) (drop (end + c) rows)) (take (d .waiting) (drop (d .reserved) (drop (end + c) rows))) old) (ap (all entryStrict) waits ∙ z .waiting)
+          where
+            between-less : between base s d - subRows post ≡ d .reserved
+            between-less = omega (arith, m-is)
+
+        -- what serving it starts from
+        before-strict : LineStrict (d .reserved + d .waiting) ws subs i base rows → Strict base (between base s d) s d rows
+        unfolding subOf
+        before-strict l =
+            let n : ℕ = between base s d in
+            let c : ℕ = subRows post in
+            let end : ℕ = base + s .inflight + s .held in
+            let spans : end + n + d .waiting ≡ d .used = omega (arith, m-is, left, g .ready .rows) in
+            let old = ap (all entryStrict) (sym (take-add (d .reserved) (d .waiting) (drop (end + c) rows))) ∙ line-others (d .reserved + d .waiting) ws subs i base rows here l end refl in
+            let from : end + n ≡ end + c + d .reserved = omega (arith, m-is) in
+            let waits : drop n (take (d .used - end) (drop end rows)) ≡ take (d .waiting) (drop (d .reserved) (drop (end + c) rows)) =
+            waits-after end n (d .waiting) (d .used) rows spans ∙ ap (take (d .waiting)) (ap (λ (x : ℕ). drop x rows) from ∙ sym (drop-drop (d .reserved) (end + c) rows)) in
+            let o = line-own (d .reserved + d .waiting) ws subs i base rows here l in
+            record { own = record { flying = o .flying; held = o .held }; waiting = ap (all entryStrict) waits ∙ all-right entryStrict (take (d .reserved) (drop (end + c) rows)) _ old }
+
+        strict-served : LineStrict (d .reserved + d .waiting) ws subs i base rows → LineStrict (r .reserved + r .waiting) ws (set subs i (subWords t)) (i + 1) (base + t .inflight + t .held) rows′
+        unfolding shown subWords subOf
+        strict-served l =
+            let n : ℕ = between base s d in
+            let end : ℕ = base + s .inflight + s .held in
+            let end′ : ℕ = base + t .inflight + t .held in
+            let agrees : take n (drop end′ rows′) ≡ take n (drop end rows) =
+            sym (take-take n (r .used - end′) (drop end′ rows′) (omega (arith, k .rows))) ∙ ap (λ (x : Shown). x .after) (done .said) ∙ take-take n (d .used - end) (drop end rows) (omega (arith, m-is, left, g .ready .rows)) in
+            let z = done .strict (before-strict l) in
+            line-step (d .reserved + d .waiting) ws subs i base rows here l (set subs i (subWords t)) (subWords t) rows′ n end end′ (r .reserved + r .waiting) (stored-next subs i (subWords t) within-subs) (g .ends) refl refl
+            (stored-strict t) (record { flying = z .own .flying; held = z .own .held }) (ap (λ (x : Shown). x .before) (done .said)) (omega (arith, m-is)) agrees (others-strict l z)
+
         served : Round now subs₀ rows₀ events₀ d₀ (set subs i (subWords t)) rows′ events′ r (base + t .inflight + t .held) (i + 1)
         unfolding subWords
         served =
@@ -261,6 +320,7 @@ module _ (now : ℕ) (subs₀ rows₀ events₀ : List Row) (d₀ : Head) (fits 
               nexts = ap (all nextFits) front ∙ all-end nextFits (take i subs) (subWords t) (g .nexts) (le-leb (t .«next_dseq») (2 ^ 62) (omega (arith, k .next, next-row, own-few)));
               past = agree-later (d .used) (d₀ .used) rows′ rows (o .used) (done .past) ∙ g .past;
               later = done .later ∙ agree-later (d .events) (r .events) events events₀ (k .sent) (g .later);
+              strict = λ z. strict-served (g .strict z);
               said = whole-served ∙ g .said;
             }
 
@@ -359,6 +419,7 @@ module _ (now : ℕ) (subs₀ rows₀ events₀ : List Row) (d₀ : Head) (fits 
               consumers = omega (arith, n, fits .consumers);
               used = omega (arith, r .used, fits .used);
               rows-used = rw e (omega arith);
+              strict = λ h. ap (λ (l : List Row). tablesStrict (d .reserved + d .waiting) l rows) e ∙ line-end (d .reserved + d .waiting) ws subs i base rows all-done (g .ends) (g .strict h);
               subs-past = agree-later i 32 subs subs₀ (omega (arith, g .within, fits .consumers)) (g .rest);
               rows-past = agree-later (d₀ .used) 512 rows rows₀ (fits .used) (g .past);
               subs-length = g .same-subs;

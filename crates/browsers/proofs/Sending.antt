@@ -12,7 +12,8 @@ use Rattle.model.specs.Model.{idOf}
 use Rattle.definition.specs.Types.{Id, Entry, message, null}
 use Rattle.definition.specs.Consumer.{inflightOf}
 use Rattle.definition.specs.Layout.{Row, inflightAt, eventWords}
-use Rattle.table.specs.Table.{hasSeq, closeGap}
+use Rattle.table.specs.Table.{hasSeq, closeGap, flownRow}
+use Rattle.table.proofs.Rows.{flown-row}
 use Rattle.table.proofs.Lists.{agree-later}
 use Rattle.table.proofs.Laws.{close-after, close-length, remove-length, remove-after}
 use Rattle.consumers.specs.declared.Sub.{Sub}
@@ -24,7 +25,7 @@ use Rattle.topics.specs.Topics.{sentSub}
 use Rattle.topics.proofs.Turn.{lostSub}
 use Rattle.browsers.specs.Serving.{goneRows, leftRows, dropped, shown, ran, closedSub, between, Fine, Kept, Sending, Done}
 use Rattle.browsers.proofs.Dropped.{gone-few}
-use Rattle.browsers.proofs.Turn.{lostHead, ran-stop, ran-finished, ran-closed, k-few, ran-lost, ran-sent}
+use Rattle.browsers.proofs.Turn.{lostHead, ran-stop, ran-finished, ran-closed, k-few, ran-lost, ran-sent, strict-lost, strict-sent}
 
 -- where a row is held only without credit
 pub none-held : (n : ℕ) (b : Bool) → (0 < n → b ≡ false) → b ≡ true → n ≤ 0
@@ -41,6 +42,7 @@ sending-start now base rows events s d f = record {
   past = refl;
   kept = record { rows = omega arith; used = omega arith; own = omega arith; sent = omega arith; next = omega arith; waiting = omega arith; expired = refl; dispatched = refl; head = refl };
   few = omega arith;
+  strict = λ z. z;
 }
 
 module _ (now base : ℕ) (rows₀ events₀ : List Row) (s₀ : Sub) (d₀ : Head) (rows events : List Row) (s : Sub) (d : Head) (g : Sending now base rows₀ events₀ s₀ d₀ rows events s d) where
@@ -123,6 +125,7 @@ module _ (now base : ℕ) (rows₀ events₀ : List Row) (s₀ : Sub) (d₀ : He
           past = past-lost;
           kept = kept-lost;
           few = omega (arith, g .few);
+          strict = λ z. strict-lost now base m s d rows events f (g .kept .rows) some credited (g .strict z);
         })
 
     -- or it is sent
@@ -144,26 +147,28 @@ module _ (now base : ℕ) (rows₀ events₀ : List Row) (s₀ : Sub) (d₀ : He
 
     pub sending-sent : (s′ : Sub) (d′ : Head) (events′ : List Row) (x : Row) → s′ ≡ sentSub s → d′ ≡ withEvents (d .events + 1) d
         → events′ ≡ set events (d .events) (eventWords (message (id-of s) (entryOf row .seq) (entryOf row .redelivery)))
-        → inflightAt x ≡ inflightOf (s .«next_dseq») (entryOf row) → expired (pos now) (entryOf row) ≡ false
+        → x ≡ flownRow (s .«next_dseq») row → length row ≡ 9 → expired (pos now) (entryOf row) ≡ false
         → Sending now base rows₀ events₀ s₀ d₀ (set rows (base + s .inflight) x) events′ s′ d′
     unfolding shown subView
-    sending-sent s′ d′ events′ x o p q r y =
+    sending-sent s′ d′ events′ x o p q r n y =
+        let flies : inflightAt x ≡ inflightOf (s .«next_dseq») (entryOf row) = ap inflightAt r ∙ flown-row (s .«next_dseq») row n in
         let e : Row = eventWords (message (id-of s) (entryOf row .seq) (entryOf row .redelivery)) in
         rw (o, p, q) (record {
           fine = simp length-set fine-sent;
           same-rows = simp length-set (g .same-rows);
           same-events = simp length-set (g .same-events);
-          said = ran-sent now base m s d rows events f (g .kept .rows) some credited x r y ∙ g .said;
+          said = ran-sent now base m s d rows events f (g .kept .rows) some credited x flies y ∙ g .said;
           later = events-after (d .events) events e ∙ agree-later (d .events) (d .events + 1) events events₀ (omega arith) (g .later);
           past = drop-set-lt (d₀ .used) rows (base + s .inflight) x (omega (arith, g .kept .used, f .rows)) ∙ g .past;
           kept = kept-sent;
           few = omega (arith, g .few);
+          strict = λ z. strict-sent now base m s d rows events f (g .kept .rows) some credited x r (g .strict z);
         })
 
   -- ---- served
 
   done-same : shown base m s d rows events ≡ ran now (shown base m s₀ d₀ rows₀ events₀) → Done now base rows₀ events₀ s₀ d₀ rows events s d
-  done-same e = record { said = e; later = g .later; past = g .past; kept = g .kept; few = omega (arith, g .few) }
+  done-same e = record { said = e; later = g .later; past = g .past; kept = g .kept; few = omega (arith, g .few); strict = g .strict }
 
   -- without credit
   pub done-stop : creditOf s ≡ false → Done now base rows₀ events₀ s₀ d₀ rows events s d
@@ -184,4 +189,5 @@ module _ (now base : ℕ) (rows₀ events₀ : List Row) (s₀ : Sub) (d₀ : He
           past = g .past;
           kept = record { rows = w .rows; used = w .used; own = w .own; sent = omega (arith, w .sent); next = w .next; waiting = w .waiting; expired = w .expired; dispatched = w .dispatched; head = ap (withEvents (d .events + 1)) (w .head) };
           few = omega (arith, g .few);
+          strict = λ z. let y = g .strict z in record { own = record { flying = y .own .flying; held = y .own .held }; waiting = y .waiting };
         })

@@ -11,14 +11,16 @@ use lib.ListN.{length, take, drop, getD, set, length-drop}
 use lib.Seq.{slice, length-take-le, take-at, drop-at}
 use Rattle.entry.specs.Entry.{expired, entryOf}
 use Rattle.model.specs.Model.{idOf}
-use Rattle.definition.specs.Base.{keep, tally}
+use Rattle.definition.specs.Base.{all, keep, tally}
 use Rattle.definition.specs.Types.{Entry, queue, null}
 use Rattle.definition.specs.Types as Def
 use Rattle.definition.specs.Consumer.{hasCredit, zeroStats, _⊕_, addExpired, snapshot, withSnapshot, inflightOf, send, sent, sendNull, sameSeq}
 use Rattle.definition.specs.Consumer as Consumer
-use Rattle.definition.specs.Layout.{Row, inflightAt, browserAt, tpendingAt, eventWords}
+use Rattle.definition.specs.Layout.{Row, inflightAt, browserAt, tpendingAt, eventWords, entryStrict, flyingStrict}
+use Rattle.definition.proofs.Lists.{all-keep}
 use Rattle.definition.proofs.Local.{⊕-zero}
-use Rattle.table.specs.Table.{hasSeq, closeGap}
+use Rattle.table.specs.Table.{hasSeq, closeGap, flownRow}
+use Rattle.table.proofs.Strict.{flown-strict}
 use Rattle.table.proofs.Bounds.{gone-in}
 use Rattle.consumers.specs.declared.Sub.{Sub}
 use Rattle.consumers.specs.Consumers.{subView, creditOf}
@@ -27,10 +29,11 @@ use Rattle.state.specs.declared.Head.{Head}
 use Rattle.state.specs.State.{firstWaiting, withUsed, withEvents}
 use Rattle.state.proofs.Counts.{expired-plain}
 use Rattle.state.proofs.Events.{events-up-to}
-use Rattle.topics.specs.Topics.{sentSub}
-use Rattle.topics.proofs.Parts.{held-first, parts-sent}
+use Rattle.topics.specs.Topics.{Parts, partsOf, sentSub}
+use Rattle.topics.proofs.Parts.{held-first, parts-sent, first-strict}
+use Rattle.topics.proofs.Parts as Topics
 use Rattle.topics.proofs.Turn.{lostSub}
-use Rattle.browsers.specs.Serving.{goneRows, leftRows, dropped, Shown, showing, shown, stepped, ran, closedSub, Fine}
+use Rattle.browsers.specs.Serving.{goneRows, leftRows, dropped, Shown, showing, shown, stepped, ran, closedSub, Fine, Strict}
 use Rattle.browsers.proofs.Show.{serve-stop, serve-finished, serve-closed, serve-lost, serve-sent, ran-rest, ran-turn}
 use Rattle.browsers.proofs.Dropped.{entries-left, entries-gone, waiting-rows, parts-gone, gone-few}
 
@@ -153,6 +156,32 @@ module _ (now base m : ℕ) (s : Sub) (d : Head) (rows events : List Row) (fine 
           stats = stats i;
           events = sym (append-nil (take (d .events) events)) i;
         })
+
+    -- strict words stay strict
+    pub strict-lost : Strict base m s d rows → Strict base m (lostSub s) (lostHead k d) (closeGap (base + s .inflight) 1 (d .used - k) (leftRows (e .seq) d rows))
+    strict-lost z =
+        let p = parts-gone (hasSeq (e .seq)) base (s .inflight) (s .held) m (d .waiting) (d .used) rows fits (omega arith) more k k-rows in
+        let low : List Row = take m later in
+        let end : ℕ = base + s .inflight + s .held in
+        let whole : length later ≡ d .used - end = length-take-le (d .used - end) (drop end rows) (simp length-drop (omega arith)) in
+        let size : length low ≡ m = length-take-le m later (omega (arith, whole)) in
+        record {
+          own = record {
+            flying = ap (λ (x : Parts). all flyingStrict (x .flying)) p ∙ z .own .flying;
+            held = ap (λ (x : Parts). all entryStrict (x .held)) p ∙ first-strict base (s .inflight) (s .held) (d .used) rows more (omega arith) (omega arith) (z .own) .1;
+          };
+          waiting = ap (λ (x : Parts). all entryStrict (drop m (x .after))) p ∙ ap (all entryStrict) (drop-at low left m size) ∙ all-keep entryStrict (λ r. not (hasSeq (e .seq) r)) (drop m later) (z .waiting);
+        }
+
+    pub strict-sent : (x : Row) → x ≡ flownRow (s .«next_dseq») row → Strict base m s d rows → Strict base m (sentSub s) (withEvents (d .events + 1) d) (set rows (base + s .inflight) x)
+    strict-sent x is z =
+        let h : base + s .inflight + s .held ≤ d .used = omega arith in
+        let n : d .used ≤ length rows = omega arith in
+        let o = first-strict base (s .inflight) (s .held) (d .used) rows more h n (z .own) .0 in
+        record {
+          own = Topics.strict-sent base (s .inflight) (s .held) (d .used) rows more h n (z .own) x (ap flyingStrict is ∙ flown-strict (s .«next_dseq») row o);
+          waiting = ap (λ (y : Parts). all entryStrict (drop m (y .after))) (parts-sent base (s .inflight) (s .held) (d .used) rows more h n x) ∙ z .waiting;
+        }
 
     pub ran-lost : expired (pos now) e ≡ true
         → ran now (shown base m (lostSub s) (lostHead k d) (closeGap (base + s .inflight) 1 (d .used - k) (leftRows (e .seq) d rows)) events) ≡ ran now v

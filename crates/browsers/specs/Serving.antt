@@ -11,10 +11,12 @@ use Rattle.entry.specs.Entry.{entryOf}
 use Rattle.definition.specs.Types.{Entry, queue}
 use Rattle.definition.specs.Types as Def
 use Rattle.definition.specs.Consumer.{_⊕_, Browse, dispatchBrowser}
-use Rattle.definition.specs.Layout.{Row, eventWords}
+use Rattle.definition.specs.Base.{all}
+use Rattle.definition.specs.Layout.{Row, eventWords, entryStrict}
 use Rattle.table.specs.Table.{hasSeq, removeRows, removedRows}
 use Rattle.consumers.specs.declared.Sub.{Sub}
 use Rattle.consumers.specs.Consumers.{subView}
+use Rattle.consumers.specs.Seats.{OwnStrict}
 use Rattle.state.specs.declared.Head.{Head}
 use Rattle.state.specs.State.{firstWaiting, withStats, withWaiting, withUsed}
 use Rattle.topics.specs.Topics.{Parts, partsOf, moved}
@@ -122,6 +124,11 @@ pub record Kept (base m : ℕ) (s : Sub) (d : Head) (t : Sub) (r : Head) : Type 
   pub dispatched : r .stats .dispatched ≡ d .stats .dispatched
   pub head : r ≡ withWaiting (r .waiting) (moved d r)
 
+-- the words in use of its rows and of those that wait are strict, with m rows between them
+pub record Strict (base m : ℕ) (s : Sub) (d : Head) (rows : List Row) : Type 0 where
+  pub own : OwnStrict base (s .inflight) (s .held) rows
+  pub waiting : all entryStrict (drop m (partsOf base (s .inflight) (s .held) (d .used) rows .after)) ≡ true
+
 -- while its snapshot is sent: the definition says the same of what is there now as of what was there
 pub record Sending (now base : ℕ) (rows₀ events₀ : List Row) (s₀ : Sub) (d₀ : Head) (rows events : List Row) (s : Sub) (d : Head) : Type 0 where
   pub fine : Fine (length rows) (length events) base s d now
@@ -132,6 +139,7 @@ pub record Sending (now base : ℕ) (rows₀ events₀ : List Row) (s₀ : Sub) 
   pub past : drop (d₀ .used) rows ≡ drop (d₀ .used) rows₀
   pub kept : Kept base (between base s₀ d₀) s₀ d₀ s d
   pub few : d .events + s .held ≤ d₀ .events + s₀ .held
+  pub strict : Strict base (between base s₀ d₀) s₀ d₀ rows₀ → Strict base (between base s₀ d₀) s d rows
 
 -- when it is served: it is as the definition has it
 pub record Done (now base : ℕ) (rows₀ events₀ : List Row) (s₀ : Sub) (d₀ : Head) (rows events : List Row) (s : Sub) (d : Head) : Type 0 where
@@ -140,3 +148,4 @@ pub record Done (now base : ℕ) (rows₀ events₀ : List Row) (s₀ : Sub) (d�
   pub past : drop (d₀ .used) rows ≡ drop (d₀ .used) rows₀
   pub kept : Kept base (between base s₀ d₀) s₀ d₀ s d
   pub few : d .events + s .held ≤ d₀ .events + s₀ .held + 1
+  pub strict : Strict base (between base s₀ d₀) s₀ d₀ rows₀ → Strict base (between base s₀ d₀) s d rows

@@ -1,4 +1,5 @@
 pub mod Laws
+pub mod Line
 pub mod Lists
 pub mod Seek
 pub mod Strict

@@ -80,7 +80,7 @@ rows-gone ws i h = omega (arith, rows-append (take i ws) (drop (suc i) ws), rows
 drop-three : (a b c : ℕ) (l : List Row) → drop c (drop b (drop a l)) ≡ drop (a + (b + c)) l
 drop-three a b c l = drop-drop c b (drop a l) ∙ drop-drop (b + c) a l
 
-front-drop : (a b : ℕ) (l : List Row) → drop a (take (a + b) l) ≡ take b (drop a l)
+pub front-drop : (a b : ℕ) (l : List Row) → drop a (take (a + b) l) ≡ take b (drop a l)
 front-drop zero b l = ap (λ (n : ℕ). take n l) (zero-add b)
 front-drop (suc a) b [] = rw (suc-add a b) (sym (take-nil b))
 front-drop (suc a) b (x ∷ l) = rw (suc-add a b) (front-drop a b l)

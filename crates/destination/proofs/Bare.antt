@@ -163,6 +163,7 @@ module _ (c : Call) (ok : argumentsOk c ≡ true) (free : (t : Dest) → ownRefu
         consumers = ready .stands .consumers;
         used = ready .stands .used;
         rows-used = ready .stands .rows-used;
+        strict = λ h. h;
         subs-past = refl;
         rows-past = refl;
         subs-length = refl;

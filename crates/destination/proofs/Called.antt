@@ -12,7 +12,7 @@ use Rattle.stats.specs.Counted.{more}
 use Rattle.definition.specs.Types.{Dest}
 use Rattle.definition.specs.Calls.{short, sound, Call, Result, refused, argumentsOk, ownRefusal, perform, used}
 use Rattle.definition.specs.Words.{decode, openWords, openedBy}
-use Rattle.definition.specs.Layout.{Row, Buffers, eachSub, subsAt, subRows, idsAt, auditsAt, ringsFormed, view, formed, soundBuffers, lengthsOf, bufferStep}
+use Rattle.definition.specs.Layout.{Row, Buffers, eachSub, subsAt, subRows, idsAt, auditsAt, ringsFormed, tablesStrict, view, formed, soundBuffers, lengthsOf, bufferStep}
 use Rattle.definition.proofs.Tests.{and-both}
 use Rattle.state.specs.declared.Head.{Head}
 use Rattle.state.specs.declared.Answer.{Answer}
@@ -85,7 +85,7 @@ module _ (h : List ℕ) (subs rows events : List Row) (code : ℕ) (ws : List �
     new-shows = stored-view subs rows (openedHead ws) h (not-short b (length events) roomy .head)
 
     new-formed : formed new ≡ true
-    unfolding openedHead subRows ringsFormed
+    unfolding openedHead subRows ringsFormed tablesStrict eachSub
     new-formed = stored-formed subs rows (openedHead ws) h (not-short b (length events) roomy .head)
 
     new-sound : soundBuffers new ≡ true

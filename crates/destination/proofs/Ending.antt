@@ -13,17 +13,17 @@ use Rattle.definition.specs.Types.{Id, Audit, Dest, Event}
 use Rattle.definition.specs.Destination.{Out}
 use Rattle.definition.specs.Calls.{short, sound, used}
 use Rattle.definition.specs.Words.{at}
-use Rattle.definition.specs.Layout.{Row, Buffers, eventWords, subRows, idsAt, auditsAt, ringsFormed, usedRows, view, formed, soundBuffers, lengthsOf}
+use Rattle.definition.specs.Layout.{Row, Buffers, eventWords, subRows, idsAt, auditsAt, ringsFormed, usedRows, view, strict, formed, soundBuffers, lengthsOf}
 use Rattle.definition.proofs.Tests.{and-left, and-right, and-both}
 use Rattle.definition.proofs.Thin.{every-all, all-every}
 use Rattle.definition.proofs.Sound.{facts}
 use Rattle.state.specs.declared.Head.{Head}
-use Rattle.state.specs.State.{headOf, headView, loaded, stored, withCallsUsed}
+use Rattle.state.specs.State.{headOf, headView, strictTables, loaded, stored, withCallsUsed}
 use Rattle.state.specs.Leaves.{Leaves}
 use Rattle.state.specs.Ready.{Ready}
 use Rattle.state.proofs.View.{loaded-view, stored-view, stored-formed, stored-producers, stored-length}
 use Rattle.state.proofs.Counts.{used-view}
-use Rattle.state.proofs.Fitting.{Long, not-short, sound-facts, sound-loaded}
+use Rattle.state.proofs.Fitting.{Long, not-short, sound-facts, sound-loaded, sound-strict}
 use Rattle.producers.proofs.Adding.{ids-length}
 use Rattle.destination.specs.Called.{Past}
 
@@ -83,11 +83,15 @@ module _ (h : List ℕ) (subs rows events : List Row)
           left = omega (arith, leb-true (at 3 h) (at 2 h) (t .calls), eqb-false (at 3 h) (at 2 h) e);
           none-sent = refl;
           stands = record { consumers = f .consumers; used = f .used; rows-used = f .rows-used };
+          strict = sound-strict b (length events) long s;
           long = record { subs-long = long .subs; rows-long = long .rows; events-long = long .events };
         }
 
     pub ready : eqb (view b .callsUsed) (view b .callLimit) ≡ false → Ready d subs rows events
     ready e = subst⁻¹ (λ (x : Head). Ready x subs rows events) d-is (plain-ready e)
+
+    pub strict-words : strictTables d subs rows ≡ true
+    strict-words = ap (λ (x : Head). strictTables x subs rows) d-is ∙ sound-strict b (length events) long s
 
     pub none-sent : d .events ≡ 0
     unfolding headOf
@@ -131,10 +135,10 @@ module _ (h : List ℕ) (subs rows events : List Row)
         is-formed : formed b′ ≡ true
         unfolding soundBuffers formed
         is-formed =
-            let g = every-all (leb (at 12 h) 32 ∷ leb (at 13 h) 32 ∷ leb (at 14 h) 8 ∷ leb (usedRows b) 512 ∷ ringsFormed (at 14 h) (drop 113 h) ∷ []) (and-left _ _ s) in
+            let g = every-all (leb (at 12 h) 32 ∷ leb (at 13 h) 32 ∷ leb (at 14 h) 8 ∷ leb (usedRows b) 512 ∷ ringsFormed (at 14 h) (drop 113 h) ∷ strict b ∷ []) (and-left _ _ s) in
             stored-formed subs′ rows′ last h (long .head)
-            ∙ all-every (leb (r .consumers) 32 ∷ leb (r .producers) 32 ∷ leb (r .audits) 8 ∷ leb (subRows (take (r .consumers) subs′) + (r .reserved + r .waiting)) 512 ∷ ringsFormed (r .audits) (drop 113 h) ∷ [])
-            (le-leb _ _ (l .consumers), (ap (λ (n : ℕ). leb n 32) same-producers ∙ g .1 .0, (ap (λ (n : ℕ). leb n 8) same-audits ∙ g .1 .1 .0, (le-leb (subRows (take (r .consumers) subs′) + (r .reserved + r .waiting)) 512 (omega (arith, l .rows-used, l .used)), (ap (λ (n : ℕ). ringsFormed n (drop 113 h)) same-audits ∙ g .1 .1 .1 .1 .0, tt)))))
+            ∙ all-every (leb (r .consumers) 32 ∷ leb (r .producers) 32 ∷ leb (r .audits) 8 ∷ leb (subRows (take (r .consumers) subs′) + (r .reserved + r .waiting)) 512 ∷ ringsFormed (r .audits) (drop 113 h) ∷ strictTables r subs′ rows′ ∷ [])
+            (le-leb _ _ (l .consumers), (ap (λ (n : ℕ). leb n 32) same-producers ∙ g .1 .0, (ap (λ (n : ℕ). leb n 8) same-audits ∙ g .1 .1 .0, (le-leb (subRows (take (r .consumers) subs′) + (r .reserved + r .waiting)) 512 (omega (arith, l .rows-used, l .used)), (ap (λ (n : ℕ). ringsFormed n (drop 113 h)) same-audits ∙ g .1 .1 .1 .1 .0, (l .strict strict-words, tt))))))
 
         pub leaves-sound : soundBuffers b′ ≡ true
         unfolding soundBuffers

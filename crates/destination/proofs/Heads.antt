@@ -14,13 +14,13 @@ use Rattle.definition.specs.Base.{if_then_else_}
 use Rattle.definition.specs.Types.{Dest, Event}
 use Rattle.definition.specs.Calls.{short, sound, used, Call, Result, argumentsOk, ownRefusal, perform}
 use Rattle.definition.specs.Words.{at, decode}
-use Rattle.definition.specs.Layout.{Row, Buffers, eventWords, subRows, idsAt, auditsAt, ringsFormed, usedRows, view, formed, soundBuffers, lengthsOf, bufferStep}
+use Rattle.definition.specs.Layout.{Row, Buffers, eventWords, subRows, idsAt, auditsAt, ringsFormed, usedRows, view, strict, formed, soundBuffers, lengthsOf, bufferStep}
 use Rattle.definition.proofs.Tests.{and-left, and-both}
 use Rattle.definition.proofs.Thin.{every-all, all-every}
 use Rattle.definition.proofs.Sound.{facts}
 use Rattle.state.specs.declared.Head.{Head}
 use Rattle.state.specs.declared.Answer.{Answer}
-use Rattle.state.specs.State.{headOf, headView, loaded, stored, withCallsUsed, withProducers, withAudits, withIdle}
+use Rattle.state.specs.State.{headOf, headView, strictTables, loaded, stored, withCallsUsed, withProducers, withAudits, withIdle}
 use Rattle.state.proofs.View.{loaded-view, stored-view, stored-formed, stored-producers, stored-length}
 use Rattle.state.proofs.Counts.{used-view}
 use Rattle.state.proofs.Fitting.{sound-facts}
@@ -36,7 +36,7 @@ module _ (h : List ℕ) (subs rows events : List Row) (roomy : short (lengthsOf 
   counted-numbers : (at 12 h ≤ 32) × (at 13 h ≤ 32) × (at 14 h ≤ 8) × (usedRows (lent h subs rows) ≤ 512) × (ringsFormed (at 14 h) (drop 113 h) ≡ true)
   unfolding soundBuffers formed
   counted-numbers =
-      let g = every-all (leb (at 12 h) 32 ∷ leb (at 13 h) 32 ∷ leb (at 14 h) 8 ∷ leb (usedRows (lent h subs rows)) 512 ∷ ringsFormed (at 14 h) (drop 113 h) ∷ []) (and-left _ _ s) in
+      let g = every-all (leb (at 12 h) 32 ∷ leb (at 13 h) 32 ∷ leb (at 14 h) 8 ∷ leb (usedRows (lent h subs rows)) 512 ∷ ringsFormed (at 14 h) (drop 113 h) ∷ strict (lent h subs rows) ∷ []) (and-left _ _ s) in
       (leb-true _ _ (g .0), leb-true _ _ (g .1 .0), leb-true _ _ (g .1 .1 .0), leb-true _ _ (g .1 .1 .1 .0), g .1 .1 .1 .1 .0)
 
   pub loaded-fit : headFits (length h) (loaded h subs) ≡ true
@@ -116,6 +116,9 @@ module _ (h : List ℕ) (subs rows events : List Row) (code : ℕ) (ws : List �
       unfolding headOf
       same-rows = ap (λ (x : Head). subRows (take (x .consumers) subs) + (x .reserved + x .waiting)) (p .others) ∙ ap (λ (x : Head). subRows (take (x .consumers) subs) + (x .reserved + x .waiting)) d-is
 
+      same-strict : strictTables r subs rows ≡ strictTables d subs rows
+      same-strict = ap (λ (x : Head). strictTables x subs rows) (p .others)
+
       left-dest : destOf r k subs rows ≡ perform (view b) c .dest
       left-dest =
           let f = sound-facts b (length events) (Ending.long h subs rows events roomy s) s in
@@ -141,8 +144,8 @@ module _ (h : List ℕ) (subs rows events : List Row) (code : ℕ) (ws : List �
       is-formed =
           let f = counts (length k) r (p .fit e) in
           stored-formed subs rows last k long′
-          ∙ all-every (leb (r .consumers) 32 ∷ leb (r .producers) 32 ∷ leb (r .audits) 8 ∷ leb (subRows (take (r .consumers) subs) + (r .reserved + r .waiting)) 512 ∷ ringsFormed (r .audits) (drop 113 k) ∷ [])
-          (le-leb (r .consumers) 32 (omega (arith, same-consumers, numbers .0)), (le-leb _ _ (f .producers), (le-leb _ _ (f .audits), (le-leb (subRows (take (r .consumers) subs) + (r .reserved + r .waiting)) 512 (omega (arith, same-rows, numbers .3)), (p .formed e rings, tt)))))
+          ∙ all-every (leb (r .consumers) 32 ∷ leb (r .producers) 32 ∷ leb (r .audits) 8 ∷ leb (subRows (take (r .consumers) subs) + (r .reserved + r .waiting)) 512 ∷ ringsFormed (r .audits) (drop 113 k) ∷ strictTables r subs rows ∷ [])
+          (le-leb (r .consumers) 32 (omega (arith, same-consumers, numbers .0)), (le-leb _ _ (f .producers), (le-leb _ _ (f .audits), (le-leb (subRows (take (r .consumers) subs) + (r .reserved + r .waiting)) 512 (omega (arith, same-rows, numbers .3)), (p .formed e rings, (same-strict ∙ Ending.strict-words h subs rows events roomy s, tt))))))
 
       is-sound : soundBuffers b′ ≡ true
       unfolding soundBuffers

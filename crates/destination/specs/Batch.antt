@@ -54,7 +54,7 @@ abbrev pub refusing : Row → Bool
 refusing o = not (eqb (at 0 o) 0)
 
 -- outcomes, events and state are q's, and what stands past them is as it was; sound buffers stay sound, and where every call was refused
--- they are as they were
+-- they are as they were. Of the state's words what `Called` leaves open is open here.
 pub record Batched (q : Batch) (b b′ : Buffers) (events events′ outcomes outcomes′ : List Row) (r : Done) : Type 0 where
   pub calls : r .calls ≡ length (q .outcomes)
   pub count : r .events ≡ length (q .events)

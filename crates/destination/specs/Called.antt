@@ -29,8 +29,11 @@ pub record Past (b b′ : Buffers) (events events′ : List Row) : Type 0 where
   pub rows-length : length (b′ .rows) ≡ length (b .rows)
   pub events-length : length events′ ≡ length events
 
--- refusal, answer, events and state are q's; a refused call changes nothing, and an accepted one leaves sound buffers
--- open after an accepted call: the words inside the state that no count reaches, as in free rows; `view` does not look there, and no answer depends on them
+-- refusal, answer, events and state are q's; a refused call changes nothing, and an accepted one leaves sound buffers.
+-- Open after an accepted call, and no answer, event or later view depends on it: the words that `view` and soundness do not look at, which may hold
+-- anything (rows past those in use, places of consumers, producers and audits past their counts, numbers of a window past its count, words 6 to 8 of a
+-- row that neither flies nor is reserved, the idle clock and a pull's number without their marks); and where a full window begins, of which soundness
+-- asks that it is below 1,024 and `view` shows the order that it gives. Everything past the state's sizes is as it was.
 pub record Called (q : Result) (b b′ : Buffers) (events events′ : List Row) (r : Outcome) : Type 0 where
   pub refusal : r .refusal ≡ q .refusal
   pub answer : r .answer ≡ q .answer

@@ -17,7 +17,7 @@ use Rattle.consumers.specs.declared.Sub.{Sub}
 use Rattle.consumers.specs.Consumers.{subOf, subWords, subView}
 use Rattle.consumers.proofs.Words.{round}
 use Rattle.state.specs.State.{kindBy}
-use Rattle.topics.proofs.Line.{stored-next, rows-one, subs-done, left-size, subs-next, subs-rest}
+use Rattle.consumers.proofs.Line.{stored-next, rows-one, subs-done, left-size, subs-next, subs-rest}
 use Rattle.expiry.specs.declared.Swept.{Swept}
 use Rattle.expiry.specs.Sweep.{listed, sweptUnless, holding, Shorter}
 use Rattle.expiry.proofs.Held.{low, high, sub-left, gone-left}

@@ -16,7 +16,7 @@ use Rattle.consumers.specs.declared.Sub.{Sub}
 use Rattle.consumers.specs.Consumers.{subOf, subWords}
 use Rattle.state.specs.declared.Head.{Head}
 use Rattle.state.specs.State.{headView, kindBy, withUsed}
-use Rattle.topics.proofs.Line.{left-size}
+use Rattle.consumers.proofs.Line.{left-size}
 use Rattle.expiry.specs.declared.Swept.{Swept}
 use Rattle.expiry.specs.Sweep.{listed, sweptUnless, holding, subsSwept, Fine, Shorter, Able, SubsSwept}
 use Rattle.expiry.proofs.Each.{Whole, whole, whole-start, whole-end, fits-turn, used-turn, ends-turn, whole-turn}

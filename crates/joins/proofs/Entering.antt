@@ -18,15 +18,16 @@ use Rattle.definition.specs.Types.{Kind, queue, topic, Id, Audit, Entry, Held, 
 use Rattle.definition.specs.Types as Def
 use Rattle.definition.specs.Consumer.{addExpired}
 use Rattle.definition.specs.Destination.{Spec, newSub, count, joined}
-use Rattle.definition.specs.Layout.{Row, heldAt, browserAt, tpendingAt, eachSub, subsAt, subRows}
+use Rattle.definition.specs.Layout.{Row, heldAt, browserAt, tpendingAt, eachSub, subsAt, subRows, entryStrict, subStrict, subsStrict}
 use Rattle.definition.proofs.Tests.{if-true, if-false, and-both}
-use Rattle.definition.proofs.Lists.{all-end}
+use Rattle.definition.proofs.Lists.{all-append, all-end}
 use Rattle.consumers.specs.declared.Sub.{Sub}
 use Rattle.consumers.specs.Consumers.{subWords, subView}
 use Rattle.consumers.specs.Table.{fitting}
 use Rattle.consumers.proofs.View.{sub-stored, subs-before, subs-around, rows-append, inflight-stored, held-stored}
+use Rattle.consumers.proofs.Strict.{all-left, all-right, stored-strict, strict-sub, strict-before, strict-around, tables-strict, strict-tables}
 use Rattle.state.specs.declared.Head.{Head}
-use Rattle.state.specs.State.{headView, kindBy, withStats, withUsed, withWaiting, withConsumers, notIdle}
+use Rattle.state.specs.State.{headView, kindBy, strictTables, withStats, withUsed, withWaiting, withConsumers, notIdle}
 use Rattle.state.specs.Fits.{fits, Fits}
 use Rattle.state.specs.Leaves.{silent, Leaves}
 use Rattle.state.proofs.Fitting.{facts-fit}
@@ -66,6 +67,11 @@ parts-view d subs a r w z ps qs ea er ew =
     ap (λ (l : List Row). take (d .waiting) (drop (d .reserved) l)) others ∙ ap (take (d .waiting)) (drop-at r (w ++ z) (d .reserved) er) ∙ take-at w z (d .waiting) ew in
     let mine : subsAt k ws (a ++ (r ++ (w ++ z))) ≡ subsAt k ws a = subs-before k ws a (r ++ (w ++ z)) (omega arith) in
     λ j. partsOf d (mine j) (map entryOf (waits j)) (map heldAt (held j)) ps qs
+
+-- the reserved and the waiting ones
+others-are : (n m : ℕ) (a r w z : List Row) → length a ≡ n → length r + length w ≡ m → take m (drop n (a ++ (r ++ (w ++ z)))) ≡ r ++ w
+others-are n m a r w z ea ew =
+    ap (take m) (drop-at a (r ++ (w ++ z)) n ea ∙ sym (append-assoc r w z)) ∙ take-at (r ++ w) z m (length-append r w ∙ ew)
 
 -- ---- the new consumer
 
@@ -219,10 +225,32 @@ module _ (now : ℕ) (p : SubSpec) (d : Head) (subs rows rows′ events : List R
     view-was : (ps : List Id) (qs : List Audit) → headView d subs rows ps qs ≡ partsOf d (subsAt kd ws a) (map entryOf w) (map heldAt r) ps qs
     view-was ps qs = ap (λ (l : List Row). headView d subs l ps qs) before ∙ parts-view d subs a r w z ps qs ea er ew
 
+    -- strict words stay strict
+    strict-entered : (all entryStrict w ≡ true → (all entryStrict h ≡ true) × (all entryStrict w′ ≡ true)) → strictTables d subs rows ≡ true → strictTables e subs′ rows′ ≡ true
+    unfolding eachSub
+    strict-entered keeps o =
+        let t = tables-strict (d .reserved + d .waiting) ws rows o in
+        let were : all entryStrict (r ++ w) ≡ true =
+        sym (ap (λ (l : List Row). all entryStrict (take (d .reserved + d .waiting) (drop (subRows ws) l))) before ∙ ap (all entryStrict) (others-are (subRows ws) (d .reserved + d .waiting) a r w z ea (omega (arith, er, ew)))) ∙ t .others in
+        let still = keeps (all-right entryStrict r w were) in
+        let old : subsStrict ws a ≡ true = sym (ap (subsStrict ws) before ∙ strict-before ws a (r ++ (w ++ z)) (omega (arith, ea))) ∙ t .subs in
+        let own : subStrict new [] h ≡ true = strict-sub new [] h (record { words = stored-strict (newOf p n); flying = refl; held = still .0 }) in
+        strict-tables (d .reserved + v) (take (d .consumers + 1) subs′) rows′ (record {
+          subs =
+              ap₂ (λ (l m : List Row). subsStrict l m) table-is after
+              ∙ strict-around new [] h (sym (inflight-stored (newOf p n))) (eh ∙ sym (held-stored (newOf p n))) ws [] a (r ++ (w′ ++ z′)) ea
+              ∙ and-both (subsStrict ws a) _ old (and-both (subStrict new [] h) _ own refl);
+          others =
+              ap₂ (λ (m : ℕ) (l : List Row). all entryStrict (take (d .reserved + v) (drop m l))) size (after ∙ sym (append-assoc a h (r ++ (w′ ++ z′))))
+              ∙ ap (all entryStrict) (others-are (subRows ws + n) (d .reserved + v) (a ++ h) r w′ z′ (length-append a h ∙ ap₂ (λ (l m : ℕ). l + m) ea eh) (omega (arith, er, ev)))
+              ∙ all-append entryStrict r w′ (all-left entryStrict r w were) (still .1);
+        })
+
     pub leaves-entered : drop 512 rows′ ≡ drop 512 rows → length rows′ ≡ length rows
+        → (all entryStrict w ≡ true → (all entryStrict h ≡ true) × (all entryStrict w′ ≡ true))
         → ((ps : List Id) (qs : List Audit) → partsOf e (subsAt kd ws a ++ subView kd (newOf p n) [] h ∷ []) (map entryOf w′) (map heldAt r) ps qs ≡ joined now (specOf p) (partsOf d (subsAt kd ws a) (map entryOf w) (map heldAt r) ps qs))
         → Leaves (silent (joined now (specOf p))) d e subs rows events subs′ rows′ events
-    leaves-entered past same means = record {
+    leaves-entered past same keeps means = record {
       view = λ ps qs _. view-is ps qs ∙ means ps qs ∙ ap (joined now (specOf p)) (sym (view-was ps qs));
       sent = λ ps qs _. sym (append-nil (take (d .events) events));
       later = refl;
@@ -233,6 +261,7 @@ module _ (now : ℕ) (p : SubSpec) (d : Head) (subs rows rows′ events : List R
       consumers = omega arith;
       used = few;
       rows-used = ap (λ (m : ℕ). m + (d .reserved + v)) size ∙ eu;
+      strict = strict-entered keeps;
       subs-past = drop-set-lt 32 subs (d .consumers) new less;
       rows-past = past;
       subs-length = length-set subs (d .consumers) new;

@@ -1,6 +1,6 @@
 -- What each function leaves, by the way that it goes. Assumes nothing.
 use mathlib.Core.Path.{_≡_, refl, sym, ap, _∙_}
-use mathlib.Core.Bool.{Bool, true, false, _&&_, _||_}
+use mathlib.Core.Bool.{Bool, true, false, not, _&&_, _||_}
 use mathlib.Core.List.{List, [], _∷_, _++_}
 use Prim.Native.Nat.{ℕ, _+_, _-_, _≤_, _<_, _^_}
 use native.Mathlib.Omega.{arith}
@@ -9,13 +9,13 @@ use lib.Dec.{eqb, leb}
 use lib.ListN.{length, take, set}
 use lib.Seq.{slice}
 use Rattle.stats.specs.Counted.{top, withExpiredBy}
-use Rattle.definition.specs.Base.{tally}
+use Rattle.definition.specs.Base.{all, tally}
 use Rattle.definition.specs.Types.{queue, topic, Id, Audit}
 use Rattle.definition.specs.Destination.{joined}
 use Rattle.definition.specs.Calls.{joining, ownRefusal, snapshotRows}
-use Rattle.definition.specs.Layout.{Row, subsAt, subRows}
+use Rattle.definition.specs.Layout.{Row, subsAt, subRows, entryStrict}
 use Rattle.definition.proofs.Tests.{by-test, if-true, if-false}
-use Rattle.definition.proofs.Lists.{keep-length}
+use Rattle.definition.proofs.Lists.{all-keep, keep-length}
 use Rattle.table.specs.Table.{openGap, compacted}
 use Rattle.table.proofs.Laws.{open-length}
 use Rattle.table.proofs.Segments.{compacted-length}
@@ -208,7 +208,7 @@ module _ (now : ℕ) (p : SubSpec) (subs : List Row) (d : Head) (rows events : L
                 let er : length r ≡ d .reserved = kept-size d rows others within in
                 let ew : length w ≡ d .waiting = waits-length d rows others within in
                 let eu : subRows (take (d .consumers) subs) + 0 + (d .reserved + d .waiting) ≡ d .used = omega (arith, facts .rows-used) in (
-                  leaves-entered now p d subs rows rows events (d .stats .expired) 0 (d .waiting) (d .used) a [] r w w z z facts less is is ours-size refl er ew ew eu (facts .used) refl refl
+                  leaves-entered now p d subs rows rows events (d .stats .expired) 0 (d .waiting) (d .used) a [] r w w z z facts less is is ours-size refl er ew ew eu (facts .used) refl refl (λ t. (refl, t))
                       (λ ps qs. plain-means now p d (subsAt (kindBy (d .queue)) (take (d .consumers) subs) a) ps qs w r q),
                   (
                     facts .sent,
@@ -242,8 +242,11 @@ module _ (now : ℕ) (p : SubSpec) (subs : List Row) (d : Head) (rows events : L
                 let gone-all : kindBy (d .queue) ≡ topic → h ≡ [] = λ o.
                 let n : d .waiting ≡ 0 = eqb-true (d .waiting) 0 (sym (ap (λ (m : Bool). m || eqb (d .waiting) 0) (no-queue (d .queue) o)) ∙ y) in
                 nil h (omega (arith, keep-length (shownBy s) v, ev)) in
+                let keeps : all entryStrict w ≡ true → (all entryStrict h ≡ true) × (all entryStrict v ≡ true) = λ t.
+                let still : all entryStrict v ≡ true = all-keep entryStrict (λ o. not (goneAt now o)) w t in
+                (all-keep entryStrict (shownBy s) v still, still) in
                 let after : browsedRows now s k d rows ≡ a ++ (h ++ (r ++ (v ++ left now s k d rows b))) = browsed-is now s k d rows b in (
-                  leaves-entered now p d subs rows (browsedRows now s k d rows) events x k (d .waiting - g) (d .used - g + k) a h r w v z (left now s k d rows b) facts less is after ours-size eh er ew ev eu low (browsed-past now s k d rows b) (browsed-length now s k d rows b)
+                  leaves-entered now p d subs rows (browsedRows now s k d rows) events x k (d .waiting - g) (d .used - g + k) a h r w v z (left now s k d rows b) facts less is after ours-size eh er ew ev eu low (browsed-past now s k d rows b) (browsed-length now s k d rows b) keeps
                       (λ ps qs. browser-means now p d (subsAt (kindBy (d .queue)) (take (d .consumers) subs) a) ps qs w r k (d .used - g + k) (d .waiting - g) q small gone-all),
                   (
                     sum,

@@ -16,7 +16,7 @@ use Rattle.definition.specs.Types.{Kind, Id, Audit, Dest, Event}
 use Rattle.definition.specs.Destination as Destination
 use Rattle.definition.specs.Destination.{Out, putSub}
 use Rattle.definition.specs.Words.{at}
-use Rattle.definition.specs.Layout.{Row, heldAt, inflightOf, heldOf, subsAt, subRows, eventWords}
+use Rattle.definition.specs.Layout.{Row, heldAt, inflightOf, heldOf, subsAt, subRows, entryStrict, subsStrict, eventWords}
 use Rattle.definition.proofs.Tests.{and-left, and-right, and-both}
 use Rattle.consumers.specs.declared.Sub.{Sub}
 use Rattle.consumers.specs.declared.Found.the-variants.{At, Nothing}
@@ -26,8 +26,9 @@ use Rattle.consumers.specs.Table.{positionFrom, fitting}
 use Rattle.consumers.proofs.View.{sub-at, sub-stored, inflight-stored, held-stored, inflight-loaded, held-loaded, rows-split, rows-set, subs-reword}
 use Rattle.consumers.proofs.Seek.{position-within, found-at, put-at, found-none}
 use Rattle.consumers.proofs.Laws.{fitting-at}
+use Rattle.consumers.proofs.Strict.{stored-strict, strict-reword, tables-strict, strict-tables}
 use Rattle.state.specs.declared.Head.{Head}
-use Rattle.state.specs.State.{headView, kindBy, withEvents}
+use Rattle.state.specs.State.{headView, kindBy, strictTables, withEvents}
 use Rattle.state.specs.Fits.{fits}
 use Rattle.state.specs.Leaves.{Leaves, Untouched, LeavesIf}
 use Rattle.state.proofs.Fitting.{fits-facts, facts-fit}
@@ -77,6 +78,7 @@ leaves-same f d subs rows events w says = record {
   consumers = w .consumers;
   used = w .used;
   rows-used = w .rows-used;
+  strict = λ h. h;
   subs-past = refl;
   rows-past = refl;
   subs-length = refl;
@@ -177,6 +179,16 @@ module _ (d : Head) (subs rows : List Row) (id : Id) (i : ℕ) (long : d .consum
       reserved = map heldAt (take (d .reserved) (drop (rows-same j) rows));
     }
 
+    -- strict words stay strict
+    strict-same : strictTables d subs rows ≡ true → strictTables d subs′ rows ≡ true
+    strict-same t =
+        let n : ℕ = d .reserved + d .waiting in
+        let o = tables-strict n ws rows t in
+        strict-tables n (take (d .consumers) subs′) rows (record {
+          subs = ap (λ (l : List Row). subsStrict l rows) table-is ∙ strict-reword ws rows i (subWords s) here flying-same held-same (stored-strict s) (o .subs);
+          others = ap (λ (m : ℕ). all entryStrict (take n (drop m rows))) rows-same ∙ o .others;
+        })
+
     -- the numbers still fit
     pub put-fits : (r v : ℕ) → fits subs d r v ≡ true → s .freed ≡ own .freed → s .«next_dseq» ≡ own .«next_dseq» → s .generation ≤ 72057594037927937 → fits subs′ d r v ≡ true
     unfolding fitting subWords
@@ -225,6 +237,7 @@ module _ (d : Head) (subs rows : List Row) (id : Id) (i : ℕ) (long : d .consum
           consumers = w .consumers;
           used = w .used;
           rows-used = ap (λ (m : ℕ). m + (d .reserved + d .waiting)) rows-same ∙ w .rows-used;
+          strict = strict-same;
           subs-past = drop-set-lt 32 subs i (subWords s) (omega (arith, less, w .consumers));
           rows-past = refl;
           subs-length = length-set subs i (subWords s);

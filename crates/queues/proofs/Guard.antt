@@ -13,9 +13,9 @@ use Rattle.definition.specs.Words.{at}
 use Rattle.definition.specs.Layout.{Row, subRows}
 use Rattle.definition.proofs.Tests.{and-left, and-right, and-both}
 use Rattle.definition.proofs.Thin.{every-all, all-every}
+use Rattle.consumers.proofs.Strict.{all-weaker}
 use Rattle.state.specs.declared.Head.{Head}
 use Rattle.queues.specs.Scan.{tablesFit, countersFit, rowsFit, nextFits, nextRoom, scans, Scans}
-use Rattle.queues.proofs.Viewing.{all-weaker}
 
 -- a ≤ b - c, where c is no more than b
 pub leb-less : (a b c : ℕ) → c ≤ b → leb a (b - c) ≡ leb (a + c) b

@@ -1,6 +1,6 @@
+pub mod Viewing
 pub mod Looking
 pub mod Giving
-pub mod Viewing
 pub mod Onward
 pub mod Visiting
 pub mod Empty

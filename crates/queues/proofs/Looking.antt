@@ -16,19 +16,21 @@ use mir.Val.{SFits}
 use mir.ValLaws.{toZ-pos, toZ-ofZ}
 use Rattle.words.specs.Words.{signed, unsigned}
 use Rattle.entry.specs.Entry.{expired, entryOf}
-use Rattle.definition.specs.Base.{if_then_else_}
+use Rattle.definition.specs.Base.{if_then_else_, all}
 use Rattle.definition.specs.Types.{Entry, queue}
 use Rattle.definition.specs.Types as Def
 use Rattle.definition.specs.Consumer.{accepts}
 use Rattle.definition.specs.Destination.{Look, passing, losing, look}
-use Rattle.definition.specs.Layout.{Row}
+use Rattle.definition.specs.Layout.{Row, entryStrict}
 use Rattle.table.specs.Table.{closeGap}
 use Rattle.table.proofs.Lists.{parts}
 use Rattle.table.proofs.Laws.{close-parts, close-length}
 use Rattle.consumers.specs.declared.Sub.{Sub}
 use Rattle.consumers.specs.Consumers.{subView, acceptsOf}
 use Rattle.consumers.proofs.Laws.{accepts-sub}
+use Rattle.consumers.proofs.Strict.{all-left}
 use Rattle.queues.specs.Look.{lone, Found, Missed, Looks}
+use Rattle.queues.proofs.Viewing.{all-without}
 
 -- a clock's word, read as a signed one
 pub by-clock : (clock : ℕ) (z : ℤ) (e : Entry) → clock ≤ 2 ^ 62 → SFits w64 z → z ≡ signed clock → expired (signed (unsigned z)) e ≡ expired (pos clock) e
@@ -82,6 +84,7 @@ pub record Looking (now : ℕ) (s : Sub) (from to : ℕ) (rows₀ rows : List Ro
   pub size : end + length spare ≡ to
   pub long : length rows ≡ length rows₀
   pub said : ahead (map entryOf passed) (length spare) (look now (lone s) cursor (map entryOf rest)) ≡ look now (lone s) (s .cursor) (map entryOf (slice from to rows₀))
+  pub strict : all entryStrict (slice from to rows₀) ≡ true → all entryStrict (passed ++ rest) ≡ true
 
 record Cons (l : List Row) : Type 0 where
   head : Row
@@ -120,6 +123,7 @@ module _ (now : ℕ) (s : Sub) (from to : ℕ) (rows₀ : List Row) (f : from �
         size = add-zero to;
         long = refl;
         said = λ j. record { pending = l .pending; chosen = l .chosen; cursor = l .cursor; gone = zero-add (l .gone) j };
+        strict = λ h. h;
       }
 
   module _ (rows : List Row) (end cursor i : ℕ) (g : Looking now s from to rows₀ rows end cursor i) where
@@ -137,6 +141,7 @@ module _ (now : ℕ) (s : Sub) (from to : ℕ) (rows₀ : List Row) (f : from �
           said = sym (g .said)
               ∙ ap (λ (r : List Row). ahead (map entryOf (g .passed)) (length (g .spare)) (look now (lone s) cursor (map entryOf r))) none-left
               ∙ (λ j. record { pending = append-nil (map entryOf (g .passed)) j; chosen = none; cursor = cursor; gone = add-zero (length (g .spare)) j });
+          strict = λ y. all-left entryStrict (g .passed) (g .rest) (g .strict y);
         }
 
     module _ (more : i < end) where
@@ -164,6 +169,9 @@ module _ (now : ℕ) (s : Sub) (from to : ℕ) (rows₀ : List Row) (f : from �
       left : i + 1 + length l ≡ end
       left = omega (arith, g .last, ap length (c .is))
 
+      strict-split : all entryStrict (slice from to rows₀) ≡ true → all entryStrict (g .passed ++ x ∷ l) ≡ true
+      strict-split y = ap (λ (r : List Row). all entryStrict (g .passed ++ r)) (sym (c .is)) ∙ g .strict y
+
       abbrev L : ℕ → Look
       L k = look now (lone s) k (map entryOf l)
 
@@ -188,6 +196,7 @@ module _ (now : ℕ) (s : Sub) (from to : ℕ) (rows₀ : List Row) (f : from �
             ∙ ap (ahead (map entryOf (g .passed)) (length (g .spare))) (sym h)
             ∙ ap (λ (r : List Row). ahead (map entryOf (g .passed)) (length (g .spare)) (look now (lone s) cursor (map entryOf r))) (sym (c .is))
             ∙ g .said;
+        strict = λ y. ap (all entryStrict) (append-snoc (g .passed) x l) ∙ strict-split y;
       }
 
       abbrev e : Entry
@@ -230,6 +239,7 @@ module _ (now : ℕ) (s : Sub) (from to : ℕ) (rows₀ : List Row) (f : from �
                   ∙ ap (ahead (map entryOf (g .passed)) (length (g .spare))) (sym said)
                   ∙ ap (λ (r : List Row). ahead (map entryOf (g .passed)) (length (g .spare)) (look now (lone s) cursor (map entryOf r))) (sym (c .is))
                   ∙ g .said;
+              strict = λ y. all-without entryStrict (g .passed) x l (strict-split y);
             }
 
         module _ (live : expired (pos now) e ≡ false) where
@@ -259,6 +269,7 @@ module _ (now : ℕ) (s : Sub) (from to : ℕ) (rows₀ : List Row) (f : from �
                       cursor = entryOf x .seq;
                       gone = add-zero (length (g .spare)) j;
                     });
+                strict = strict-split;
               }
 
           -- a refused one is passed, and the cursor goes with it

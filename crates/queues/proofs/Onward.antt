@@ -22,6 +22,7 @@ onward-same d subs rows events = record {
   room = omega arith;
   expired = omega arith;
   dispatched = omega arith;
+  strict = λ h. h;
   later = refl;
   subs-past = refl;
   rows-past = refl;
@@ -50,6 +51,7 @@ onward-then d₀ d r subs₀ rows₀ events₀ subs rows events subs′ rows′ 
   room = omega arith;
   expired = omega arith;
   dispatched = omega arith;
+  strict = λ h. p .strict (o .strict h);
   later = p .later ∙ rise (d .events) (r .events) events events₀ (p .more) (o .later);
   subs-past = p .subs-past ∙ o .subs-past;
   rows-past = p .rows-past ∙ o .rows-past;

@@ -203,6 +203,7 @@ module _ (now : ℕ) (subs₀ rows₀ events₀ : List Row) (d₀ : Head) (subs 
     consumers = ok .consumers;
     used = ok .used;
     rows-used = ok .rows-used;
+    strict = on .strict;
     subs-past = on .subs-past;
     rows-past = on .rows-past;
     subs-length = on .subs-length;

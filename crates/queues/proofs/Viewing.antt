@@ -1,7 +1,7 @@
 -- A queue in the parts of its table: the consumers' rows, reserved ones, waiting ones, and those not in use. Assumes nothing.
-use mathlib.Core.Path.{_≡_, refl, ap, _∙_}
-use mathlib.Core.Bool.{Bool, true}
-use mathlib.Core.List.{List, [], _∷_, _++_, map}
+use mathlib.Core.Path.{_≡_, refl, sym, ap, ap₂, _∙_}
+use mathlib.Core.Bool.{Bool, true, _&&_}
+use mathlib.Core.List.{List, [], _∷_, _++_, append-assoc, map}
 use mathlib.Core.Option.{none, some}
 use Prim.Native.Nat.{ℕ, zero, suc, _+_, _-_, _≤_, _<_}
 use native.Mathlib.Omega.{arith}
@@ -11,12 +11,13 @@ use Rattle.words.specs.Pick.{if_then_else_}
 use Rattle.entry.specs.Entry.{entryOf}
 use Rattle.definition.specs.Base.{all}
 use Rattle.definition.specs.Types.{Kind, queue, Id, Audit, Dest}
-use Rattle.definition.specs.Layout.{Row, heldAt, subsAt, subRows}
+use Rattle.definition.specs.Layout.{Row, heldAt, subsAt, subRows, entryStrict, subsStrict, tablesStrict}
 use Rattle.definition.proofs.Tests.{and-left, and-right, and-both}
 use Rattle.table.proofs.Lists.{drop-parts}
 use Rattle.consumers.proofs.View.{subs-before}
+use Rattle.consumers.proofs.Strict.{strict-before}
 use Rattle.state.specs.declared.Head.{Head}
-use Rattle.state.specs.State.{headView, kindBy}
+use Rattle.state.specs.State.{headView, strictTables, kindBy}
 
 abbrev pub partsView : Head → List Row → List Row → List Row → List Row → List Id → List Audit → Dest
 partsView d ws a b c ps qs = record {
@@ -61,6 +62,17 @@ view-parts d subs a b c z e p q r ps qs =
       reserved = map heldAt (held j);
     }
 
+-- and whether the words in use are strict
+pub strict-parts : (d : Head) (subs a b c z : List Row) → length a ≡ subRows (take (d .consumers) subs) → length b ≡ d .reserved → length c ≡ d .waiting
+    → strictTables d subs (a ++ (b ++ (c ++ z))) ≡ (subsStrict (take (d .consumers) subs) a && all entryStrict (b ++ c))
+unfolding tablesStrict
+strict-parts d subs a b c z p q r =
+    let ws : List Row = take (d .consumers) subs in
+    let n : ℕ = d .reserved + d .waiting in
+    let others : take n (drop (subRows ws) (a ++ (b ++ (c ++ z)))) ≡ b ++ c =
+    ap (take n) (drop-at a (b ++ (c ++ z)) (subRows ws) p ∙ sym (append-assoc b c z)) ∙ take-at (b ++ c) z n (length-append b c ∙ ap₂ (λ (x y : ℕ). x + y) q r) in
+    ap₂ _&&_ (strict-before ws a (b ++ (c ++ z)) (omega (arith, p))) (ap (all entryStrict) others)
+
 -- rows that stand before those not in use: how many there are in all, and those past a later place
 module _ (u : ℕ) (x rows : List Row) (e : length x ≡ u) (l : u ≤ length rows) where
   pub behind-length : length (x ++ drop u rows) ≡ length rows
@@ -71,7 +83,7 @@ module _ (u : ℕ) (x rows : List Row) (e : length x ≡ u) (l : u ≤ length ro
       let n : u + (m - u) ≡ m = omega arith in
       drop-parts u (m - u) m x (drop u rows) e n ∙ drop-drop (m - u) u rows ∙ ap (λ (k : ℕ). drop k rows) n
 
--- ---- a test of every consumer
+-- ---- a test of every consumer, or of every row
 
 module _ {A : Type 0} where
   pub all-set : (p : A → Bool) (l : List A) (i : ℕ) (x : A) → all p l ≡ true → p x ≡ true → all p (set l i x) ≡ true
@@ -79,9 +91,9 @@ module _ {A : Type 0} where
   all-set p (y ∷ l) zero x h k = and-both (p x) (all p l) k (and-right (p y) (all p l) h)
   all-set p (y ∷ l) (suc i) x h k = and-both (p y) (all p (set l i x)) (and-left (p y) (all p l) h) (all-set p l i x (and-right (p y) (all p l) h) k)
 
-  pub all-weaker : (p q : A → Bool) → ((x : A) → p x ≡ true → q x ≡ true) → (l : List A) → all p l ≡ true → all q l ≡ true
-  all-weaker p q f [] h = refl
-  all-weaker p q f (y ∷ l) h = and-both (q y) (all q l) (f y (and-left (p y) (all p l) h)) (all-weaker p q f l (and-right (p y) (all p l) h))
+  pub all-without : (p : A → Bool) (l : List A) (x : A) (m : List A) → all p (l ++ x ∷ m) ≡ true → all p (l ++ m) ≡ true
+  all-without p [] x m h = and-right (p x) (all p m) h
+  all-without p (y ∷ l) x m h = and-both (p y) (all p (l ++ m)) (and-left (p y) (all p (l ++ x ∷ m)) h) (all-without p l x m (and-right (p y) (all p (l ++ x ∷ m)) h))
 
 pub all-at : (p : Row → Bool) (l : List Row) (i : ℕ) → all p l ≡ true → i < length l → p (getD l i []) ≡ true
 all-at p [] i h k = absurd (omega arith)

@@ -1,6 +1,6 @@
 -- A consumer's turn in the scan: the definition's, on the tables. Assumes nothing.
 use mathlib.Core.Path.{_≡_, refl, sym, ap, ap₂, _∙_}
-use mathlib.Core.Bool.{true, false, not, _||_, true≢false}
+use mathlib.Core.Bool.{true, false, not, _&&_, _||_, true≢false}
 use mathlib.Core.List.{List, [], _∷_, _++_, append-assoc, append-nil, map, map-append}
 use mathlib.Core.Option.{none, some}
 use Prim.Native.Nat.{ℕ, suc, _+_, _-_, _%_, _≤_, _<_, _^_}
@@ -19,7 +19,9 @@ use Rattle.definition.specs.Consumer.{_⊕_, addExpired, addDispatched, isBrows
 use Rattle.definition.specs.Consumer as Consumer
 use Rattle.definition.specs.Destination.{Look, look, given, visitAt, visit}
 use Rattle.definition.specs.Words.{at}
-use Rattle.definition.specs.Layout.{Row, inflightAt, inflightOf, heldOf, subsAt, subRows, eventWords}
+use Rattle.definition.specs.Layout.{Row, inflightAt, inflightOf, heldOf, subsAt, subRows, eventWords, entryStrict, flyingStrict, subsStrict}
+use Rattle.definition.proofs.Tests.{and-left, and-right, and-both}
+use Rattle.definition.proofs.Lists.{all-append, all-end}
 use Rattle.table.specs.Table.{insertRow}
 use Rattle.table.proofs.Lists.{parts}
 use Rattle.table.proofs.Laws.{insert-parts}
@@ -28,15 +30,16 @@ use Rattle.consumers.specs.Consumers.{subOf, subWords, subView, creditOf}
 use Rattle.consumers.specs.Seats.{flyingIn, heldIn, afterIn}
 use Rattle.consumers.proofs.View.{sub-at, sub-stored, subs-length, subs-nth, subs-put, subs-reword, rows-parts, rows-set, rows-split, rows-take, flying-length, held-length}
 use Rattle.consumers.proofs.Laws.{credit, browser-sub, accepts-sub}
+use Rattle.consumers.proofs.Strict.{all-left, all-right, all-weaker, stored-strict, strict-at, strict-put, strict-reword}
 use Rattle.state.specs.declared.Head.{Head}
-use Rattle.state.specs.State.{headView, firstWaiting, withStats, withTurn, withWaiting, withUsed, withEvents}
+use Rattle.state.specs.State.{headView, strictTables, firstWaiting, withStats, withTurn, withWaiting, withUsed, withEvents}
 use Rattle.state.proofs.Counts.{expired-plain, dispatched-plain}
 use Rattle.state.proofs.Events.{events-up-to, events-after}
 use Rattle.queues.specs.Look.{lone, Found, Missed}
 use Rattle.queues.specs.Give.{lookedHead, gaveHead, movedSub, sentSub, Gives, Gave}
 use Rattle.queues.specs.Scan.{nextRoom, Scans, Onward, Visited}
 use Rattle.queues.proofs.Looking.{look-same}
-use Rattle.queues.proofs.Viewing.{partsView, view-parts, behind-length, behind-past, all-set, all-weaker, all-at}
+use Rattle.queues.proofs.Viewing.{partsView, view-parts, strict-parts, behind-length, behind-past, all-set, all-without, all-at}
 use Rattle.queues.proofs.Onward.{onward-same}
 
 -- ---- the definition
@@ -155,6 +158,9 @@ module _ (now i : ℕ) (d : Head) (subs rows events : List Row) (ok : Scans subs
   viewed : (ps : List Id) (qs : List Audit) → headView d subs rows ps qs ≡ partsView d ws a b c ps qs
   viewed ps qs = ap (λ (x : List Row). headView d subs x ps qs) rows-is ∙ view-parts d subs a b c z (ok .queue) a-length b-length c-length ps qs
 
+  strict-was : strictTables d subs rows ≡ (subsStrict ws a && all entryStrict (b ++ c))
+  strict-was = ap (strictTables d subs) rows-is ∙ strict-parts d subs a b c z a-length b-length c-length
+
   -- the consumer
   flying-is : length flying ≡ s .inflight
   unfolding subOf
@@ -194,6 +200,8 @@ module _ (now i : ℕ) (d : Head) (subs rows events : List Row) (ok : Scans subs
       expired : stats .expired + length left ≤ d .stats .expired + d .waiting
       dispatched : stats .dispatched + length left ≤ d .stats .dispatched + d .waiting
       numbered : at 8 w′ + length left ≤ 2 ^ 63
+      own-strict : subsStrict ws a ≡ true → subsStrict (set ws i w′) own ≡ true
+      left-strict : all entryStrict c ≡ true → all entryStrict left ≡ true
       later : drop sent events′ ≡ drop sent events
       as-long : length events′ ≡ length events
 
@@ -223,6 +231,15 @@ module _ (now i : ℕ) (d : Head) (subs rows events : List Row) (ok : Scans subs
           ap (λ (x : List Row). headView after (set subs i w′) x ps qs) (f .rows-are)
           ∙ view-parts after (set subs i w′) own b left (spare ++ z) (ok .queue) (f .own-are ∙ ap subRows (sym ws-now)) b-length refl ps qs
           ∙ ap (λ (x : List Row). partsView after x own b left ps qs) ws-now
+
+      turned-strict : strictTables d subs rows ≡ true → strictTables after (set subs i w′) rows′ ≡ true
+      turned-strict h =
+          let was = sym strict-was ∙ h in
+          let others = and-right (subsStrict ws a) _ was in
+          ap (strictTables after (set subs i w′)) (f .rows-are)
+          ∙ strict-parts after (set subs i w′) own b left (spare ++ z) (f .own-are ∙ ap subRows (sym ws-now)) b-length refl
+          ∙ ap (λ (x : List Row). subsStrict x own && all entryStrict (b ++ left)) ws-now
+          ∙ and-both (subsStrict (set ws i w′) own) _ (f .own-strict (and-left (subsStrict ws a) _ was)) (all-append entryStrict b left (all-left entryStrict b c others) (f .left-strict (all-right entryStrict b c others)))
 
       turned-next : all (nextRoom (length left)) (take (d .consumers) (set subs i w′)) ≡ true
       turned-next = ap (all (nextRoom (length left))) ws-now
@@ -256,6 +273,7 @@ module _ (now i : ℕ) (d : Head) (subs rows events : List Row) (ok : Scans subs
         room = f .room;
         expired = f .expired;
         dispatched = f .dispatched;
+        strict = turned-strict;
         later = f .later;
         subs-past = drop-set-lt 32 subs i w′ (omega (arith, ok .consumers));
         rows-past = ap (drop 512) flat-is ∙ behind-past (d .used) flat rows flat-length room-rows 512 (ok .used);
@@ -329,6 +347,8 @@ module _ (now i : ℕ) (d : Head) (subs rows events : List Row) (ok : Scans subs
         expired = omega (arith, left-is);
         dispatched = omega (arith, left-is);
         numbered = omega (arith, next-at, left-is);
+        own-strict = strict-reword ws a i (subWords t) in-ws (ap inflightOf (sym row-is)) (ap heldOf (sym row-is)) (stored-strict t);
+        left-strict = m .strict;
         later = refl;
         as-long = refl;
       }
@@ -416,7 +436,7 @@ module _ (now i : ℕ) (d : Head) (subs rows events : List Row) (ok : Scans subs
       })
 
       -- it has gone out
-      module _ (x : Row) (flies : inflightAt x ≡ Consumer.inflightOf (s .«next_dseq») e) where
+      module _ (x : Row) (flies : inflightAt x ≡ Consumer.inflightOf (s .«next_dseq») e) (clean : flyingStrict x ≡ true) where
         abbrev u : Sub
         u = sentSub (e .seq) s
 
@@ -453,6 +473,13 @@ module _ (now i : ℕ) (d : Head) (subs rows events : List Row) (ok : Scans subs
         unfolding subWords subOf
         one-more = omega (arith, rows-set ws i (subWords u) in-ws, rows-split ws i in-ws, ap inflightOf row-is, ap heldOf row-is)
 
+        given-strict : subsStrict ws a ≡ true → subsStrict (set ws i (subWords u)) own ≡ true
+        unfolding subWords
+        given-strict y =
+            let g = strict-at ws a i in-ws y in
+            strict-put ws a i (subWords u) (flying ++ x ∷ []) held post in-ws (omega (arith, a-length, rows-take ws i)) (length-append flying (x ∷ []) ∙ omega (arith, flying-is)) held-is g
+            (record { words = stored-strict u; flying = all-end flyingStrict flying x (g .own .flying) clean; held = g .own .held }) (g .after)
+
         found-turn : (i + 1) % d .consumers < d .consumers
         found-turn = mod-lt (i + 1) (omega arith)
 
@@ -470,6 +497,8 @@ module _ (now i : ℕ) (d : Head) (subs rows events : List Row) (ok : Scans subs
           expired = omega (arith, rest-is);
           dispatched = omega (arith, rest-is);
           numbered = omega (arith, next-at, rest-is);
+          own-strict = given-strict;
+          left-strict = λ y. all-without entryStrict (m .before) (m .row) (m .after) (m .strict y);
           later = events-after (d .events) events (eventWords (sent S e));
           as-long = length-set events (d .events) (eventWords (sent S e));
         }
@@ -524,4 +553,4 @@ module _ (now i : ℕ) (d : Head) (subs rows events : List Row) (ok : Scans subs
           let to-subs : subs′ ≡ set subs i (subWords (sentSub (e .seq) s)) = g .subs-is ∙ ap (λ (y : Row). set subs i (subWords (sentSub (entryOf y .seq) s))) picked in
           let to-events : events′ ≡ set events (d .events) (eventWords (sent S e)) =
           g .events-is ∙ ap (λ (y : Row). set events (d .events) (eventWords (message (S .id) (entryOf y .seq) (entryOf y .redelivery)))) picked in
-          rw (head, to-subs, g .rows-is, to-events) (found-visited (g .row) flies)
+          rw (head, to-subs, g .rows-is, to-events) (found-visited (g .row) flies (g .strict))

@@ -1,6 +1,6 @@
 -- What a consumer's turn does to the numbers, and what giving it a row does to the tables. Assumes nothing.
 use mathlib.Core.Path.{_≡_}
-use mathlib.Core.Bool.{false}
+use mathlib.Core.Bool.{true, false}
 use mathlib.Core.List.{List, []}
 use Prim.Native.Nat.{ℕ, _+_, _-_, _%_, _≤_, _<_, _^_}
 use lib.ListN.{take, getD, set}
@@ -9,7 +9,7 @@ use Rattle.model.specs.Model.{idOf}
 use Rattle.entry.specs.Entry.{entryOf}
 use Rattle.definition.specs.Types.{message}
 use Rattle.definition.specs.Consumer as Def
-use Rattle.definition.specs.Layout.{Row, inflightAt, subRows, eventWords}
+use Rattle.definition.specs.Layout.{Row, inflightAt, flyingStrict, subRows, eventWords}
 use Rattle.table.specs.Table.{insertRow}
 use Rattle.consumers.specs.declared.Sub.{Sub}
 use Rattle.consumers.specs.Consumers.{subWords}
@@ -77,10 +77,11 @@ pub record Gives (subs : List Row) (nrows nevents i : ℕ) (s : Sub) (at : ℕ) 
   pub consumer : i < d .consumers
   pub consumers : d .consumers ≤ 32
 
--- it stands last among the consumer's rows in flight, and an event says so
+-- it stands last among the consumer's rows in flight, and an event says so; its words are strict, which leaves none of them open
 pub record Gave (i : ℕ) (s : Sub) (at : ℕ) (d r : Head) (subs rows events subs′ rows′ events′ : List Row) : Type 0 where
   pub row : Row
   pub flies : inflightAt row ≡ Def.inflightOf (s .«next_dseq») (entryOf (getD rows at []))
+  pub strict : flyingStrict row ≡ true
   pub head : r ≡ gaveHead i d
   pub subs-is : subs′ ≡ set subs i (subWords (sentSub (entryOf (getD rows at []) .seq) s))
   pub rows-is : rows′ ≡ insertRow (subRows (take i subs) + s .inflight) at row rows

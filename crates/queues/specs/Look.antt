@@ -7,10 +7,11 @@ use Prim.Native.Nat.{ℕ, _+_}
 use lib.ListN.{length, take, drop}
 use lib.Seq.{slice}
 use Rattle.entry.specs.Entry.{entryOf}
+use Rattle.definition.specs.Base.{all}
 use Rattle.definition.specs.Types.{queue}
 use Rattle.definition.specs.Types as Def
 use Rattle.definition.specs.Destination.{look}
-use Rattle.definition.specs.Layout.{Row}
+use Rattle.definition.specs.Layout.{Row, entryStrict}
 use Rattle.consumers.specs.declared.Sub.{Sub}
 use Rattle.consumers.specs.Consumers.{subView}
 
@@ -18,7 +19,8 @@ use Rattle.consumers.specs.Consumers.{subView}
 abbrev pub lone : Sub → Def.Sub
 lone s = subView queue s [] []
 
--- of the rows from..to the one at a place is chosen: the waiting rows before and after it, and as many spare rows as have expired
+-- of the rows from..to the one at a place is chosen: the waiting rows before and after it, and as many spare rows as have expired. Strict rows
+-- stay strict; open are the spare rows, which are free, words 6 to 8 of the others, not in use, and how words that were not strict are written
 pub record Found (now : ℕ) (s : Sub) (from to : ℕ) (rows rows′ : List Row) (at end : ℕ) : Type 0 where
   pub before : List Row
   pub row : Row
@@ -30,8 +32,9 @@ pub record Found (now : ℕ) (s : Sub) (from to : ℕ) (rows rows′ : List Row)
   pub size : end + length spare ≡ to
   pub said : look now (lone s) (s .cursor) (map entryOf (slice from to rows))
       ≡ record { pending = map entryOf (before ++ after); chosen = some (entryOf row); cursor = entryOf row .seq; gone = length spare }
+  pub strict : all entryStrict (slice from to rows) ≡ true → all entryStrict (before ++ row ∷ after) ≡ true
 
--- none is chosen
+-- none is chosen; the same is open
 pub record Missed (now : ℕ) (s : Sub) (from to : ℕ) (rows rows′ : List Row) (end cursor : ℕ) : Type 0 where
   pub left : List Row
   pub spare : List Row
@@ -39,6 +42,7 @@ pub record Missed (now : ℕ) (s : Sub) (from to : ℕ) (rows rows′ : List Row
   pub last : from + length left ≡ end
   pub size : end + length spare ≡ to
   pub said : look now (lone s) (s .cursor) (map entryOf (slice from to rows)) ≡ record { pending = map entryOf left; chosen = none; cursor = cursor; gone = length spare }
+  pub strict : all entryStrict (slice from to rows) ≡ true → all entryStrict left ≡ true
 
 abbrev pub Looks : Bool → ℕ → Sub → ℕ → ℕ → List Row → List Row → ℕ → ℕ → ℕ → Type 0
 Looks true now s from to rows rows′ at end cursor = Found now s from to rows rows′ at end

@@ -12,7 +12,7 @@ use Rattle.definition.specs.Destination.{Out, visit, rounds}
 use Rattle.definition.specs.Words.{at}
 use Rattle.definition.specs.Layout.{Row, subRows, eventWords}
 use Rattle.state.specs.declared.Head.{Head}
-use Rattle.state.specs.State.{headView}
+use Rattle.state.specs.State.{headView, strictTables}
 
 -- all the scans: at most one for each waiting entry, and a last one
 unfoldable pub served : ℕ → Dest → Out
@@ -72,7 +72,9 @@ pub record Scans (subs : List Row) (d : Head) (nrows nevents : ℕ) : Type 0 whe
 
 -- ---- what it leaves
 
--- the numbers go only so far, and what is no part of the state, or not sent, is as it was
+-- the numbers go only so far, strict words stay strict, and what is no part of the state, or not sent, is as it was. Open beside `Leaves`: free
+-- rows (up to 512), consumers past their count (up to 32), words not in use, and how words that were not strict are written. They may hold any
+-- words, and no view depends on them
 pub record Onward (d r : Head) (subs rows events subs′ rows′ events′ : List Row) : Type 0 where
   pub consumers : r .consumers ≡ d .consumers
   pub producers : r .producers ≡ d .producers
@@ -85,6 +87,7 @@ pub record Onward (d r : Head) (subs rows events subs′ rows′ events′ : Lis
   pub room : r .events + r .waiting ≤ d .events + d .waiting
   pub expired : r .stats .expired + r .waiting ≤ d .stats .expired + d .waiting
   pub dispatched : r .stats .dispatched + r .waiting ≤ d .stats .dispatched + d .waiting
+  pub strict : strictTables d subs rows ≡ true → strictTables r subs′ rows′ ≡ true
   pub later : drop (r .events) events′ ≡ drop (r .events) events
   pub subs-past : drop 32 subs′ ≡ drop 32 subs
   pub rows-past : drop 512 rows′ ≡ drop 512 rows
@@ -92,7 +95,7 @@ pub record Onward (d r : Head) (subs rows events subs′ rows′ events′ : Lis
   pub rows-length : length rows′ ≡ length rows
   pub events-length : length events′ ≡ length events
 
--- consumer i's turn: the definition's, with these events, whatever the producers and audits
+-- consumer i's turn: the definition's, with these events, whatever the producers and audits; open is what `Onward` leaves open
 pub record Visited (now i : ℕ) (d : Head) (took : Bool) (r : Head) (subs rows events subs′ rows′ events′ : List Row) : Type 0 where
   pub sends : List Event
   pub says : (producers : List Id) (audits : List Audit) → visit now i (headView d subs rows producers audits) ≡ record { took = took; dest = headView r subs′ rows′ producers audits; events = sends }

@@ -19,7 +19,8 @@ abbrev pub both : (Dest → Out) → (Dest → Out) → Dest → Out
 both f g t = record { dest = g (f t .dest) .dest; events = f t .events ++ g (f t .dest) .events }
 
 -- the destination and the events are as f has them, whatever the producers and audits; the counts stand within the tables; strict words stay
--- strict; and what is no part of the state, or not sent, is as it was
+-- strict; and what is no part of the state, or not sent, is as it was. Open, and never looked at by `headView`: rows past those in use, consumers
+-- past their count, words 6 to 8 of a row that neither flies nor is reserved, the idle clock and a pull's number without their marks.
 pub record Leaves (f : Dest → Out) (d r : Head) (subs rows events subs′ rows′ events′ : List Row) : Type 0 where
   pub view : (producers : List Id) (audits : List Audit) → length producers ≡ d .producers → headView r subs′ rows′ producers audits ≡ f (headView d subs rows producers audits) .dest
   pub sent : (producers : List Id) (audits : List Audit) → length producers ≡ d .producers → take (r .events) events′ ≡ take (d .events) events ++ map eventWords (f (headView d subs rows producers audits) .events)

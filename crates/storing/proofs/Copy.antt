@@ -12,12 +12,13 @@ use Rattle.words.proofs.Tests.{by-test}
 use Rattle.stats.specs.declared.Stats.{Stats}
 use Rattle.stats.specs.Counted.{withDiscardedBy}
 use Rattle.entry.specs.Entry.{entryOf, rowOf}
+use Rattle.definition.specs.Base as Base
 use Rattle.definition.specs.Base.{if_then_else_}
 use Rattle.definition.specs.Types.{Entry, topic, withTpending}
 use Rattle.definition.specs.Types as Def
 use Rattle.definition.specs.Consumer.{_⊕_, Step, zeroStats, addDiscarded}
 use Rattle.definition.specs.Destination.{insert, fanOut}
-use Rattle.definition.specs.Layout.{Row, browserAt}
+use Rattle.definition.specs.Layout.{Row, browserAt, entryStrict}
 use Rattle.definition.proofs.Tests.{by-if}
 use Rattle.definition.proofs.Local.{⊕-zero}
 use Rattle.table.specs.Table.{placeFrom, placeOf, insertRow, closed, closeGap}
@@ -27,13 +28,14 @@ use Rattle.table.proofs.Laws.{close-length, close-after, close-parts, insert-le
 use Rattle.consumers.specs.declared.Sub.{Sub}
 use Rattle.consumers.specs.Consumers.{subView, acceptsOf}
 use Rattle.consumers.proofs.Laws.{accepts-sub}
+use Rattle.consumers.proofs.Strict.{all-rest}
 use Rattle.state.specs.declared.Head.{Head}
 use Rattle.state.specs.State.{withStats, withUsed}
 use Rattle.state.proofs.Counts.{discarded-plain}
 use Rattle.storing.specs.Storing.{holds}
 use Rattle.storing.specs.Copies.{withHeld, overLimit, limitedSub, limitedHead, moreSub, moreHead, putIn, copiedSub, copiedHead, copiedRows}
 use Rattle.storing.proofs.Insert.{insert-placed}
-use Rattle.storing.proofs.Parts.{withRow, with-row-length, put-in}
+use Rattle.storing.proofs.Parts.{withRow, with-row-length, own-row-strict, with-row-strict, put-in}
 
 -- ---- small laws
 
@@ -103,6 +105,7 @@ pub record Copy (e : Entry) (a f h c : List Row) (s : Sub) (d : Head) (rows : Li
   pub rows-are : rows′ ≡ a ++ (f ++ (held ++ (c ++ free)))
   pub flying : t .inflight ≡ s .inflight
   pub holding : length held ≡ t .held
+  pub strict : Base.all entryStrict h ≡ true → Base.all entryStrict held ≡ true
   pub sub : subView topic t f held ≡ fanOut (d .«topic_limit») e (subView topic s f h) .sub
   pub stats : r .stats ≡ d .stats ⊕ fanOut (d .«topic_limit») e (subView topic s f h) .counts
   pub head : r ≡ recounted d r
@@ -134,6 +137,7 @@ module _ (e : Entry) (a f h c : List Row) (base : ℕ) (s : Sub) (d : Head) (lh 
       rows-are = refl;
       flying = refl;
       holding = lh;
+      strict = λ b. b;
       sub = ap (λ (t : Step). t .sub) (sym refuses);
       stats = sym (ap (λ (t : Step). d .stats ⊕ t .counts) refuses ∙ ⊕-zero (d .stats));
       head = refl;
@@ -237,6 +241,7 @@ module _ (e : Entry) (a f h c : List Row) (base : ℕ) (s : Sub) (d : Head) (lh 
         rows-are = rows-come;
         flying = refl;
         holding = left-length;
+        strict = λ b. all-rest entryStrict over all (with-row-strict (placeFrom from (e .seq) h - from) row h (own-row-strict e row-is) b);
         sub = viewed ∙ ap (λ (t : Step). t .sub) (sym gets);
         stats = counted ∙ ap (λ (t : Step). d .stats ⊕ t .counts) (sym gets);
         head = refl;

@@ -28,6 +28,7 @@ leaves-counted f g s d r subs rows events subs′ rows′ events′ same l = rec
   consumers = l .consumers;
   used = l .used;
   rows-used = l .rows-used;
+  strict = l .strict;
   subs-past = l .subs-past;
   rows-past = l .rows-past;
   subs-length = l .subs-length;

@@ -1,19 +1,27 @@
 -- The rows in parts: a row put in by its number within a part, and the destination that the parts are. Assumes nothing.
-use mathlib.Core.Path.{_≡_, sym, ap, ap₂, _∙_}
+use mathlib.Core.Path.{_≡_, sym, ap, ap₂, _∙_, subst}
+use mathlib.Core.Bool.{true}
 use mathlib.Core.List.{List, _∷_, _++_, append-assoc, map}
 use mathlib.Core.Option.{some, none}
 use Prim.Native.Nat.{ℕ, _+_, _-_, _≤_}
 use native.Mathlib.Omega.{arith}
-use lib.ListN.{length, take, drop, length-append, length-drop, take-append-drop}
+use lib.ListN.{length, take, drop, getD, length-append, length-drop, take-append-drop}
 use lib.Seq.{length-take-le, take-at, drop-at, drop-drop}
-use Rattle.entry.specs.Entry.{entryOf}
-use Rattle.definition.specs.Base.{if_then_else_}
-use Rattle.definition.specs.Types.{Id, Sub, Audit, Dest}
-use Rattle.definition.specs.Layout.{Row, heldAt, subsAt, subRows}
+use mir.Syntax.{w32}
+use mir.Val.{SFits}
+use Rattle.words.proofs.Words.{int-fits}
+use Rattle.entry.specs.Entry.{entryOf, rowOf}
+use Rattle.definition.specs.Base.{if_then_else_, all}
+use Rattle.definition.specs.Types.{Id, Entry, Sub, Audit, Dest}
+use Rattle.definition.specs.Layout.{Row, heldAt, subsAt, subRows, entryStrict}
+use Rattle.definition.proofs.Tests.{and-both}
+use Rattle.definition.proofs.Lists.{all-append}
 use Rattle.table.specs.Table.{placeFrom, placeOf, insertRow}
 use Rattle.table.proofs.Search.{place-from-within}
 use Rattle.table.proofs.Laws.{place-parts, insert-parts}
+use Rattle.table.proofs.Strict.{row-strict}
 use Rattle.consumers.proofs.View.{subs-before}
+use Rattle.consumers.proofs.Strict.{all-first, all-rest}
 use Rattle.state.specs.declared.Head.{Head}
 use Rattle.state.specs.State.{headView, kindBy}
 use Rattle.storing.proofs.Used.{ownRows, reservedRows, waitingRows}
@@ -28,6 +36,14 @@ pub with-row-length : (k : ℕ) (row : Row) (s : List Row) → length (withRow k
 with-row-length k row s =
     let p : length (take k s ++ drop k s) ≡ length s = ap length (take-append-drop k s) in
     omega (arith, p, length-append (take k s) (drop k s), length-append (take k s) (row ∷ drop k s))
+
+-- the row is strict where it gives its entry back, and a strict part stays so
+pub own-row-strict : (e : Entry) → entryOf (rowOf e 0 0 0) ≡ e → entryStrict (rowOf e 0 0 0) ≡ true
+unfolding entryOf
+own-row-strict e h = row-strict e 0 0 0 (subst (λ (x : Entry). SFits w32 (x .redelivery)) h (int-fits (getD (rowOf e 0 0 0) 5 0)))
+
+pub with-row-strict : (k : ℕ) (row : Row) (s : List Row) → entryStrict row ≡ true → all entryStrict s ≡ true → all entryStrict (withRow k row s) ≡ true
+with-row-strict k row s r h = all-append entryStrict (take k s) (row ∷ drop k s) (all-first entryStrict k s h) (and-both (entryStrict row) _ r (all-rest entryStrict k s h))
 
 -- by its number into the part s, before the rows c; row x after them makes way
 module _ (f t n q : ℕ) (row x : Row) (a s c z : List Row) (ea : length a ≡ f) (es : f + length s ≡ t) (ec : t + length c ≡ n) where

@@ -1,28 +1,31 @@
 -- An entry stored on a queue: what the rows and the cursors come to is what the definition says. Assumes nothing.
-use mathlib.Core.Path.{_≡_, refl, sym, ap, _∙_}
+use mathlib.Core.Path.{_≡_, refl, sym, ap, ap₂, _∙_}
 use mathlib.Core.Bool.{true}
 use mathlib.Core.List.{List, [], _∷_, _++_, append-assoc, append-nil, map}
 use Prim.Native.Nat.{ℕ, zero, suc, _+_, _-_, _≤_}
 use native.Mathlib.Nat.{not-suc-le-zero, le-of-suc-le-suc}
 use native.Mathlib.Omega.{arith}
 use lib.ListN.{length, take, drop, getD, length-append}
-use lib.Seq.{drop-cons}
+use lib.Seq.{take-at, drop-at, drop-cons, take-add}
 use Rattle.entry.specs.Entry.{entryOf, rowOf}
+use Rattle.definition.specs.Base.{all}
 use Rattle.definition.specs.Types.{Id, Entry, Sub, Audit, withPending}
 use Rattle.definition.specs.Destination.{insert, holdBack}
-use Rattle.definition.specs.Layout.{Row, subsAt, subRows}
+use Rattle.definition.specs.Layout.{Row, subsAt, subRows, entryStrict, subsStrict}
+use Rattle.definition.proofs.Lists.{all-append}
 use Rattle.table.specs.Table.{placeFrom, placeOf, insertRow}
 use Rattle.table.proofs.Search.{place-from-within}
 use Rattle.table.proofs.Laws.{insert-length, insert-after}
 use Rattle.consumers.specs.Table.{onFirst, heldBackRow}
 use Rattle.consumers.proofs.Laws.{on-first, on-length, hold-back-rows, hold-back-first}
+use Rattle.consumers.proofs.Strict.{all-left, all-right, strict-before, strict-front, tables-strict, strict-tables, strict-held-back}
 use Rattle.state.specs.declared.Head.{Head}
-use Rattle.state.specs.State.{headView, kindBy, firstWaiting}
+use Rattle.state.specs.State.{headView, kindBy, strictTables, firstWaiting}
 use Rattle.storing.specs.Storing.{rowsNeeded, queuedHead, waits}
 use Rattle.storing.specs.Arrivals.{Arrives, Arrived}
 use Rattle.storing.proofs.Insert.{insert-placed}
 use Rattle.storing.proofs.Used.{ownRows, reservedRows, waitingRows, absent-parts}
-use Rattle.storing.proofs.Parts.{withRow, with-row-length, put-in, made, view-parts, rows-in-parts, own-length, reserved-length, waiting-length}
+use Rattle.storing.proofs.Parts.{withRow, with-row-length, own-row-strict, with-row-strict, put-in, made, view-parts, rows-in-parts, own-length, reserved-length, waiting-length}
 
 -- past the first n rows nothing was changed
 pub on-past : (f : Row → Row) (n m : ℕ) (ws : List Row) → n ≤ m → drop m (onFirst f n ws) ≡ drop m ws
@@ -122,6 +125,34 @@ module _ (e : Entry) (d : Head) (subs rows : List Row) (a : Arrives e d subs row
       ∙ ap (λ (x : List Entry). withPending x (made (queuedHead d) (map (holdBack (e .seq)) (subsAt (kindBy (d .queue)) (take (d .consumers) subs) own)) reserved waiting ps qs)) inserted
       ∙ ap (waits e) (sym old)
 
+  -- strict words stay strict
+  strict : strictTables d subs rows ≡ true → strictTables (queuedHead d) subs′ rows′ ≡ true
+  strict o =
+      let ws : List Row = take (d .consumers) subs in
+      let m : ℕ = d .reserved + (d .waiting + 1) in
+      let new : List Row = withRow k row waiting in
+      let t = tables-strict (d .reserved + d .waiting) ws rows o in
+      let lo = own-length d subs rows (a .rows-used) within in
+      let lr = reserved-length d subs rows (a .rows-used) within in
+      let lw = waiting-length d subs rows (a .rows-used) within in
+      let size : length (reserved ++ new) ≡ m = omega (arith, length-append reserved new, with-row-length k row waiting, lr, lw) in
+      let were : all entryStrict (reserved ++ waiting) ≡ true = ap (all entryStrict) (sym (take-add (d .reserved) (d .waiting) (drop n rows))) ∙ t .others in
+      let mine : subsStrict (take (d .consumers) subs′) rows′ ≡ true =
+      ap (λ (x : List Row). subsStrict x rows′) (on-first (heldBackRow (e .seq)) (d .consumers) subs)
+      ∙ strict-held-back (e .seq) ws rows′
+      ∙ ap (subsStrict ws) rows-come
+      ∙ strict-before ws own (reserved ++ (new ++ free)) (omega arith)
+      ∙ strict-front ws n rows (omega arith)
+      ∙ t .subs in
+      let past : take m (drop (subRows (take (d .consumers) subs′)) rows′) ≡ reserved ++ new =
+      ap₂ (λ (x : ℕ) (l : List Row). take m (drop x l)) (sym own-rows) rows-come
+      ∙ ap (take m) (drop-at own (reserved ++ (new ++ free)) n lo ∙ sym (append-assoc reserved new free))
+      ∙ take-at (reserved ++ new) free m size in
+      strict-tables m (take (d .consumers) subs′) rows′ (record {
+        subs = mine;
+        others = ap (all entryStrict) past ∙ all-append entryStrict reserved new (all-left entryStrict reserved waiting were) (with-row-strict k row waiting (own-row-strict e (a .row)) (all-right entryStrict reserved waiting were));
+      })
+
   pub queued-arrived : Arrived (waits e) d (queuedHead d) subs rows subs′ rows′
   queued-arrived events = (
     record {
@@ -135,6 +166,7 @@ module _ (e : Entry) (d : Head) (subs rows : List Row) (a : Arrives e d subs row
       consumers = a .consumers;
       used = omega (arith, needs-one);
       rows-used = omega (arith, own-rows, a .rows-used);
+      strict = strict;
       subs-past = on-past (heldBackRow (e .seq)) (d .consumers) 32 subs (a .consumers);
       rows-past = insert-after at (d .used) row rows 512 (omega (arith, needs-one));
       subs-length = on-length (heldBackRow (e .seq)) (d .consumers) subs;

@@ -1,6 +1,6 @@
 -- What holds while a topic's consumers get their copies one after the other, and what it says when all have theirs. Assumes nothing.
 use mathlib.Core.Path.{_≡_, refl, sym, ap, ap₂, _∙_}
-use mathlib.Core.Bool.{false}
+use mathlib.Core.Bool.{true, false}
 use mathlib.Core.List.{List, [], _∷_, _++_, append-nil, map}
 use Prim.Native.Nat.{ℕ, suc, _+_, _-_, _≤_, _<_, _^_}
 use native.Mathlib.Numerals.{add-one}
@@ -9,23 +9,25 @@ use lib.ListN.{length, take, drop, getD, set, length-set, length-drop, take-appe
 use lib.Seq.{length-take-le, getD-take, take-all, drop-length, take-add, drop-drop, drop-cons, take-set-lt, take-suc-set, drop-set-lt, take-append-le, drop-append-le, set-at, append-snoc}
 use Rattle.stats.specs.declared.Stats.{Stats}
 use Rattle.entry.specs.Entry.{entryOf}
-use Rattle.definition.specs.Base.{if_then_else_, nth, tally, member}
+use Rattle.definition.specs.Base as Base
+use Rattle.definition.specs.Base.{if_then_else_, every, nth, tally, member}
 use Rattle.definition.specs.Types.{Kind, topic, Id, Entry, Audit}
 use Rattle.definition.specs.Types as Def
 use Rattle.definition.specs.Consumer.{_⊕_}
 use Rattle.definition.specs.Destination.{Served, fanOut, fanOutAll}
 use Rattle.definition.specs.Calls.{seqs, consumerRows}
-use Rattle.definition.specs.Layout.{Row, inflightOf, heldOf, heldAt, subAt, subsAt, subRows}
+use Rattle.definition.specs.Layout.{Row, inflightOf, heldOf, heldAt, subAt, eachSub, subsAt, subRows, entryStrict, subStrict, subsStrict}
 use Rattle.definition.proofs.Tests.{or-no-right, if-false}
 use Rattle.definition.proofs.Local.{⊕-zero, ⊕-assoc}
 use Rattle.consumers.specs.declared.Sub.{Sub}
 use Rattle.consumers.specs.Consumers.{subOf, subWords, subView, acceptsOf}
 use Rattle.consumers.specs.Seats.{flyingIn, heldIn, afterIn, subIn}
 use Rattle.consumers.specs.Table.{takes}
-use Rattle.consumers.proofs.View.{sub-at, sub-stored, inflight-stored, held-stored, inflight-loaded, held-loaded, rows-split, rows-take, rows-set, rows-append, subs-before, subs-nth, subs-length, subs-put, rows-parts, flying-length, held-length, after-all, after-put}
+use Rattle.consumers.proofs.View.{sub-at, sub-stored, inflight-stored, held-stored, inflight-loaded, held-loaded, rows-split, rows-take, rows-set, rows-append, each-before, subs-nth, subs-length, subs-put, rows-parts, flying-length, held-length, after-all, after-put}
 use Rattle.consumers.proofs.Laws.{rows-of-sub, consumer-rows}
+use Rattle.consumers.proofs.Strict.{stored-strict, strict-at, strict-put, tables-strict, strict-tables}
 use Rattle.state.specs.declared.Head.{Head}
-use Rattle.state.specs.State.{headView, kindBy}
+use Rattle.state.specs.State.{headView, kindBy, strictTables}
 use Rattle.storing.specs.Storing.{holds, rowsNeeded, spread}
 use Rattle.storing.specs.Copies.{copiedSub, copiedHead, copiedRows}
 use Rattle.storing.specs.Arrivals.{Arrives, Arrived}
@@ -53,6 +55,7 @@ pub record Round (e : Entry) (subs₀ rows₀ : List Row) (d₀ : Head) (subs ro
   pub stats : d .stats ≡ d₀ .stats ⊕ fan (d₀ .«topic_limit») e i (subsAt topic (take (d₀ .consumers) subs₀) rows₀) .counts
   pub reserved : take (d₀ .reserved) (drop (subRows (take (d₀ .consumers) subs)) rows) ≡ reservedRows d₀ subs₀ rows₀
   pub waiting : take (d₀ .waiting) (drop (d₀ .reserved) (drop (subRows (take (d₀ .consumers) subs)) rows)) ≡ waitingRows d₀ subs₀ rows₀
+  pub strict : subsStrict (take (d₀ .consumers) subs₀) rows₀ ≡ true → subsStrict (take (d₀ .consumers) subs) rows ≡ true
 
 -- two tables with the same rows g first: r of them, and the w after these
 module _ (r w : ℕ) (g y z : List Row) (h : r + w ≤ length g) where
@@ -98,6 +101,7 @@ module _ (e : Entry) (subs₀ rows₀ : List Row) (d₀ : Head) (a : Arrives e d
     stats = sym (⊕-zero (d₀ .stats));
     reserved = refl;
     waiting = refl;
+    strict = λ o. o;
   }
 
   -- no consumer has the number
@@ -245,10 +249,10 @@ module _ (e : Entry) (subs₀ rows₀ : List Row) (d₀ : Head) (a : Arrives e d
         after-is : later ++ drop m after ≡ after
         after-is = take-append-drop m after
 
-        others : subsAt topic post (later ++ k .free) ≡ subsAt topic post after
-        others =
+        others : {A : Type 0} (of : Row → List Row → List Row → A) → eachSub of post (later ++ k .free) ≡ eachSub of post after
+        others of =
             let h : subRows post ≤ length later = omega (arith, later-length) in
-            subs-before topic post later (k .free) h ∙ sym (subs-before topic post later (drop m after) h) ∙ ap (subsAt topic post) after-is
+            each-before of post later (k .free) h ∙ sym (each-before of post later (drop m after) h) ∙ ap (eachSub of post) after-is
 
         abbrev gets : Def.Sub
         gets = fanOut limit e it .sub
@@ -259,8 +263,16 @@ module _ (e : Entry) (subs₀ rows₀ : List Row) (d₀ : Head) (a : Arrives e d
         put : subsAt topic (set ws i w′) rows′ ≡ set (subsAt topic ws rows) i gets
         put =
             ap (subsAt topic (set ws i w′)) (k .rows-are)
-            ∙ subs-put topic ws rows i w′ flying (k .held) (later ++ k .free) here before-long in-flight held-now others
+            ∙ subs-put topic ws rows i w′ flying (k .held) (later ++ k .free) here before-long in-flight held-now (others (subAt topic))
             ∙ ap (set (subsAt topic ws rows) i) mine
+
+        -- strict words stay strict
+        strict-next : subsStrict ws₀ rows₀ ≡ true → subsStrict (set ws i w′) rows′ ≡ true
+        strict-next o =
+            let q = strict-at ws rows i here (g .strict o) in
+            ap (subsStrict (set ws i w′)) (k .rows-are)
+            ∙ strict-put ws rows i w′ flying (k .held) (later ++ k .free) here before-long in-flight held-now q
+            (record { words = stored-strict t; flying = q .own .flying; held = k .strict (q .own .held) }) (ap every (others subStrict) ∙ q .after)
 
         -- one more of the definition's consumers is done
         taken : take (i + 1) all ≡ take i all ++ it ∷ []
@@ -348,6 +360,7 @@ module _ (e : Entry) (subs₀ rows₀ : List Row) (d₀ : Head) (a : Arrives e d
           stats = stats-next;
           reserved = rw ws-is reserved-next;
           waiting = rw ws-is waiting-next;
+          strict = rw ws-is strict-next;
         }
 
       pub round-turn : (t u : Sub) (r : Head) (subs′ rows′ : List Row) → t ≡ subOf (getD subs i []) → u ≡ copiedSub e t d → r ≡ copiedHead e t d → rows′ ≡ copiedRows e base t d rows
@@ -402,6 +415,17 @@ module _ (e : Entry) (subs₀ rows₀ : List Row) (d₀ : Head) (a : Arrives e d
             reserved = map heldAt (g .reserved j);
           })
 
+      -- and so do the rows past the consumers'
+      strict : strictTables d₀ subs₀ rows₀ ≡ true → strictTables d subs rows ≡ true
+      strict o =
+          let r : ℕ = d₀ .reserved in
+          let w : ℕ = d₀ .waiting in
+          let t = tables-strict (r + w) ws₀ rows₀ o in
+          let kept : take (r + w) (drop (subRows ws) rows) ≡ take (r + w) (drop (subRows ws₀) rows₀) =
+          take-add r w (drop (subRows ws) rows) ∙ ap₂ (λ (x y : List Row). x ++ y) (g .reserved) (g .waiting) ∙ sym (take-add r w (drop (subRows ws₀) rows₀)) in
+          ap (λ (x : Head). strictTables x subs rows) (g .head)
+          ∙ strict-tables (r + w) ws rows (record { subs = g .strict (t .subs); others = ap (Base.all entryStrict) kept ∙ t .others })
+
       abbrev same : {A : Type 0} (f : Head → A) → f d ≡ f (recounted d₀ d)
       same f = ap f (g .head)
 
@@ -422,6 +446,7 @@ module _ (e : Entry) (subs₀ rows₀ : List Row) (d₀ : Head) (a : Arrives e d
               consumers = omega (arith, count, a .consumers);
               used = omega (arith, g .room);
               rows-used = omega (arith, own, kept, g .used);
+              strict = strict;
               subs-past = g .subs-past;
               rows-past = g .rows-past;
               subs-length = g .same-subs;

@@ -1,5 +1,5 @@
 -- A turn of the loop over all consumers: what the definition says of the tables before it, it says of the tables after it. Assumes nothing.
-use mathlib.Core.Path.{_≡_, sym, ap, ap₂, _∙_}
+use mathlib.Core.Path.{_≡_, refl, sym, ap, ap₂, _∙_}
 use mathlib.Core.List.{List, [], _∷_, _++_, append-assoc, append-nil, map, map-append}
 use Prim.Native.Nat.{ℕ, suc, _+_, _-_, _≤_, _<_}
 use native.Mathlib.Numerals.{add-one}
@@ -19,7 +19,9 @@ use Rattle.consumers.proofs.Words.{round}
 use Rattle.state.specs.declared.Head.{Head}
 use Rattle.topics.specs.Topics.{Seen, seen, ran, Kept, moved}
 use Rattle.table.proofs.Lists.{agree-drop}
-use Rattle.topics.proofs.Line.{stored-next, rows-one, subs-done, left-size, subs-next, subs-rest}
+use Rattle.consumers.proofs.Line.{stored-next, rows-one, subs-done, left-size, subs-next, subs-rest, LineStrict, line-own, line-turn}
+use Rattle.consumers.specs.Seats.{OwnStrict}
+use Rattle.consumers.proofs.Strict.{stored-strict}
 
 -- the consumers, the rows after theirs, the counters and the events
 pub record Whole : Type 0 where
@@ -186,6 +188,16 @@ module _ (now : ℕ) (ws : List Row) (i base : ℕ) (d₀ d : Head) (subs rows e
     served : serveAll now (subsAt topic (drop i ws) (drop base rows)) ≡ record { subs = a .sub ∷ x .subs; counts = a .counts ⊕ x .counts; events = a .events ++ x .events }
     unfolding serveAll seen subOf
     served = ap (serveAll now) (subs-next ws i more topic base rows)
+
+    abbrev count : ℕ
+    count = d .reserved + d .waiting
+
+    pub strict-turn : LineStrict count ws subs i base rows → (OwnStrict base (s .inflight) (s .held) rows → OwnStrict base (t .inflight) (t .held) rows′) → LineStrict count ws subs′ (i + 1) end′ rows′
+    unfolding seen subWords subOf
+    strict-turn l o =
+        let y = size in
+        let z = ready .rows in
+        line-turn count ws subs i base rows more l subs′ (subWords t) rows′ n end end′ pre-is ends refl refl (stored-strict t) (o (line-own count ws subs i base rows more l)) (ap (λ (x : Seen). x .before) said) (omega arith) agrees
 
     pub whole-turn : whole now ws (i + 1) end′ r subs′ rows′ events′ ≡ whole now ws i base d subs rows events
     unfolding whole seen

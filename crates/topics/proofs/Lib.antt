@@ -1,6 +1,5 @@
 pub mod Serve
 pub mod Parts
-pub mod Line
 pub mod Turn
 pub mod All
 pub mod Round

@@ -1,16 +1,21 @@
 -- The rows about one consumer, when the first of those that it holds goes or is sent. Assumes nothing.
 use mathlib.Core.Path.{_≡_, sym, ap, ap₂, _∙_}
+use mathlib.Core.Bool.{true, _&&_}
 use mathlib.Core.List.{List, [], _∷_, _++_}
 use Prim.Native.Nat.{ℕ, suc, _+_, _-_, _≤_, _<_}
 use native.Mathlib.Numerals.{add-one}
 use native.Mathlib.Omega.{arith}
 use lib.ListN.{length, take, drop, getD, set, length-drop}
 use lib.Seq.{slice, length-take-le, drop-at, drop-cons, take-set-le, drop-set-lt, drop-set-add, take-suc-set, drop-drop}
-use Rattle.definition.specs.Layout.{Row}
+use Rattle.definition.specs.Base.{all}
+use Rattle.definition.specs.Layout.{Row, entryStrict, flyingStrict}
+use Rattle.definition.proofs.Tests.{and-left, and-right}
+use Rattle.definition.proofs.Lists.{all-end}
+use Rattle.consumers.specs.Seats.{OwnStrict}
 use Rattle.table.specs.Table.{closeGap}
 use Rattle.table.proofs.Lists.{slice-take, agree-take, agree-drop}
 use Rattle.table.proofs.Laws.{close-before, close-used}
-use Rattle.topics.specs.Topics.{partsOf}
+use Rattle.topics.specs.Topics.{Parts, partsOf}
 
 part-cons : (f h : ℕ) (l : List Row) → 0 < h → f < length l → take h (drop f l) ≡ getD l f [] ∷ take (h - 1) (drop (f + 1) l)
 part-cons f h l p q =
@@ -81,3 +86,22 @@ module _ (base a h u : ℕ) (rows : List Row) (some : 0 < h) (fits : base + a + 
       let tail : take (u - (base + (a + 1) + (h - 1))) (drop (base + (a + 1) + (h - 1)) l) ≡ take (u - (f + h)) (drop (f + h) rows) =
       ap (λ (n : ℕ). take (u - n) (drop n l)) end ∙ ap (take (u - (f + h))) (drop-set-lt (f + h) rows f x (omega arith)) in
       λ i. record { before = take-set-le base rows f x (omega arith) i; flying = mine i; held = own i; after = tail i }
+
+  -- their words stay strict
+  module _ (o : OwnStrict base a h rows) where
+    pub first-strict : (entryStrict (getD rows f []) ≡ true) × (all entryStrict rest ≡ true)
+    first-strict =
+        let e : (entryStrict (getD rows f []) && all entryStrict rest) ≡ true = ap (all entryStrict) (sym held-first) ∙ o .held in
+        (and-left (entryStrict (getD rows f [])) _ e, and-right (entryStrict (getD rows f [])) _ e)
+
+    pub strict-lost : OwnStrict base a (h - 1) (closeGap f 1 u rows)
+    strict-lost = record {
+      flying = ap (λ (x : Parts). all flyingStrict (x .flying)) parts-lost ∙ o .flying;
+      held = ap (λ (x : Parts). all entryStrict (x .held)) parts-lost ∙ first-strict .1;
+    }
+
+    pub strict-sent : (x : Row) → flyingStrict x ≡ true → OwnStrict base (a + 1) (h - 1) (set rows f x)
+    strict-sent x s = record {
+      flying = ap (λ (y : Parts). all flyingStrict (y .flying)) (parts-sent x) ∙ all-end flyingStrict (take a (drop base rows)) x (o .flying) s;
+      held = ap (λ (y : Parts). all entryStrict (y .held)) (parts-sent x) ∙ first-strict .1;
+    }

@@ -1,6 +1,6 @@
 -- What holds while a topic's consumers are served one after the other, and what it says when all are. Assumes nothing.
 use mathlib.Core.Path.{_≡_, refl, sym, ap, ap₂, _∙_}
-use mathlib.Core.Bool.{false}
+use mathlib.Core.Bool.{true, false}
 use mathlib.Core.List.{List, [], _++_, map}
 use Prim.Native.Nat.{ℕ, suc, _+_, _-_, _≤_, _<_, _^_}
 use native.Mathlib.Omega.{arith}
@@ -10,18 +10,19 @@ use Rattle.entry.specs.Entry.{entryOf}
 use Rattle.definition.specs.Types.{Kind, topic, Id, Audit}
 use Rattle.definition.specs.Consumer.{_⊕_}
 use Rattle.definition.specs.Destination.{serveAll, dispatchTopic}
-use Rattle.definition.specs.Layout.{Row, heldAt, subsAt, subRows, eventWords}
+use Rattle.definition.specs.Layout.{Row, heldAt, subsAt, subRows, eventWords, tablesStrict}
 use Rattle.table.proofs.Lists.{same-after, agree-take, agree-drop, agree-later}
 use Rattle.consumers.specs.declared.Sub.{Sub}
 use Rattle.consumers.specs.Consumers.{subOf, subWords}
+use Rattle.consumers.specs.Seats.{OwnStrict}
 use Rattle.consumers.proofs.Laws.{fitting-at}
 use Rattle.state.specs.declared.Head.{Head}
-use Rattle.state.specs.State.{headView, kindBy}
+use Rattle.state.specs.State.{headView, strictTables, kindBy}
 use Rattle.state.specs.Fits.{Fits}
 use Rattle.state.specs.Leaves.{Leaves}
 use Rattle.topics.specs.Topics.{seen, ran, Fine, Kept, moved, Dispatched}
-use Rattle.topics.proofs.All.{Whole, whole, whole-start, whole-end, Ready, ready-turn, ends-turn, whole-turn}
-use Rattle.topics.proofs.Line.{left-size}
+use Rattle.topics.proofs.All.{Whole, whole, whole-start, whole-end, Ready, ready-turn, ends-turn, strict-turn, whole-turn}
+use Rattle.consumers.proofs.Line.{left-size, LineStrict, line-start, line-end}
 
 pub record Round (now : ℕ) (subs₀ rows₀ events₀ : List Row) (d₀ : Head) (subs rows events : List Row) (d : Head) (base i : ℕ) : Type 0 where
   pub within : i ≤ d₀ .consumers
@@ -33,6 +34,7 @@ pub record Round (now : ℕ) (subs₀ rows₀ events₀ : List Row) (d₀ : Head
   pub ends : base ≡ subRows (take i subs)
   pub past : drop (d₀ .used) rows ≡ drop (d₀ .used) rows₀
   pub later : drop (d .events) events ≡ drop (d .events) events₀
+  pub strict : strictTables d₀ subs₀ rows₀ ≡ true → LineStrict (d₀ .reserved + d₀ .waiting) (take (d₀ .consumers) subs₀) subs i base rows
   pub said : whole now (take (d₀ .consumers) subs₀) i base d subs rows events ≡ whole now (take (d₀ .consumers) subs₀) 0 0 d₀ subs₀ rows₀ events₀
 
 module _ (now : ℕ) (subs₀ rows₀ events₀ : List Row) (d₀ : Head) (fits : Fits subs₀ d₀ (length rows₀) (length events₀)) where
@@ -54,6 +56,7 @@ module _ (now : ℕ) (subs₀ rows₀ events₀ : List Row) (d₀ : Head) (fits 
     ends = refl;
     past = refl;
     later = refl;
+    strict = line-start (d₀ .reserved + d₀ .waiting) ws subs₀ rows₀;
     said = refl;
   }
 
@@ -94,11 +97,13 @@ module _ (now : ℕ) (subs₀ rows₀ events₀ : List Row) (d₀ : Head) (fits 
       pub round-turn : (s t : Sub) (r : Head) (subs′ rows′ events′ : List Row) → s ≡ subOf (getD subs i []) → subs′ ≡ set subs i (subWords t)
           → length rows′ ≡ length rows → length events′ ≡ length events
           → seen base t r rows′ events′ ≡ ran now (seen base s d rows events) → drop (r .events) events′ ≡ drop (r .events) events → Kept base s d t r → drop (d .used) rows′ ≡ drop (d .used) rows
+          → (OwnStrict base (s .inflight) (s .held) rows → OwnStrict base (t .inflight) (t .held) rows′)
           → Round now subs₀ rows₀ events₀ d₀ subs′ rows′ events′ r (base + t .inflight + t .held) (i + 1)
-      round-turn s t r subs′ rows′ events′ e p lr le said later kept past =
+      round-turn s t r subs′ rows′ events′ e p lr le said later kept past own =
           let q : s ≡ subOf w = e ∙ ap subOf row-is in
           let k : Kept base (subOf w) d t r = rw q at kept in
           let v : seen base t r rows′ events′ ≡ ran now (seen base (subOf w) d rows events) = rw q at said in
+          let count : d₀ .reserved + d₀ .waiting ≡ d .reserved + d .waiting = sym (ap (λ (x : Head). x .reserved + x .waiting) (g .ready .head)) in
           let b : i < length subs = omega (arith, fits .subs-long, fits .consumers, g .same-subs) in
           rw p (record {
             within = omega arith;
@@ -110,6 +115,7 @@ module _ (now : ℕ) (subs₀ rows₀ events₀ : List Row) (d₀ : Head) (fits 
             ends = ends-turn now ws i base d₀ d subs rows events rows′ events′ t r here b (g .ready) (g .ends) k v;
             past = agree-later (d .used) (d₀ .used) rows′ rows (g .ready .used) past ∙ g .past;
             later = later ∙ agree-later (d .events) (r .events) events events₀ (k .sent) (g .later);
+            strict = λ h. rw count (strict-turn now ws i base d₀ d subs rows events rows′ events′ t r here b (g .ready) (g .ends) k v (rw count at (g .strict h)) (rw q at own));
             said = whole-turn now ws i base d₀ d subs rows events rows′ events′ t r here b (g .ready) (g .ends) k v ∙ g .said;
           })
 
@@ -204,6 +210,8 @@ module _ (now : ℕ) (subs₀ rows₀ events₀ : List Row) (d₀ : Head) (fits 
               consumers = omega (arith, n, fits .consumers);
               used = omega (arith, r .used, fits .used);
               rows-used = rw m (omega arith);
+              strict = λ h. ap₂ (λ (k : ℕ) (l : List Row). tablesStrict k l rows) (same (λ (x : Head). x .reserved + x .waiting)) m
+              ∙ line-end (d₀ .reserved + d₀ .waiting) ws subs i base rows all-done (g .ends) (g .strict h);
               subs-past = agree-later i 32 subs subs₀ (omega (arith, g .within, fits .consumers)) (g .rest);
               rows-past = agree-later (d₀ .used) 512 rows rows₀ (fits .used) (g .past);
               subs-length = g .same-subs;

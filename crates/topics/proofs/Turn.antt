@@ -14,19 +14,22 @@ use Rattle.model.specs.Model.{idOf}
 use Rattle.definition.specs.Types.{Entry, topic, message, withTpending}
 use Rattle.definition.specs.Types as Def
 use Rattle.definition.specs.Consumer.{hasCredit, addExpired, addDispatched, inflightOf, send, sent}
-use Rattle.definition.specs.Layout.{Row, inflightAt, browserAt, eventWords}
+use Rattle.definition.specs.Layout.{Row, inflightAt, browserAt, eventWords, flyingStrict}
 use Rattle.consumers.specs.declared.Sub.{Sub}
 use Rattle.consumers.specs.Consumers.{subView, creditOf}
+use Rattle.consumers.specs.Seats.{OwnStrict}
 use Rattle.consumers.proofs.Laws.{credit}
 use Rattle.state.specs.declared.Head.{Head}
 use Rattle.state.specs.State.{withStats, withUsed, withEvents}
 use Rattle.state.proofs.Counts.{expired-plain, dispatched-plain}
 use Rattle.state.proofs.Events.{events-up-to, events-after}
-use Rattle.table.specs.Table.{closeGap}
+use Rattle.table.specs.Table.{closeGap, flownRow}
 use Rattle.table.proofs.Laws.{close-after, close-length}
+use Rattle.table.proofs.Rows.{flown-row}
+use Rattle.table.proofs.Strict.{flown-strict}
 use Rattle.topics.specs.Topics.{Parts, partsOf, Seen, seen, stepped, ran, sentSub, Fine, Kept}
 use Rattle.topics.proofs.Serve.{serve-none, serve-stop, serve-lost, serve-sent, ran-rest, ran-turn}
-use Rattle.topics.proofs.Parts.{held-first, parts-lost, parts-sent}
+use Rattle.topics.proofs.Parts.{held-first, parts-lost, parts-sent, first-strict, strict-lost, strict-sent}
 
 -- a topic's consumer shows what it browses whatever it holds
 same-browser : (b : Bool) (l m : List Entry) → browserAt topic b l ≡ browserAt topic b m
@@ -144,6 +147,7 @@ pub record Going (now base : ℕ) (rows₀ events₀ : List Row) (s₀ : Sub) (d
   pub later : drop (d .events) events ≡ drop (d .events) events₀
   pub kept : Kept base s₀ d₀ s d
   pub past : drop (d₀ .used) rows ≡ drop (d₀ .used) rows₀
+  pub strict : OwnStrict base (s₀ .inflight) (s₀ .held) rows₀ → OwnStrict base (s .inflight) (s .held) rows
 
 pub going-start : (now base : ℕ) (rows events : List Row) (s : Sub) (d : Head) → Fine (length rows) (length events) base s d now → Going now base rows events s d rows events s d
 going-start now base rows events s d f = record {
@@ -154,6 +158,7 @@ going-start now base rows events s d f = record {
   later = refl;
   kept = record { rows = f .rows; used = omega arith; tail = refl; own = omega arith; events = omega arith; sent = omega arith; expired = omega arith; dispatched = omega arith; head = refl };
   past = refl;
+  strict = λ o. o;
 }
 
 module _ (now base : ℕ) (rows₀ events₀ : List Row) (s₀ : Sub) (d₀ : Head) (rows events : List Row) (s : Sub) (d : Head) (g : Going now base rows₀ events₀ s₀ d₀ rows events s d) where
@@ -198,6 +203,7 @@ module _ (now base : ℕ) (rows₀ events₀ : List Row) (s₀ : Sub) (d₀ : He
             later = g .later;
             kept = kept-lost;
             past = close-after (base + s .inflight) 1 (d .used) rows (d₀ .used) (omega (arith, g .kept .used)) ∙ g .past;
+            strict = λ o. strict-lost base (s .inflight) (s .held) (d .used) rows some (f .rows) (omega arith) (g .strict o);
           })
 
       fine-sent : Fine (length rows) (length events) base (sentSub s) (sentHead d) now
@@ -218,18 +224,24 @@ module _ (now base : ℕ) (rows₀ events₀ : List Row) (s₀ : Sub) (d₀ : He
 
       pub going-sent : (s′ : Sub) (d′ : Head) (events′ : List Row) (x : Row) → s′ ≡ sentSub s → d′ ≡ sentHead d
           → events′ ≡ set events (d .events) (eventWords (message (idOf (s .conn) (s .session) (s .value)) (entryOf (getD rows (base + s .inflight) []) .seq) (entryOf (getD rows (base + s .inflight) []) .redelivery)))
-          → inflightAt x ≡ inflightOf (s .«next_dseq») (entryOf (getD rows (base + s .inflight) []))
+          → x ≡ flownRow (s .«next_dseq») (getD rows (base + s .inflight) []) → length (getD rows (base + s .inflight) []) ≡ 9
           → expired (pos now) (entryOf (getD rows (base + s .inflight) [])) ≡ false
           → Going now base rows₀ events₀ s₀ d₀ (set rows (base + s .inflight) x) events′ s′ d′
       unfolding seen subView
-      going-sent s′ d′ events′ x o p q r y =
+      going-sent s′ d′ events′ x o p q r n y =
+          let row : Row = getD rows (base + s .inflight) [] in
+          let flies : inflightAt x ≡ inflightOf (s .«next_dseq») (entryOf row) = ap inflightAt r ∙ flown-row (s .«next_dseq») row n in
           let e : Row = eventWords (message (idOf (s .conn) (s .session) (s .value)) (entryOf (getD rows (base + s .inflight) []) .seq) (entryOf (getD rows (base + s .inflight) []) .redelivery)) in
           rw (o, p, q) (record {
             fine = simp length-set fine-sent;
             same-rows = simp length-set (g .same-rows);
             same-events = simp length-set (g .same-events);
-            said = ran-sent now base s d rows events f some x r credited y ∙ g .said;
+            said = ran-sent now base s d rows events f some x flies credited y ∙ g .said;
             later = events-after (d .events) events e ∙ sym (drop-drop 1 (d .events) events) ∙ ap (drop 1) (g .later) ∙ drop-drop 1 (d .events) events₀;
             kept = kept-sent;
             past = drop-set-lt (d₀ .used) rows (base + s .inflight) x (omega (arith, g .kept .used, f .rows)) ∙ g .past;
+            strict = λ o.
+              let z = g .strict o in
+              let e = first-strict base (s .inflight) (s .held) (d .used) rows some (f .rows) (omega arith) z .0 in
+              strict-sent base (s .inflight) (s .held) (d .used) rows some (f .rows) (omega arith) z x (ap flyingStrict r ∙ flown-strict (s .«next_dseq») row e);
           })

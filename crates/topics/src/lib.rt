@@ -5,6 +5,7 @@ ghost use mathlib.Core.Bool.{false, not, _&&_};
 ghost use lib.Dec.{leb};
 ghost use lib.ListN.{length, drop};
 ghost use Rattle.definition.specs.Destination.{dispatchTopic};
+ghost use Rattle.consumers.specs.Seats.{OwnStrict};
 ghost use Rattle.state.specs.Fits.{Fits, fits};
 ghost use Rattle.state.specs.Leaves.{Leaves, LeavesIf};
 ghost use Rattle.topics.specs.Topics.{Fine, Kept, seen, ran, sentSub, Dispatched};
@@ -47,6 +48,7 @@ fn serve_topic(
     ensures { λ r. ⌜ drop (r .head .events) (now (events .exit)) ≡ drop (r .head .events) (now (events .entry)) ⌝ }
     ensures { λ r. ⌜ Kept base start before (r .sub) (r .head) ⌝ }
     ensures { λ r. ⌜ drop (before .used) (now (rows .exit)) ≡ drop (before .used) (now (rows .entry)) ⌝ }
+    ensures { λ r. ⌜ (OwnStrict base (start .inflight) (start .held) (now (rows .entry)) → OwnStrict base (r .sub .inflight) (r .sub .held) (now (rows .exit))) ⌝ }
 {
     let mut s = start;
     let mut d = before;

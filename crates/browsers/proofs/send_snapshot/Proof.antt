@@ -142,7 +142,7 @@ loop-again-2 c =
     let room : l .d .events < length (l .events) = omega arith in
     let said = p .ensures .1 ∙ ap (λ (z : ℤ). set (l .events) (l .d .events) (eventWords (message (idOf (l .s .conn) (l .s .session) (l .s .value)) (e .seq) z))) (toZ-ofZ w32 (e .redelivery) small)
     ∙ ap (λ (x : Entry). set (l .events) (l .d .events) (eventWords (message (idOf (l .s .conn) (l .s .session) (l .s .value)) (x .seq) (x .redelivery)))) is in
-    sending-sent (a .clock) (a .base) (now (a .rows)) (now (a .events)) (a .start) (a .before) (l .rows) (l .events) (l .s) (l .d) (l .inv) some yes _ _ _ _ (c .sent .ensures) (p .ensures .0 ∙ pushed-room (l .d) (length (l .events)) room) said (c .before .flown .ensures) (rw (is, signed-pos (a .clock) (omega (arith, f .clock))) at fresh)
+    sending-sent (a .clock) (a .base) (now (a .rows)) (now (a .events)) (a .start) (a .before) (l .rows) (l .events) (l .s) (l .d) (l .inv) some yes _ _ _ _ (c .sent .ensures) (p .ensures .0 ∙ pushed-room (l .d) (length (l .events)) room) said (c .before .flown .ensures .0) (c .before .flown .ensures .1) (rw (is, signed-pos (a .clock) (omega (arith, f .clock))) at fresh)
 
 same-length-3 : tie.Need-same-length-3 Inv-loop μ-loop
 same-length-3 c = search needs

@@ -16,8 +16,9 @@ use Rattle.entry.specs.Entry.{entryOf}
 use Rattle.entry.proofs.Rows.{EntryFits}
 use Rattle.definition.specs.Types.{message}
 use Rattle.definition.specs.Consumer.{inflightOf}
-use Rattle.definition.specs.Layout.{inflightAt, subRows, eventWords}
+use Rattle.definition.specs.Layout.{inflightAt, flyingStrict, subRows, eventWords}
 use Rattle.table.specs.Table.{insertRow}
+use Rattle.table.proofs.Strict.{sent-strict}
 use Rattle.consumers.specs.declared.Sub.{Sub}
 use Rattle.consumers.specs.Consumers.{subWords}
 use Rattle.state.specs.declared.Head.{Head}
@@ -110,6 +111,7 @@ returns c =
     record {
       row = row .result;
       flies = ap inflightAt (row .ensures) ∙ flown (e .result) (a .s .«next_dseq») fits ∙ ap (inflightOf (a .s .«next_dseq»)) was;
+      strict = ap flyingStrict (row .ensures) ∙ sent-strict (e .result) (a .s .«next_dseq») (fits .redelivery);
       head = c .count-dispatched .ensures ∙ ap (λ (x : Head). withStats (withDispatched (x .stats)) (withTurn ((a .i + 1) % x .consumers) (withWaiting (x .waiting - 1) x))) is;
       subs-is = c .before .before .before .before .store .ensures ∙ ap (λ (x : Sub). set (now (a .subs)) (a .i) (subWords x)) (c .before .before .before .before .before .sent .ensures ∙ ap (λ (x : Entry). sentSub (x .seq) (a .s)) was);
       rows-is = c .before .before .before .before .before .before .before .before .insert-row .ensures ∙ ap (λ (n : ℕ). insertRow (n + a .s .inflight) (a .at) (row .result) (now (a .rows))) from;

@@ -60,7 +60,7 @@ loop-again c =
     let a = c .before .before .before .before .before .before .before .before .before .before .before .before .before .before .before .before .args in
     let pre = c .before .before .before .before .before .before .before .before .before .before .before .before .before .before .before .before .pre in
     let v = c .before .before .before .before .before .before .before .before .before .serve-topic in
-    round-turn (a .clock) (now (a .subs)) (now (a .rows)) (now (a .events)) (a .before) (pre .0) (l .subs) (l .rows) (l .events) (l .d) (l .base) (l .i) (l .inv) (c .before .before .before .before .before .before .before .before .before .before .before .before .before .before .loop-test .taken) _ _ _ _ _ _ (c .before .before .before .before .before .before .before .before .before .before .before .before .load .ensures) (c .before .store .ensures) (v .kept .0) (v .kept .1 .0) (v .ensures .0) (v .ensures .1 .0) (v .ensures .1 .1 .0) (v .ensures .1 .1 .1)
+    round-turn (a .clock) (now (a .subs)) (now (a .rows)) (now (a .events)) (a .before) (pre .0) (l .subs) (l .rows) (l .events) (l .d) (l .base) (l .i) (l .inv) (c .before .before .before .before .before .before .before .before .before .before .before .before .before .before .loop-test .taken) _ _ _ _ _ _ (c .before .before .before .before .before .before .before .before .before .before .before .before .load .ensures) (c .before .store .ensures) (v .kept .0) (v .kept .1 .0) (v .ensures .0) (v .ensures .1 .0) (v .ensures .1 .1 .0) (v .ensures .1 .1 .1 .0) (v .ensures .1 .1 .1 .1)
 
 same-length : tie.Need-same-length Inv-loop μ-loop
 same-length c = search needs

@@ -53,7 +53,7 @@ returns c =
     let a = c .before .before .before .before .before .args in
     let some : 0 < l .s .held = c .before .before .if1 .taken in
     let no : creditOf (l .s) ≡ false = sym (c .before .has-credit .ensures) ∙ not-true _ (c .if2 .taken) in
-    (going-stop (a .clock) (a .base) (now (a .rows)) (now (a .events)) (a .start) (a .before) (l .rows) (l .events) (l .s) (l .d) (l .inv) some no, (l .inv .later, (l .inv .kept, l .inv .past)))
+    (going-stop (a .clock) (a .base) (now (a .rows)) (now (a .events)) (a .start) (a .before) (l .rows) (l .events) (l .s) (l .d) (l .inv) some no, (l .inv .later, (l .inv .kept, (l .inv .past, l .inv .strict))))
 
 add-first : tie.Need-add-first Inv-loop μ-loop
 add-first c = search needs
@@ -156,7 +156,7 @@ loop-again-2 c =
     let head = c .before .before .count-dispatched .ensures ∙ ap (λ (x : Head). withStats (withDispatched (x .stats)) x) (p .ensures .0 ∙ pushed-room (l .d) (length (l .events)) room) in
     let said = p .ensures .1 ∙ ap (λ (z : ℤ). set (l .events) (l .d .events) (eventWords (message (idOf (l .s .conn) (l .s .session) (l .s .value)) (e .seq) z))) (toZ-ofZ w32 (e .redelivery) f)
     ∙ ap (λ (x : Entry). set (l .events) (l .d .events) (eventWords (message (idOf (l .s .conn) (l .s .session) (l .s .value)) (x .seq) (x .redelivery)))) is in
-    going-sent (a .clock) (a .base) (now (a .rows)) (now (a .events)) (a .start) (a .before) (l .rows) (l .events) (l .s) (l .d) (l .inv) some yes _ _ _ _ (c .sent .ensures) head said (c .before .flown .ensures) (rw (is, signed-pos (a .clock) (omega (arith, g .clock))) at fresh)
+    going-sent (a .clock) (a .base) (now (a .rows)) (now (a .events)) (a .start) (a .before) (l .rows) (l .events) (l .s) (l .d) (l .inv) some yes _ _ _ _ (c .sent .ensures) head said (c .before .flown .ensures .0) (c .before .flown .ensures .1) (rw (is, signed-pos (a .clock) (omega (arith, g .clock))) at fresh)
 
 same-length-3 : tie.Need-same-length-3 Inv-loop μ-loop
 same-length-3 c = search needs
@@ -168,7 +168,7 @@ returns-2 : tie.Need-returns-2 Inv-loop μ-loop
 returns-2 c =
     let l = c .before .before .loop in
     let a = c .before .before .before .args in
-    (going-none (a .clock) (a .base) (now (a .rows)) (now (a .events)) (a .start) (a .before) (l .rows) (l .events) (l .s) (l .d) (l .inv) (c .if1 .left), (l .inv .later, (l .inv .kept, l .inv .past)))
+    (going-none (a .clock) (a .base) (now (a .rows)) (now (a .events)) (a .start) (a .before) (l .rows) (l .events) (l .s) (l .d) (l .inv) (c .if1 .left), (l .inv .later, (l .inv .kept, (l .inv .past, l .inv .strict))))
 
 pub serve-topic-spec : {M : Type 1} → statement M
 serve-topic-spec =
