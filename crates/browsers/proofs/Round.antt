@@ -195,7 +195,7 @@ module _ (now : ℕ) (subs₀ rows₀ events₀ : List Row) (d₀ : Head) (fits 
               later = g .later;
               strict = λ z.
                 let l = g .strict z in
-                line-step (d .reserved + d .waiting) ws subs i base rows here l subs w rows (subRows post) end end (d .reserved + d .waiting) front (g .ends) refl refl (line-words (d .reserved + d .waiting) ws subs i base rows here l)
+                line-step (d .reserved + d .waiting) ws subs i base rows here l subs w rows (subRows post) end end (d .reserved + d .waiting) front (g .ends) refl (line-words (d .reserved + d .waiting) ws subs i base rows here l)
                 (line-own (d .reserved + d .waiting) ws subs i base rows here l) refl (omega arith) refl (line-others (d .reserved + d .waiting) ws subs i base rows here l end refl);
               said = whole-pass ∙ g .said;
             }
@@ -288,7 +288,7 @@ module _ (now : ℕ) (subs₀ rows₀ events₀ : List Row) (d₀ : Head) (fits 
             let agrees : take n (drop end′ rows′) ≡ take n (drop end rows) =
             sym (take-take n (r .used - end′) (drop end′ rows′) (omega (arith, k .rows))) ∙ ap (λ (x : Shown). x .after) (done .said) ∙ take-take n (d .used - end) (drop end rows) (omega (arith, m-is, left, g .ready .rows)) in
             let z = done .strict (before-strict l) in
-            line-step (d .reserved + d .waiting) ws subs i base rows here l (set subs i (subWords t)) (subWords t) rows′ n end end′ (r .reserved + r .waiting) (stored-next subs i (subWords t) within-subs) (g .ends) refl refl
+            line-step (d .reserved + d .waiting) ws subs i base rows here l (set subs i (subWords t)) (subWords t) rows′ n end end′ (r .reserved + r .waiting) (stored-next subs i (subWords t) within-subs) (g .ends) refl
             (stored-strict t) (record { flying = z .own .flying; held = z .own .held }) (ap (λ (x : Shown). x .before) (done .said)) (omega (arith, m-is)) agrees (others-strict l z)
 
         served : Round now subs₀ rows₀ events₀ d₀ (set subs i (subWords t)) rows′ events′ r (base + t .inflight + t .held) (i + 1)

@@ -1,20 +1,20 @@
 -- A loop along the consumers that stores one a turn: the consumers that are done, the next one, and those that are left. Assumes nothing.
 use mathlib.Core.Path.{_≡_, refl, sym, ap, ap₂, _∙_}
-use mathlib.Core.Bool.{true}
+use mathlib.Core.Bool.{true, _&&_}
 use mathlib.Core.List.{List, [], _∷_, _++_}
-use Prim.Native.Nat.{ℕ, suc, _+_, _-_, _≤_, _<_}
+use Prim.Native.Nat.{ℕ, suc, _+_, _≤_, _<_}
 use native.Mathlib.Numerals.{add-one}
 use native.Mathlib.Omega.{arith}
 use lib.ListN.{length, take, drop, getD, set}
 use lib.Seq.{drop-cons, drop-drop, drop-length, take-suc, take-suc-set, take-take}
+use Rattle.definition.specs.Base.{all, every}
 use Rattle.definition.specs.Types.{Kind}
 use Rattle.definition.specs.Types as Def
-use Rattle.definition.specs.Base.{all}
 use Rattle.definition.specs.Layout.{Row, inflightOf, heldOf, subAt, eachSub, subsAt, subRows, entryStrict, wordsStrict, subStrict, subsStrict, tablesStrict}
 use Rattle.definition.proofs.Tests.{and-left, and-right, and-both}
 use Rattle.consumers.specs.Consumers.{subOf, subView}
-use Rattle.consumers.proofs.View.{sub-at, subs-append, subs-agree, rows-append, inflight-loaded, held-loaded, front-drop}
 use Rattle.consumers.specs.Seats.{OwnStrict}
+use Rattle.consumers.proofs.View.{sub-at, each-agree, subs-append, subs-agree, rows-append, inflight-loaded, held-loaded, front-drop}
 use Rattle.consumers.proofs.Strict.{SubStrict, strict-sub, sub-strict, strict-append, strict-agree, tables-strict, strict-tables}
 
 -- ---- done
@@ -44,6 +44,19 @@ subs-done k pre x base rows rows′ y ends low is =
     ∙ ap₂ (λ (l : List Def.Sub) (n : ℕ). l ++ subsAt k (x ∷ []) (drop n rows′)) first (sym ends)
     ∙ ap (λ (z : Def.Sub). subsAt k pre rows ++ (z ∷ [])) mine
 
+-- and its words are strict
+pub strict-done : (pre : List Row) (x : Row) (base : ℕ) (rows rows′ : List Row) → base ≡ subRows pre → take base rows′ ≡ take base rows → subsStrict pre rows ≡ true
+    → SubStrict x (take (inflightOf x) (drop base rows′)) (take (heldOf x) (drop (base + inflightOf x) rows′)) → subsStrict (pre ++ (x ∷ [])) rows′ ≡ true
+unfolding eachSub
+strict-done pre x base rows rows′ ends low s t =
+    let f : List Row = take (inflightOf x) (drop base rows′) in
+    let h : List Row = take (heldOf x) (drop (inflightOf x) (drop base rows′)) in
+    let own : subStrict x f h ≡ true =
+    ap (λ (l : List Row). subStrict x f (take (heldOf x) l)) (drop-drop (inflightOf x) base rows′) ∙ strict-sub x f (take (heldOf x) (drop (base + inflightOf x) rows′)) t in
+    let mine : subsStrict (x ∷ []) (drop base rows′) ≡ true = and-both (subStrict x f h) true own refl in
+    strict-append pre (x ∷ []) rows′
+    ∙ and-both (subsStrict pre rows′) _ (strict-agree pre base rows′ rows (omega arith) low ∙ s) (ap (λ (n : ℕ). subsStrict (x ∷ []) (drop n rows′)) (sym ends) ∙ mine)
+
 -- ---- left
 
 module _ (ws : List Row) (i : ℕ) (more : i < length ws) where
@@ -55,26 +68,47 @@ module _ (ws : List Row) (i : ℕ) (more : i < length ws) where
   unfolding subRows subOf
   left-size = ap subRows (drop-cons ws i [] more)
 
-  -- the next consumer, whose rows begin at base, and the rest
+  -- what is read of the next consumer, whose rows begin at base, and of the rest
+  module _ {A : Type 0} (of : Row → List Row → List Row → A) where
+    each-next : (base : ℕ) (rows : List Row) → eachSub of (drop i ws) (drop base rows)
+        ≡ of w (take (inflightOf w) (drop base rows)) (take (heldOf w) (drop (base + inflightOf w) rows)) ∷ eachSub of (drop (suc i) ws) (drop (base + inflightOf w + heldOf w) rows)
+    unfolding eachSub
+    each-next base rows =
+        let f : List Row = take (inflightOf w) (drop base rows) in
+        let one : drop (inflightOf w) (drop base rows) ≡ drop (base + inflightOf w) rows = drop-drop (inflightOf w) base rows in
+        let two : drop (heldOf w) (drop (inflightOf w) (drop base rows)) ≡ drop (base + inflightOf w + heldOf w) rows = ap (drop (heldOf w)) one ∙ drop-drop (heldOf w) (base + inflightOf w) rows in
+        ap (λ (l : List Row). eachSub of l (drop base rows)) (drop-cons ws i [] more)
+        ∙ ap₂ (λ (l m : List Row). of w f (take (heldOf w) l) ∷ eachSub of (drop (suc i) ws) m) one two
+
+    -- the rest, whose rows stand further down with n of them as they were
+    each-rest : (n end end′ : ℕ) (rows rows′ : List Row) → subRows (drop (suc i) ws) ≤ n → take n (drop end′ rows′) ≡ take n (drop end rows)
+        → eachSub of (drop (i + 1) ws) (drop end′ rows′) ≡ eachSub of (drop (suc i) ws) (drop end rows)
+    each-rest n end end′ rows rows′ h q =
+        ap (λ (m : ℕ). eachSub of (drop m ws) (drop end′ rows′)) (add-one i) ∙ each-agree of (drop (suc i) ws) n (drop end′ rows′) (drop end rows) h q
+
   pub subs-next : (k : Kind) (base : ℕ) (rows : List Row) → subsAt k (drop i ws) (drop base rows)
       ≡ subView k (subOf w) (take (inflightOf w) (drop base rows)) (take (heldOf w) (drop (base + inflightOf w) rows)) ∷ subsAt k (drop (suc i) ws) (drop (base + inflightOf w + heldOf w) rows)
-  unfolding eachSub
   subs-next k base rows =
-      let f : List Row = take (inflightOf w) (drop base rows) in
-      let one : drop (inflightOf w) (drop base rows) ≡ drop (base + inflightOf w) rows = drop-drop (inflightOf w) base rows in
-      let two : drop (heldOf w) (drop (inflightOf w) (drop base rows)) ≡ drop (base + inflightOf w + heldOf w) rows = ap (drop (heldOf w)) one ∙ drop-drop (heldOf w) (base + inflightOf w) rows in
-      let mine : subAt k w f (take (heldOf w) (drop (inflightOf w) (drop base rows))) ≡ subView k (subOf w) f (take (heldOf w) (drop (base + inflightOf w) rows)) =
-      ap (λ (l : List Row). subAt k w f (take (heldOf w) l)) one ∙ sub-at k w f (take (heldOf w) (drop (base + inflightOf w) rows)) in
-      ap (λ (l : List Row). subsAt k l (drop base rows)) (drop-cons ws i [] more)
-      ∙ ap₂ (λ (s : Def.Sub) (l : List Row). s ∷ subsAt k (drop (suc i) ws) l) mine two
+      each-next (subAt k) base rows
+      ∙ ap (λ (s : Def.Sub). s ∷ subsAt k (drop (suc i) ws) (drop (base + inflightOf w + heldOf w) rows)) (sub-at k w (take (inflightOf w) (drop base rows)) (take (heldOf w) (drop (base + inflightOf w) rows)))
 
-  -- the rest, whose rows stand further down with n of them as they were
+  pub strict-next : (base : ℕ) (rows : List Row) → subsStrict (drop i ws) (drop base rows) ≡ true
+      → SubStrict w (take (inflightOf w) (drop base rows)) (take (heldOf w) (drop (base + inflightOf w) rows)) × (subsStrict (drop (suc i) ws) (drop (base + inflightOf w + heldOf w) rows) ≡ true)
+  strict-next base rows h =
+      let f : List Row = take (inflightOf w) (drop base rows) in
+      let l : List Row = take (heldOf w) (drop (base + inflightOf w) rows) in
+      let both : (subStrict w f l && subsStrict (drop (suc i) ws) (drop (base + inflightOf w + heldOf w) rows)) ≡ true = sym (ap every (each-next subStrict base rows)) ∙ h in
+      (sub-strict w f l (and-left (subStrict w f l) _ both), and-right (subStrict w f l) _ both)
+
   pub subs-rest : (k : Kind) (n end end′ : ℕ) (rows rows′ : List Row) → subRows (drop (suc i) ws) ≤ n → take n (drop end′ rows′) ≡ take n (drop end rows)
       → subsAt k (drop (i + 1) ws) (drop end′ rows′) ≡ subsAt k (drop (suc i) ws) (drop end rows)
-  subs-rest k n end end′ rows rows′ h q =
-      ap (λ (m : ℕ). subsAt k (drop m ws) (drop end′ rows′)) (add-one i) ∙ subs-agree k (drop (suc i) ws) n (drop end′ rows′) (drop end rows) h q
+  subs-rest k n end end′ rows rows′ h q = each-rest (subAt k) n end end′ rows rows′ h q
 
--- ---- strict words
+  pub strict-rest : (n end end′ : ℕ) (rows rows′ : List Row) → subRows (drop (suc i) ws) ≤ n → take n (drop end′ rows′) ≡ take n (drop end rows)
+      → subsStrict (drop (i + 1) ws) (drop end′ rows′) ≡ subsStrict (drop (suc i) ws) (drop end rows)
+  strict-rest n end end′ rows rows′ h q = ap every (each-rest subStrict n end end′ rows rows′ h q)
+
+-- ---- strict words of the tables
 
 -- of the consumers that are done, of those that are left, whose rows begin at base, and of n rows after theirs
 pub record LineStrict (n : ℕ) (ws subs : List Row) (i base : ℕ) (rows : List Row) : Type 0 where
@@ -100,48 +134,23 @@ module _ (n : ℕ) (ws subs : List Row) (i base : ℕ) (rows : List Row) (more :
   abbrev here : Row
   here = getD ws i []
 
-  abbrev own : List Row → Type 0
-  own r = OwnStrict base (inflightOf here) (heldOf here) r
-
-  left-parts : SubStrict here (take (inflightOf here) (drop base rows)) (take (heldOf here) (drop (inflightOf here) (drop base rows)))
-      × (subsStrict (drop (suc i) ws) (drop (heldOf here) (drop (inflightOf here) (drop base rows))) ≡ true)
-  unfolding eachSub
-  left-parts =
-      let h : subsStrict (here ∷ drop (suc i) ws) (drop base rows) ≡ true = ap (λ (x : List Row). subsStrict x (drop base rows)) (sym (drop-cons ws i [] more)) ∙ l .left in
-      (sub-strict _ _ _ (and-left (subStrict here _ _) _ h), and-right (subStrict here (take (inflightOf here) (drop base rows)) (take (heldOf here) (drop (inflightOf here) (drop base rows)))) _ h)
-
   -- the next consumer
-  pub line-own : own rows
-  line-own =
-      let p = left-parts .0 in
-      record { flying = p .flying; held = ap (λ (x : List Row). all entryStrict (take (heldOf here) x)) (sym (drop-drop (inflightOf here) base rows)) ∙ p .held }
-
   pub line-words : wordsStrict here ≡ true
-  line-words = left-parts .0 .words
+  line-words = strict-next ws i more base rows (l .left) .0 .words
+
+  pub line-own : OwnStrict base (inflightOf here) (heldOf here) rows
+  line-own = let p = strict-next ws i more base rows (l .left) .0 in record { flying = p .flying; held = p .held }
 
   -- it is x now, with its rows from base on; m rows after them are as they were; n′ rows after those of the consumers are strict
   pub line-step : (subs′ : List Row) (x : Row) (rows′ : List Row) (m end end′ n′ : ℕ) → take (i + 1) subs′ ≡ take i subs ++ (x ∷ []) → base ≡ subRows (take i subs)
-      → end ≡ base + inflightOf here + heldOf here → end′ ≡ base + inflightOf x + heldOf x
-      → wordsStrict x ≡ true → OwnStrict base (inflightOf x) (heldOf x) rows′ → take base rows′ ≡ take base rows
+      → end ≡ base + inflightOf here + heldOf here → wordsStrict x ≡ true → OwnStrict base (inflightOf x) (heldOf x) rows′ → take base rows′ ≡ take base rows
       → subRows (drop (suc i) ws) ≤ m → take m (drop end′ rows′) ≡ take m (drop end rows) → all entryStrict (take n′ (drop (end′ + subRows (drop (suc i) ws)) rows′)) ≡ true
       → LineStrict n′ ws subs′ (i + 1) end′ rows′
-  unfolding eachSub
-  line-step subs′ x rows′ m end end′ n′ front ends e e′ words o low few high others =
-      let post : List Row = drop (suc i) ws in
-      let f : List Row = take (inflightOf x) (drop base rows′) in
-      let two : drop (heldOf here) (drop (inflightOf here) (drop base rows)) ≡ drop end rows =
-      ap (drop (heldOf here)) (drop-drop (inflightOf here) base rows) ∙ drop-drop (heldOf here) (base + inflightOf here) rows ∙ ap (λ (j : ℕ). drop j rows) (sym e) in
-      let mine : subStrict x f (take (heldOf x) (drop (inflightOf x) (drop base rows′))) ≡ true =
-      strict-sub x f _ (record { words = words; flying = o .flying; held = ap (λ (y : List Row). all entryStrict (take (heldOf x) y)) (drop-drop (inflightOf x) base rows′) ∙ o .held }) in
-      let next : drop (i + 1) ws ≡ post = ap (λ (j : ℕ). drop j ws) (add-one i) in
-      record {
-        done = ap (λ (y : List Row). subsStrict y rows′) front
-        ∙ strict-append (take i subs) (x ∷ []) rows′
-        ∙ and-both (subsStrict (take i subs) rows′) _ (strict-agree (take i subs) base rows′ rows (omega arith) low ∙ l .done)
-        (ap (λ (j : ℕ). subsStrict (x ∷ []) (drop j rows′)) (sym ends) ∙ and-both (subStrict x f (take (heldOf x) (drop (inflightOf x) (drop base rows′)))) true mine refl);
-        left = ap (λ (y : List Row). subsStrict y (drop end′ rows′)) next ∙ strict-agree post m (drop end′ rows′) (drop end rows) few high ∙ ap (subsStrict post) (sym two) ∙ left-parts .1;
-        others = ap (λ (y : List Row). all entryStrict (take n′ (drop (end′ + subRows y) rows′))) next ∙ others;
-      }
+  line-step subs′ x rows′ m end end′ n′ front ends e words o low few high others = record {
+    done = ap (λ (y : List Row). subsStrict y rows′) front ∙ strict-done (take i subs) x base rows rows′ ends low (l .done) (record { words = words; flying = o .flying; held = o .held });
+    left = strict-rest ws i more m end end′ rows rows′ few high ∙ ap (λ (j : ℕ). subsStrict (drop (suc i) ws) (drop j rows)) e ∙ strict-next ws i more base rows (l .left) .1;
+    others = ap (λ (j : ℕ). all entryStrict (take n′ (drop (end′ + subRows (drop j ws)) rows′))) (add-one i) ∙ others;
+  }
 
   -- the rows after those of the consumers, in the old places
   pub line-others : (end : ℕ) → end ≡ base + inflightOf here + heldOf here → all entryStrict (take n (drop (end + subRows (drop (suc i) ws)) rows)) ≡ true
@@ -151,14 +160,13 @@ module _ (n : ℕ) (ws subs : List Row) (i base : ℕ) (rows : List Row) (more :
 
   -- all of these are as they were
   pub line-turn : (subs′ : List Row) (x : Row) (rows′ : List Row) (m end end′ : ℕ) → take (i + 1) subs′ ≡ take i subs ++ (x ∷ []) → base ≡ subRows (take i subs)
-      → end ≡ base + inflightOf here + heldOf here → end′ ≡ base + inflightOf x + heldOf x
-      → wordsStrict x ≡ true → OwnStrict base (inflightOf x) (heldOf x) rows′ → take base rows′ ≡ take base rows
+      → end ≡ base + inflightOf here + heldOf here → wordsStrict x ≡ true → OwnStrict base (inflightOf x) (heldOf x) rows′ → take base rows′ ≡ take base rows
       → subRows (drop (suc i) ws) + n ≤ m → take m (drop end′ rows′) ≡ take m (drop end rows)
       → LineStrict n ws subs′ (i + 1) end′ rows′
-  line-turn subs′ x rows′ m end end′ front ends e e′ words o low few high =
+  line-turn subs′ x rows′ m end end′ front ends e words o low few high =
       let k : ℕ = subRows (drop (suc i) ws) in
       let span : take n (drop (end′ + k) rows′) ≡ take n (drop (end + k) rows) =
       ap (take n) (sym (drop-drop k end′ rows′)) ∙ sym (front-drop k n (drop end′ rows′))
       ∙ ap (drop k) (sym (take-take (k + n) m (drop end′ rows′) few) ∙ ap (take (k + n)) high ∙ take-take (k + n) m (drop end rows) few)
       ∙ front-drop k n (drop end rows) ∙ ap (take n) (drop-drop k end rows) in
-      line-step subs′ x rows′ m end end′ n front ends e e′ words o low (omega arith) high (ap (all entryStrict) span ∙ line-others end e)
+      line-step subs′ x rows′ m end end′ n front ends e words o low (omega arith) high (ap (all entryStrict) span ∙ line-others end e)

@@ -13,11 +13,12 @@ use Rattle.definition.specs.Destination as Destination
 use Rattle.definition.specs.Destination.{clear, heldRows}
 use Rattle.definition.specs.Queries.{isQueue}
 use Rattle.definition.specs.Words.{at}
-use Rattle.definition.specs.Layout.{Row, flag, heldOf, heldAt, subsAt, subRows}
+use Rattle.definition.specs.Layout.{Row, flag, heldOf, heldAt, subsAt, subRows, subsStrict}
 use Rattle.definition.proofs.Tests.{by-if}
 use Rattle.entry.specs.Entry.{entryOf}
 use Rattle.consumers.specs.Table.{onFirst, clearedRow, heldBy, keptRows}
 use Rattle.consumers.proofs.Laws.{on-first, on-length, clear-rows, clear-first, held-subs}
+use Rattle.consumers.proofs.Strict.{strict-cleared, tables-strict, strict-tables}
 use Rattle.state.specs.declared.Head.{Head}
 use Rattle.state.specs.declared.Answer as State
 use Rattle.state.specs.State.{headView, kindBy, refusedAs, doneAs}
@@ -87,6 +88,9 @@ module _ (d : Head) (subs rows events : List Row) (t : fits subs d (length rows)
     consumers = facts .consumers;
     used = omega arith;
     rows-used = omega (arith, no-rows);
+    strict = λ s.
+        let b = tables-strict (d .reserved + d .waiting) ws rows s in
+        strict-tables 0 (take (d .consumers) subs′) rows (record { subs = ap (λ (l : List Row). subsStrict l rows) (on-first clearedRow (d .consumers) subs) ∙ strict-cleared ws rows rows (b .subs); others = refl });
     subs-past = on-past clearedRow (d .consumers) 32 subs (facts .consumers);
     rows-past = refl;
     subs-length = on-length clearedRow (d .consumers) subs;

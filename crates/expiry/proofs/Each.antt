@@ -1,26 +1,28 @@
 -- The consumers swept one after the other: what the definition says at the start, after one more, and at the end. Assumes nothing.
 use mathlib.Core.Path.{_≡_, sym, ap, ap₂, _∙_}
-use mathlib.Core.Bool.{Bool, _&&_}
+use mathlib.Core.Bool.{Bool, true, _&&_}
 use mathlib.Core.List.{List, [], _∷_, _++_, append-nil, append-assoc}
 use Prim.Native.Nat.{ℕ, suc, _+_, _-_, _≤_, _<_}
 use native.Mathlib.Numerals.{add-one}
 use native.Mathlib.Omega.{arith}
 use lib.ListN.{length, take, drop, getD, set}
-use lib.Seq.{drop-drop, drop-length}
+use lib.Seq.{slice, drop-drop, drop-length}
 use Rattle.definition.specs.Types.{Kind, withTpending}
 use Rattle.definition.specs.Types as Def
 use Rattle.definition.specs.Destination as Destination
 use Rattle.definition.specs.Destination.{sweepList, sweepSubs}
-use Rattle.definition.specs.Layout.{Row, eachSub, subsAt, subRows}
+use Rattle.definition.specs.Base.{all}
+use Rattle.definition.specs.Layout.{Row, eachSub, subsAt, subRows, entryStrict, flyingStrict, subsStrict}
 use Rattle.table.proofs.Lists.{agree-drop}
 use Rattle.consumers.specs.declared.Sub.{Sub}
 use Rattle.consumers.specs.Consumers.{subOf, subWords, subView}
 use Rattle.consumers.proofs.Words.{round}
+use Rattle.consumers.proofs.Strict.{stored-strict}
 use Rattle.state.specs.State.{kindBy}
-use Rattle.consumers.proofs.Line.{stored-next, rows-one, subs-done, left-size, subs-next, subs-rest}
+use Rattle.consumers.proofs.Line.{stored-next, rows-one, subs-done, strict-done, left-size, subs-next, strict-next, subs-rest, strict-rest}
 use Rattle.expiry.specs.declared.Swept.{Swept}
-use Rattle.expiry.specs.Sweep.{listed, sweptUnless, holding, Shorter}
-use Rattle.expiry.proofs.Held.{low, high, sub-left, gone-left}
+use Rattle.expiry.specs.Sweep.{listed, sweptUnless, holding, Shorter, StaysStrict}
+use Rattle.expiry.proofs.Held.{low, flying-same, list-is, high, sub-left, gone-left}
 
 -- the consumers, the rows after theirs, and how many went
 pub record Whole : Type 0 where
@@ -154,6 +156,24 @@ module _ (most now : ℕ) (q : Bool) (ws : List Row) (m i base : ℕ) (w start r
 
     back : subsAt k (drop (i + 1) ws) (drop end′ rows′) ≡ subsAt k post (drop end rows)
     back = subs-rest ws i more k n end end′ rows rows′ room agrees
+
+    -- strict words of the consumers that are done, and of those that are left
+    pub strict-turn : StaysStrict (base + s .inflight) start r rows rows′ → subsStrict (take i subs) rows ≡ true → subsStrict (drop i ws) (drop base rows) ≡ true
+        → (subsStrict (take (i + 1) subs′) rows′ ≡ true) × (subsStrict (drop (i + 1) ws) (drop end′ rows′) ≡ true)
+    unfolding subWords subOf
+    strict-turn stays done left =
+        let a = strict-next ws i more base rows left in
+        let from : ℕ = base + s .inflight in
+        let list : (u : ℕ) (l : List Row) → slice from (from + u) l ≡ take u (drop from l) = list-is most now base q s start r rows rows′ held-is inside short said in
+        let old-list : all entryStrict (slice from (from + start .length) rows) ≡ true = ap (all entryStrict) (list (start .length) rows ∙ ap (λ (u : ℕ). take u (drop from rows)) held-is) ∙ a .0 .held in (
+          ap (λ (l : List Row). subsStrict l rows′) pre-is
+              ∙ strict-done (take i subs) (subWords t) base rows rows′ ends (low most now base q s start r rows rows′ held-is inside short said) done (record {
+                words = stored-strict t;
+                flying = ap (all flyingStrict) (flying-same most now base q s start r rows rows′ held-is inside short said) ∙ a .0 .flying;
+                held = ap (all entryStrict) (sym (list (r .length) rows′)) ∙ stays old-list;
+              }),
+          strict-rest ws i more n end end′ rows rows′ room agrees ∙ a .1,
+        )
 
     others : take m (drop (end′ + subRows (drop (i + 1) ws)) rows′) ≡ take m (drop (base + subRows (drop i ws)) rows)
     others =

@@ -1,13 +1,13 @@
 -- The whole sweep: those that wait, those that the consumers hold, the count and the idle mark, as the definition has them. Assumes nothing.
 use mathlib.Core.Path.{_≡_, refl, sym, ap, ap₂, _∙_, subst, subst⁻¹}
 use mathlib.Core.Bool.{Bool, true}
-use mathlib.Core.List.{List, [], append-nil, map}
+use mathlib.Core.List.{List, [], _++_, append-nil, map}
 use Prim.Native.Nat.{ℕ, _+_, _-_, _≤_, _<_, _^_}
 use native.Mathlib.Omega.{arith}
 use borrow.Author.Tests.{lt-ltb, le-ltb, ltb-true, ltb-false}
 use lib.Dec.{ltb}
 use lib.ListN.{length, take, drop}
-use lib.Seq.{slice, drop-drop}
+use lib.Seq.{slice, drop-drop, take-add}
 use Rattle.words.proofs.Tests.{by-test}
 use Rattle.entry.specs.Entry.{entryOf}
 use Rattle.stats.specs.declared.Stats.{Stats}
@@ -17,14 +17,17 @@ use Rattle.definition.specs.Types as Def
 use Rattle.definition.specs.Consumer.{addExpired}
 use Rattle.definition.specs.Destination as Destination
 use Rattle.definition.specs.Destination.{Out, count, touchIdle, sweepList, sweepSubs, sweepExpired}
-use Rattle.definition.specs.Layout.{Row, heldAt, subsAt, subRows}
+use Rattle.definition.specs.Base.{all}
+use Rattle.definition.specs.Layout.{Row, heldAt, subsAt, subRows, entryStrict}
 use Rattle.definition.proofs.Tests.{if-true, if-false}
 use Rattle.definition.proofs.Local.{⊕-zero}
+use Rattle.definition.proofs.Lists.{all-append}
 use Rattle.table.proofs.Lists.{slice-take, agree-drop, agree-later}
 use Rattle.consumers.proofs.View.{subs-agree}
+use Rattle.consumers.proofs.Strict.{strict-agree, tables-strict, strict-tables, all-left, all-right}
 use Rattle.state.specs.declared.Head.{Head}
 use Rattle.state.specs.declared.Answer as State
-use Rattle.state.specs.State.{headView, kindBy, withStats, withUsed, withWaiting, firstWaiting, touched, doneAs}
+use Rattle.state.specs.State.{headView, strictTables, kindBy, withStats, withUsed, withWaiting, firstWaiting, touched, doneAs}
 use Rattle.state.specs.Fits.{Fits}
 use Rattle.state.specs.Leaves.{silent, both, Leaves, LeavesIf}
 use Rattle.state.specs.Ready.{Stands}
@@ -33,7 +36,7 @@ use Rattle.state.proofs.Counts.{expired-view}
 use Rattle.state.proofs.Leaves.{leaves-as, leaves-both, leaves-touch, when-leaves}
 use Rattle.expiry.specs.declared.Swept.{Swept}
 use Rattle.expiry.specs.Expiry.{sweepOut, finished, Kept, Answers}
-use Rattle.expiry.specs.Sweep.{Listed, listed, swept, waitingSwept, subsSwept, Fine, Shorter, Able, SubsSwept}
+use Rattle.expiry.specs.Sweep.{Listed, listed, swept, waitingSwept, subsSwept, Fine, Shorter, StaysStrict, Able, SubsSwept}
 
 -- ---- what the definition says
 
@@ -77,6 +80,7 @@ leaves-counted d subs rows events s g h b = record {
   consumers = s .consumers;
   used = s .used;
   rows-used = s .rows-used;
+  strict = λ t. t;
   subs-past = refl;
   rows-past = refl;
   subs-length = refl;
@@ -107,7 +111,7 @@ module _ (most now : ℕ) (d : Head) (subs rows events : List Row) (f : Fits sub
       ∙ ap₂ (λ (x y : ℕ). take x (drop y l)) e from-is
       ∙ ap (take k) (sym (drop-drop (d .reserved) n l))
 
-  module _ (w : Swept) (rows′ : List Row) (same : length rows′ ≡ length rows) (said : listed from w rows′ ≡ swept most now (listed from start rows)) (short : Shorter most start w) (past : drop (d .used) rows′ ≡ drop (d .used) rows) where
+  module _ (w : Swept) (rows′ : List Row) (same : length rows′ ≡ length rows) (said : listed from w rows′ ≡ swept most now (listed from start rows)) (short : Shorter most start w) (past : drop (d .used) rows′ ≡ drop (d .used) rows) (stays : StaysStrict from start w rows rows′) where
     abbrev left : Head
     left = withUsed (w .used) (withWaiting (w .length) d)
 
@@ -133,12 +137,33 @@ module _ (most now : ℕ) (d : Head) (subs rows events : List Row) (f : Fits sub
     able-at x e = subst⁻¹ (λ (y : Head). Able subs y (length rows′) (w .gone) most now) e able
 
     -- the whole budget is left
-    all-left : most - 0 ≡ most
-    all-left = omega arith
+    unused : most - 0 ≡ most
+    unused = omega arith
 
     before-same : take from rows′ ≡ take from rows
     unfolding listed swept
     before-same = ap (λ (v : Listed). v .before) said
+
+    -- the consumers' rows and the reserved ones are as they were
+    kept : take (d .reserved) (drop n rows′) ≡ take (d .reserved) (drop n rows)
+    kept =
+        let m : from - n ≡ d .reserved = omega (arith, from-is) in
+        ap (λ (x : ℕ). take x (drop n rows′)) (sym m) ∙ agree-drop n from rows′ rows before-same (omega (arith, from-is)) ∙ ap (λ (x : ℕ). take x (drop n rows)) m
+
+    waiting-strict : strictTables d subs rows ≡ true → strictTables left subs rows′ ≡ true
+    waiting-strict t =
+        let ws : List Row = take (d .consumers) subs in
+        let s = tables-strict (d .reserved + d .waiting) ws rows t in
+        let low : List Row = take (d .reserved) (drop n rows) in
+        let high : List Row = slice from (from + d .waiting) rows in
+        let high′ : List Row = slice from (from + w .length) rows′ in
+        let old : all entryStrict (low ++ high) ≡ true =
+        sym (ap (all entryStrict) (take-add (d .reserved) (d .waiting) (drop n rows) ∙ ap (λ (l : List Row). low ++ l) (sym (list-is (d .waiting) rows)))) ∙ s .others in
+        strict-tables (d .reserved + w .length) ws rows′ (record {
+          subs = strict-agree ws from rows′ rows (omega (arith, from-is)) before-same ∙ s .subs;
+          others = ap (all entryStrict) (take-add (d .reserved) (w .length) (drop n rows′) ∙ ap₂ (λ (x y : List Row). x ++ y) kept (sym (list-is (w .length) rows′)))
+              ∙ all-append entryStrict low high′ (all-left entryStrict low high old) (stays (all-right entryStrict low high old));
+        })
 
     module _ (ps : List Id) (qs : List Audit) where
       abbrev t : Dest
@@ -150,13 +175,13 @@ module _ (most now : ℕ) (d : Head) (subs rows events : List Row) (f : Fits sub
 
       list-left : listed from w rows′ .list ≡ waits now most t .list
       unfolding listed swept
-      list-left = ap (λ (v : Listed). v .list) said ∙ ap₂ (λ (x : ℕ) (l : List Entry). sweepList x now l .list) all-left pending-is
+      list-left = ap (λ (v : Listed). v .list) said ∙ ap₂ (λ (x : ℕ) (l : List Entry). sweepList x now l .list) unused pending-is
 
       pub gone-waiting : w .gone ≡ waits now most t .gone
       unfolding listed swept
       gone-waiting =
           let z : (g : ℕ) → 0 + g ≡ g = λ g. omega arith in
-          ap (λ (v : Listed). v .gone) said ∙ z (sweepList (most - 0) now (listed from start rows .list) .gone) ∙ ap₂ (λ (x : ℕ) (l : List Entry). sweepList x now l .gone) all-left pending-is
+          ap (λ (v : Listed). v .gone) said ∙ z (sweepList (most - 0) now (listed from start rows .list) .gone) ∙ ap₂ (λ (x : ℕ) (l : List Entry). sweepList x now l .gone) unused pending-is
 
       pub waiting-view : headView left subs rows′ ps qs ≡ waitingSwept most now t
       unfolding listed headView
@@ -164,9 +189,6 @@ module _ (most now : ℕ) (d : Head) (subs rows events : List Row) (f : Fits sub
           let k : Kind = kindBy (d .queue) in
           let ws : List Row = take (d .consumers) subs in
           let mine : subsAt k ws rows′ ≡ subsAt k ws rows = subs-agree k ws from rows′ rows (omega (arith, from-is)) before-same in
-          let m : from - n ≡ d .reserved = omega (arith, from-is) in
-          let kept : take (d .reserved) (drop n rows′) ≡ take (d .reserved) (drop n rows) =
-          ap (λ (x : ℕ). take x (drop n rows′)) (sym m) ∙ agree-drop n from rows′ rows before-same (omega (arith, from-is)) ∙ ap (λ (x : ℕ). take x (drop n rows)) m in
           let list : map entryOf (take (w .length) (drop (d .reserved) (drop n rows′))) ≡ waits now most t .list = ap (map entryOf) (sym (list-is (w .length) rows′)) ∙ list-left in
           λ j. record {
             kind = k;
@@ -195,6 +217,7 @@ module _ (most now : ℕ) (d : Head) (subs rows events : List Row) (f : Fits sub
       consumers = f .consumers;
       used = able .used;
       rows-used = rows-left;
+      strict = waiting-strict;
       subs-past = refl;
       rows-past = agree-later (d .used) 512 rows′ rows (f .used) past;
       subs-length = refl;

@@ -92,12 +92,13 @@ module _ (most now base : ℕ) (q : Bool) (s : Sub) (w r : Swept) (rows rows′ 
     pub low : take base rows′ ≡ take base rows
     low = agree-take base from rows′ rows before-same (omega arith)
 
-    flying-same : take (s .inflight) (drop base rows′) ≡ flying
+    pub flying-same : take (s .inflight) (drop base rows′) ≡ flying
     flying-same =
         let n : from - base ≡ s .inflight = omega arith in
         ap (λ (x : ℕ). take x (drop base rows′)) (sym n) ∙ agree-drop base from rows′ rows before-same (omega arith) ∙ ap (λ (x : ℕ). take x (drop base rows)) n
 
-    list-is : (n : ℕ) (l : List Row) → slice from (from + n) l ≡ take n (drop from l)
+    -- the list's rows
+    pub list-is : (n : ℕ) (l : List Row) → slice from (from + n) l ≡ take n (drop from l)
     list-is n l = let e : from + n - from ≡ n = omega arith in slice-take from (from + n) l (omega arith) ∙ ap (λ (x : ℕ). take x (drop from l)) e
 
     -- the rows after its own are as they were

@@ -13,19 +13,20 @@ use Rattle.words.specs.Words.{signed}
 use Rattle.words.proofs.Words.{signed-pos}
 use Rattle.words.proofs.Tests.{by-test}
 use Rattle.entry.specs.Entry.{entryOf}
-use Rattle.definition.specs.Base.{if_then_else_, keep, tally}
+use Rattle.definition.specs.Base.{if_then_else_, keep, tally, all}
 use Rattle.definition.specs.Types.{Entry}
 use Rattle.definition.specs.Consumer.{expired}
 use Rattle.definition.specs.Destination as Destination
 use Rattle.definition.specs.Destination.{sooner, soonest, sweptMore, sweepAt, sweepList}
-use Rattle.definition.specs.Layout.{Row}
+use Rattle.definition.specs.Layout.{Row, entryStrict}
+use Rattle.definition.proofs.Lists.{all-keep}
 use Rattle.table.specs.Table.{hasSeq, removeRows, removedRows}
 use Rattle.table.proofs.Lists.{slice-parts, parts}
 use Rattle.table.proofs.Segments.{kept-length}
 use Rattle.table.proofs.Laws.{remove-length, remove-after, remove-parts, gone-parts}
 use Rattle.expiry.specs.declared.Next.{Next}
 use Rattle.expiry.specs.declared.Swept.{Swept}
-use Rattle.expiry.specs.Sweep.{isSooner, nextOf, Listed, listed, swept, Fine, Shorter}
+use Rattle.expiry.specs.Sweep.{isSooner, nextOf, Listed, listed, swept, Fine, Shorter, StaysStrict}
 
 -- ---- the soonest
 
@@ -177,12 +178,25 @@ module _ (from : ℕ) (w : Swept) (rows : List Row) (h : from + w .length ≤ w 
     abbrev w′ : Swept
     w′ = record { used = w .used - k; length = w .length - k; gone = w .gone + 1 }
 
+    abbrev z′ : List Row
+    z′ = drop (length left + length c) (s ++ (c ++ z))
+
+    parts-turn : rows′ ≡ a ++ (left ++ (c ++ z′))
+    parts-turn = made ∙ ap (removeRows p from to (w .used)) rows-are ∙ remove-parts p from to (w .used) a s c z a-length (omega (arith, s-length)) c-length
+
+    left-length : length left ≡ w .length - k
+    left-length = omega (arith, k-is, kept-length p s, s-length)
+
+    pub strict-turn : StaysStrict from w w′ rows rows′
+    strict-turn h =
+        ap (all entryStrict) (ap (slice from (from + (w .length - k))) parts-turn ∙ slice-parts from (from + (w .length - k)) a left (c ++ z′) a-length (omega (arith, left-length)))
+        ∙ all-keep entryStrict (λ r. not (p r)) s h
+
     pub listed-turn : listed from w′ rows′ ≡ record { before = a; list = without e (map entryOf s); after = c; gone = w .gone + 1 }
     listed-turn =
-        let m : length left ≡ w .length - k = omega (arith, k-is, kept-length p s, s-length) in
         let n : from + (w .length - k) + length c ≡ w .used - k = omega (arith, k-few, c-length) in
-        ap (listed from w′) (made ∙ ap (removeRows p from to (w .used)) rows-are ∙ remove-parts p from to (w .used) a s c z a-length (omega (arith, s-length)) c-length)
-        ∙ listed-parts from w′ a left c _ a-length m n
+        ap (listed from w′) parts-turn
+        ∙ listed-parts from w′ a left c z′ a-length left-length n
         ∙ ap (λ (x : List Entry). record { before = a; list = x; after = c; gone = w .gone + 1 }) (left-entries e s)
 
     pub past-turn : (n : ℕ) → w .used ≤ n → drop n rows′ ≡ drop n rows
@@ -198,11 +212,12 @@ pub record Turn (most now from : ℕ) (rows₀ : List Row) (w₀ : Swept) (rows 
   pub fine : Fine (length rows) from w most now
   pub shorter : Shorter most w₀ w
   pub past : drop (w₀ .used) rows ≡ drop (w₀ .used) rows₀
+  pub strict : StaysStrict from w₀ w rows₀ rows
   pub said : swept most now (listed from w rows) ≡ swept most now (listed from w₀ rows₀)
 
 module _ (most now from : ℕ) (rows₀ : List Row) (w₀ : Swept) where
   pub turn-start : Fine (length rows₀) from w₀ most now → Turn most now from rows₀ w₀ rows₀ w₀
-  turn-start f = record { same = refl; fine = f; shorter = record { length = omega arith; tail = refl; gone = f .gone }; past = refl; said = refl }
+  turn-start f = record { same = refl; fine = f; shorter = record { length = omega arith; tail = refl; gone = f .gone }; past = refl; strict = λ h. h; said = refl }
 
   module _ (rows : List Row) (w : Swept) (g : Turn most now from rows₀ w₀ rows w) where
     pub turn-next : (n : Next) (k : ℕ) (rows′ : List Row) → w .gone < most → nextOf n ≡ soonest now (map entryOf (slice from (from + w .length) rows)) → n .found ≡ true
@@ -220,6 +235,7 @@ module _ (most now from : ℕ) (rows₀ : List Row) (w₀ : Swept) where
           fine = record { rows = omega (arith, f .rows, few); used = omega (arith, f .used); room = omega (arith, l, f .room); gone = omega arith; few = f .few; clock = f .clock };
           shorter = record { length = omega (arith, g .shorter .length); tail = omega (arith, g .shorter .tail, few, f .rows); gone = omega arith };
           past = past-turn from w rows (f .rows) u (n .entry) k rows′ is made (w₀ .used) (omega (arith, g .shorter .tail, g .shorter .length)) ∙ g .past;
+          strict = λ s. strict-turn from w rows (f .rows) u (n .entry) k rows′ is made (g .strict s);
           said = ap (swept most now) (listed-turn from w rows (f .rows) u (n .entry) k rows′ is made) ∙ swept-turn most now (listed from w rows) (n .entry) h e ∙ g .said;
         }
 

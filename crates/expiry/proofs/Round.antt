@@ -1,6 +1,6 @@
 -- What holds while the consumers are swept one after the other, and what it says when all are. Assumes nothing.
 use mathlib.Core.Path.{_≡_, refl, sym, ap, _∙_}
-use mathlib.Core.Bool.{_&&_}
+use mathlib.Core.Bool.{true, _&&_}
 use mathlib.Core.List.{List, [], append-nil, map}
 use Prim.Native.Nat.{ℕ, suc, _+_, _-_, _≤_, _<_}
 use native.Mathlib.Omega.{arith}
@@ -10,16 +10,18 @@ use Rattle.entry.specs.Entry.{entryOf}
 use Rattle.definition.specs.Types.{Kind, Id, Audit}
 use Rattle.definition.specs.Destination as Destination
 use Rattle.definition.specs.Destination.{sweepSubs}
-use Rattle.definition.specs.Layout.{Row, heldAt, subsAt, subRows}
+use Rattle.definition.specs.Base.{all}
+use Rattle.definition.specs.Layout.{Row, heldAt, eachSub, subsAt, subRows, entryStrict, subsStrict}
 use Rattle.table.proofs.Lists.{same-after, agree-take, agree-drop, agree-later}
 use Rattle.consumers.specs.declared.Sub.{Sub}
 use Rattle.consumers.specs.Consumers.{subOf, subWords}
+use Rattle.consumers.proofs.Line.{left-size}
+use Rattle.consumers.proofs.Strict.{tables-strict, strict-tables}
 use Rattle.state.specs.declared.Head.{Head}
 use Rattle.state.specs.State.{headView, kindBy, withUsed}
-use Rattle.consumers.proofs.Line.{left-size}
 use Rattle.expiry.specs.declared.Swept.{Swept}
-use Rattle.expiry.specs.Sweep.{listed, sweptUnless, holding, subsSwept, Fine, Shorter, Able, SubsSwept}
-use Rattle.expiry.proofs.Each.{Whole, whole, whole-start, whole-end, fits-turn, used-turn, ends-turn, whole-turn}
+use Rattle.expiry.specs.Sweep.{listed, sweptUnless, holding, subsSwept, Fine, Shorter, StaysStrict, Able, SubsSwept}
+use Rattle.expiry.proofs.Each.{Whole, whole, whole-start, whole-end, fits-turn, used-turn, ends-turn, strict-turn, whole-turn}
 
 pub record Round (most now : ℕ) (subs₀ rows₀ : List Row) (d : Head) (before : ℕ) (subs rows : List Row) (w : Swept) (base i : ℕ) : Type 0 where
   pub within : i ≤ d .consumers
@@ -31,6 +33,7 @@ pub record Round (most now : ℕ) (subs₀ rows₀ : List Row) (d : Head) (befor
   pub gone : w .gone ≤ most
   pub ends : base ≡ subRows (take i subs)
   pub past : drop (d .used) rows ≡ drop (d .used) rows₀
+  pub strict : subsStrict (take (d .consumers) subs₀) rows₀ ≡ true → (subsStrict (take i subs) rows ≡ true) × (subsStrict (drop i (take (d .consumers) subs₀)) (drop base rows) ≡ true)
   pub said : whole most now (kindBy (d .queue)) (take (d .consumers) subs₀) (d .reserved + d .waiting) i base (w .gone) subs rows
       ≡ whole most now (kindBy (d .queue)) (take (d .consumers) subs₀) (d .reserved + d .waiting) 0 0 before subs₀ rows₀
 
@@ -48,8 +51,8 @@ module _ (most now : ℕ) (subs₀ rows₀ : List Row) (d : Head) (before : ℕ)
   size = length-take-le (d .consumers) subs₀ (omega (arith, able .consumers, able .subs-long))
 
   pub round-start : Round most now subs₀ rows₀ d before subs₀ rows₀ (record { used = d .used; length = 0; gone = before }) 0 0
-  unfolding subRows
-  round-start = record { within = omega arith; same-subs = refl; same-rows = refl; rest = refl; fits = omega (arith, able .rows-used); used = omega arith; gone = able .gone; ends = refl; past = refl; said = refl }
+  unfolding subRows eachSub
+  round-start = record { within = omega arith; same-subs = refl; same-rows = refl; rest = refl; fits = omega (arith, able .rows-used); used = omega arith; gone = able .gone; ends = refl; past = refl; strict = λ h. (refl, h); said = refl }
 
   module _ (subs rows : List Row) (w : Swept) (base i : ℕ) (g : Round most now subs₀ rows₀ d before subs rows w base i) where
     module _ (less : i < d .consumers) where
@@ -77,13 +80,14 @@ module _ (most now : ℕ) (subs₀ rows₀ : List Row) (d : Head) (before : ℕ)
 
       pub round-turn : (s : Sub) (start r : Swept) (subs′ rows′ : List Row) → s ≡ subOf (getD subs i []) → start ≡ record { used = w .used; length = s .held; gone = w .gone }
           → subs′ ≡ set subs i (subWords (holding (r .length) s)) → length rows′ ≡ length rows
-          → listed (base + s .inflight) r rows′ ≡ sweptUnless (d .queue && s .browser) most now (listed (base + s .inflight) start rows) → Shorter most start r → drop (start .used) rows′ ≡ drop (start .used) rows
+          → listed (base + s .inflight) r rows′ ≡ sweptUnless (d .queue && s .browser) most now (listed (base + s .inflight) start rows) → Shorter most start r → drop (start .used) rows′ ≡ drop (start .used) rows → StaysStrict (base + s .inflight) start r rows rows′
           → Round most now subs₀ rows₀ d before subs′ rows′ r (base + s .inflight + r .length) (i + 1)
-      round-turn s start r subs′ rows′ e st p lr said short past =
+      round-turn s start r subs′ rows′ e st p lr said short past stays =
           let q : s ≡ subOf (getD ws i []) = e ∙ ap subOf row-is in
           let b : i < length subs = omega (arith, able .subs-long, able .consumers, g .same-subs) in
           let st′ : start ≡ record { used = w .used; length = subOf (getD ws i []) .held; gone = w .gone } = rw q at st in
           let said′ : listed (base + subOf (getD ws i []) .inflight) r rows′ ≡ sweptUnless (d .queue && subOf (getD ws i []) .browser) most now (listed (base + subOf (getD ws i []) .inflight) start rows) = rw q at said in
+          let stays′ : StaysStrict (base + subOf (getD ws i []) .inflight) start r rows rows′ = rw q at stays in
           let u : start .used ≡ w .used = ap (λ (y : Swept). y .used) st in
           rw (p, q) (record {
             within = omega arith;
@@ -95,6 +99,7 @@ module _ (most now : ℕ) (subs₀ rows₀ : List Row) (d : Head) (before : ℕ)
             gone = short .gone;
             ends = ends-turn most now (d .queue) ws m i base w start r subs rows rows′ here b (g .fits) (g .ends) st′ short said′;
             past = agree-later (start .used) (d .used) rows′ rows (omega (arith, u, g .used)) past ∙ g .past;
+            strict = λ h. let a = g .strict h in strict-turn most now (d .queue) ws m i base w start r subs rows rows′ here b (g .fits) (g .ends) st′ short said′ stays′ (a .0) (a .1);
             said = whole-turn most now (d .queue) ws m i base w start r subs rows rows′ here b (g .fits) (g .ends) st′ short said′ ∙ g .said;
           })
 
@@ -119,13 +124,16 @@ module _ (most now : ℕ) (subs₀ rows₀ : List Row) (d : Head) (before : ℕ)
       unfolding subRows
       none-left = ap subRows (ap (λ (n : ℕ). drop n ws) all-done ∙ drop-length ws)
 
+      -- the rows after those of the consumers are as they were
+      others : take m (drop (subRows (take (d .consumers) subs)) rows) ≡ take m (drop (subRows ws) rows₀)
+      others = ap (λ (n : ℕ). take m (drop n rows)) (sym base-is) ∙ ap (λ (y : Whole). y .others) last
+
       view : (ps : List Id) (qs : List Audit) → headView (withUsed (w .used) d) subs rows ps qs ≡ subsSwept (most - before) now (headView d subs₀ rows₀ ps qs)
       unfolding headView
       view ps qs =
           let u : List Row = take (d .consumers) subs in
           let a : List Row = drop (subRows u) rows in
           let b : List Row = drop (subRows ws) rows₀ in
-          let others : take m a ≡ take m b = ap (λ (n : ℕ). take m (drop n rows)) (sym base-is) ∙ ap (λ (y : Whole). y .others) last in
           let mine : subsAt k u rows ≡ x .subs = ap (λ (n : ℕ). subsAt k (take n subs) rows) (sym i-is) ∙ ap (λ (y : Whole). y .subs) last in
           let n : m - d .reserved ≡ d .waiting = omega arith in
           let waits : take (d .waiting) (drop (d .reserved) a) ≡ take (d .waiting) (drop (d .reserved) b) =
@@ -160,6 +168,9 @@ module _ (most now : ℕ) (subs₀ rows₀ : List Row) (d : Head) (before : ℕ)
           consumers = able .consumers;
           used = omega (arith, g .used, able .used);
           rows-used = omega (arith, base-is, none-left, g .fits);
+          strict = λ t.
+              let s = tables-strict m ws rows₀ t in
+              strict-tables m (take (d .consumers) subs) rows (record { subs = ap (λ (n : ℕ). subsStrict (take n subs) rows) (sym i-is) ∙ g .strict (s .subs) .0; others = ap (all entryStrict) others ∙ s .others });
           subs-past = agree-later i 32 subs subs₀ (omega (arith, i-is, able .consumers)) (g .rest);
           rows-past = agree-later (d .used) 512 rows rows₀ (able .used) (g .past);
           subs-length = g .same-subs;

@@ -1,7 +1,7 @@
 -- The sweep of one list of rows, and of the consumers, and what the definition makes of them. Assumes nothing.
 use mathlib.Core.Path.{_≡_}
 use Prim.Native.Nat.{ℕ, _+_, _-_, _≤_, _^_}
-use mathlib.Core.Bool.{Bool, _&&_, _||_}
+use mathlib.Core.Bool.{Bool, true, _&&_, _||_}
 use mathlib.Core.List.{List, map}
 use mathlib.Core.Option.{Option, none, some}
 use lib.Dec.{ltb}
@@ -9,10 +9,10 @@ use lib.ListN.{length, take}
 use lib.Seq.{slice}
 use lib.Signed.{ltZ, leZ}
 use Rattle.entry.specs.Entry.{entryOf}
-use Rattle.definition.specs.Base.{if_then_else_}
+use Rattle.definition.specs.Base.{if_then_else_, all}
 use Rattle.definition.specs.Types.{Id, Audit, Dest, Entry, withPending, withSubs}
 use Rattle.definition.specs.Destination.{sweepList, sweepSubs}
-use Rattle.definition.specs.Layout.{Row, subRows}
+use Rattle.definition.specs.Layout.{Row, subRows, entryStrict}
 use Rattle.consumers.specs.declared.Sub.{Sub}
 use Rattle.state.specs.declared.Head.{Head}
 use Rattle.state.specs.State.{headView, withUsed}
@@ -62,6 +62,10 @@ pub record Shorter (most : ℕ) (w r : Swept) : Type 0 where
   pub length : r .length ≤ w .length
   pub tail : r .used + w .length ≡ w .used + r .length
   pub gone : r .gone ≤ most
+
+-- the list's rows stay strict
+abbrev pub StaysStrict : ℕ → Swept → Swept → List Row → List Row → Type 0
+StaysStrict from w r rows rows′ = all entryStrict (slice from (from + w .length) rows) ≡ true → all entryStrict (slice from (from + r .length) rows′) ≡ true
 
 -- ---- the parts of the call
 

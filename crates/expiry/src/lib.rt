@@ -15,7 +15,7 @@ ghost use Rattle.state.specs.State.{withWaiting, withUsed};
 ghost use Rattle.state.specs.Fits.{fits};
 ghost use Rattle.state.specs.Leaves.{LeavesIf};
 ghost use Rattle.expiry.specs.Expiry.{emptied, clearOut, sweepOut, finished, Kept, Answers};
-ghost use Rattle.expiry.specs.Sweep.{isSooner, nextOf, Fine, Shorter, listed, swept, sweptUnless, holding, Able, SubsSwept};
+ghost use Rattle.expiry.specs.Sweep.{isSooner, nextOf, Fine, Shorter, StaysStrict, listed, swept, sweptUnless, holding, Able, SubsSwept};
 use consumers::Sub;
 use consumers::SubRow;
 use entry::Entry;
@@ -92,6 +92,7 @@ fn sweep_list(rows: &mut [Row], from: usize, start: Swept, most: usize, clock: u
     ensures { λ r. ⌜ listed from r (now (rows .exit)) ≡ swept most clock (listed from start (now (rows .entry))) ⌝ }
     ensures { λ r. ⌜ Shorter most start r ⌝ }
     ensures { λ _. ⌜ drop (start .used) (now (rows .exit)) ≡ drop (start .used) (now (rows .entry)) ⌝ }
+    ensures { λ r. ⌜ StaysStrict from start r (now (rows .entry)) (now (rows .exit)) ⌝ }
 {
     let mut w = start;
     while w.gone < most {
@@ -122,6 +123,7 @@ fn sweep_held(
     ensures { λ r. ⌜ listed from r (now (rows .exit)) ≡ sweptUnless snapshot most clock (listed from start (now (rows .entry))) ⌝ }
     ensures { λ r. ⌜ Shorter most start r ⌝ }
     ensures { λ _. ⌜ drop (start .used) (now (rows .exit)) ≡ drop (start .used) (now (rows .entry)) ⌝ }
+    ensures { λ r. ⌜ StaysStrict from start r (now (rows .entry)) (now (rows .exit)) ⌝ }
 {
     if snapshot {
         return start;

@@ -1,5 +1,5 @@
 -- The loop over the reserved rows, a turn at a time: those of one consumer return, the others stay. Assumes nothing.
-use mathlib.Core.Path.{_≡_, refl, sym, ap, ap₂, _∙_}
+use mathlib.Core.Path.{_≡_, refl, sym, ap, ap₂, _∙_, subst}
 use mathlib.Core.Bool.{Bool, true, false, not, false≢true}
 use mathlib.Core.List.{List, [], _∷_, _++_, append-assoc, append-nil, map, map-append}
 use Prim.Native.Nat.{ℕ, zero, suc, _+_, _-_, _≤_, _<_}
@@ -7,24 +7,27 @@ use native.Mathlib.Omega.{arith}
 use lib.ListN.{length, take, drop, getD, length-map, drop-of-length-le}
 use lib.Seq.{slice, slice-cons, length-slice, length-take-le, take-add, take-all, drop-drop, take-at, drop-at, drop-append-le, take-append-le, take-take}
 use Rattle.entry.specs.Entry.{entryOf}
-use Rattle.definition.specs.Base.{if_then_else_, keep, empty}
+use Rattle.definition.specs.Base.{if_then_else_, keep, empty, all}
 use Rattle.definition.specs.Types.{Id, Entry, Held, Audit, Dest, withReserved}
 use Rattle.definition.specs.Types as Def
 use Rattle.definition.specs.Consumer.{redelivered}
 use Rattle.definition.specs.Destination.{reinsert, heldBy, reservedOf, unmarked}
 use Rattle.definition.specs.Words.{kindBy}
-use Rattle.definition.specs.Layout.{Row, heldAt, subsAt, subRows}
+use Rattle.definition.specs.Layout.{Row, heldAt, subsAt, subRows, entryStrict}
+use Rattle.definition.proofs.Lists.{all-append}
 use Rattle.consumers.proofs.View.{subs-agree}
+use Rattle.consumers.proofs.Strict.{strict-agree, all-first, all-rest}
 use Rattle.state.specs.declared.Head.{Head}
 use Rattle.state.specs.State as State
-use Rattle.state.specs.State.{headView, firstWaiting, firstReserved}
+use Rattle.state.specs.State.{headView, strictTables, firstWaiting, firstReserved}
 use Rattle.state.specs.Fits.{Fits}
 use Rattle.state.specs.Leaves.{silent, Leaves}
 use Rattle.returns.specs.Returns.{freed, released}
-use Rattle.returns.specs.Gaps.{destOf, cut, waitingIn, around, Open, Moves, Same, Gap}
+use Rattle.returns.specs.Gaps.{destOf, cut, waitingIn, around, Strict, StrictAround, Open, Moves, Same, Gap}
 use Rattle.returns.proofs.Rows.{slice-front, slice-drop}
 use Rattle.returns.proofs.Reinsert.{reinsert-none, reinsert-more}
-use Rattle.returns.proofs.Gap.{head-dest, no-gap, gap-leaves, same-rest, same-both, same-own, same-consumers}
+use Rattle.returns.proofs.Moving.{strict-as}
+use Rattle.returns.proofs.Gap.{cut-none, head-dest, head-strict, no-gap, gap-leaves, same-rest, same-both, same-own, same-consumers}
 
 -- ---- what the definition says, from the reserved entry m on
 
@@ -105,10 +108,7 @@ map-take zero l = refl
 map-take (suc m) [] = refl
 map-take (suc m) (x ∷ l) = ap (λ (r : List Held). heldAt x ∷ r) (map-take m l)
 
-module _ (d : Head) (subs rows : List Row) (base m : ℕ) (own : subRows (take (d .consumers) subs) ≡ base) (g : Gap (base + m) 0 d subs rows) (p : List Id) (u : List Audit) where
-  abbrev t : Dest
-  t = headView d subs rows p u
-
+module _ (d : Head) (subs rows : List Row) (base m : ℕ) (own : subRows (take (d .consumers) subs) ≡ base) (g : Gap (base + m) 0 d subs rows) where
   abbrev first : ℕ
   first = firstWaiting d
 
@@ -121,44 +121,72 @@ module _ (d : Head) (subs rows : List Row) (base m : ℕ) (own : subRows (take (
   ends : base + d .reserved ≡ first
   ends = omega (arith, own, g .sum)
 
-  -- they stand from base on
-  reserved-are : t .reserved ≡ map heldAt (slice base first rows)
-  unfolding destOf
-  reserved-are = ap (λ (x : Dest). x .reserved) (head-dest d subs rows sum fits p u) ∙ ap (λ (n : ℕ). map heldAt (slice n first rows)) own
+  -- one of them cut out: the consumers' rows, and the rest
+  abbrev low : List Row
+  low = cut (base + m) 1 first rows
 
-  reserved-length : length (t .reserved) ≡ d .reserved
-  reserved-length = ap length reserved-are ∙ length-map (slice base first rows) heldAt ∙ length-slice base first rows (omega arith) ∙ omega (arith, ends)
+  abbrev later-rows : List Row
+  later-rows = slice (base + m + 1) first rows
 
-  reserved-from : drop m (t .reserved) ≡ map heldAt (slice (base + m) first rows)
-  reserved-from = ap (drop m) reserved-are ∙ map-drop m (slice base first rows) ∙ ap (map heldAt) (slice-drop m base first rows)
+  module _ (h : m < d .reserved) where
+    low-length : length (take (base + m) rows) ≡ base + m
+    low-length = length-take-le (base + m) rows (omega (arith, ends))
 
-  reserved-here : m < d .reserved → drop m (t .reserved) ≡ heldAt (getD rows (base + m) []) ∷ map heldAt (slice (base + m + 1) first rows)
-  reserved-here h =
-      let e : suc (base + m) ≡ base + m + 1 = omega arith in
-      reserved-from ∙ ap (map heldAt) (slice-cons (base + m) first rows [] (omega (arith, ends)) (omega arith) ∙ ap (λ (n : ℕ). getD rows (base + m) [] ∷ slice n first rows) e)
+    low-front : take base low ≡ take base (take first rows)
+    low-front =
+        take-append-le base (take (base + m) rows) later-rows (omega (arith, low-length)) ∙ take-take base (base + m) rows (omega arith) ∙ sym (take-take base first rows (omega (arith, ends)))
 
-  -- the destination around one of them
-  reserved-around : m < d .reserved → around (base + m) 1 (State.withReserved (d .reserved - 1) d) subs rows p u
-      ≡ withReserved (take m (t .reserved) ++ map heldAt (slice (base + m + 1) first rows)) t
-  unfolding destOf
-  reserved-around h =
-      let at : ℕ = base + m in
-      let ws : List Row = take (d .consumers) subs in
-      let low : List Row = cut at 1 first rows in
-      let z : List Row = slice (at + 1) first rows in
-      let la : length (take at rows) ≡ at = length-take-le at rows (omega (arith, ends)) in
-      let w : List Row = waitingIn d rows in
-      let same : subsAt (kindBy (d .queue)) ws low ≡ subsAt (kindBy (d .queue)) ws (take first rows) =
-      subs-agree (kindBy (d .queue)) ws base low (take first rows) (omega (arith, own))
-      (take-append-le base (take at rows) z (omega (arith, la)) ∙ take-take base at rows (omega arith) ∙ sym (take-take base first rows (omega (arith, ends)))) in
-      let front : drop base (take at rows) ≡ take m (slice base first rows) = sym (slice-front m base first rows (omega (arith, ends))) in
-      let left : map heldAt (drop (subRows ws) low) ≡ take m (t .reserved) ++ map heldAt z =
-      ap (λ (n : ℕ). map heldAt (drop n low)) own
-      ∙ ap (map heldAt) (drop-append-le base (take at rows) z (omega (arith, la)) ∙ ap (λ (x : List Row). x ++ z) front)
-      ∙ map-append heldAt (take m (slice base first rows)) z
-      ∙ ap (λ (x : List Held). x ++ map heldAt z) (sym (ap (take m) reserved-are ∙ map-take m (slice base first rows))) in
-      (λ j. Def.withSubs (same j) (withReserved (left j) (destOf d subs (take first rows) w p u)))
-      ∙ ap (λ (x : Dest). withReserved (take m (t .reserved) ++ map heldAt z) x) (sym (head-dest d subs rows sum fits p u))
+    low-rest : drop (subRows (take (d .consumers) subs)) low ≡ take m (slice base first rows) ++ later-rows
+    low-rest =
+        ap (λ (n : ℕ). drop n low) own
+        ∙ drop-append-le base (take (base + m) rows) later-rows (omega (arith, low-length))
+        ∙ ap (λ (x : List Row). x ++ later-rows) (sym (slice-front m base first rows (omega (arith, ends))))
+
+    reserved-strict : Strict (d .consumers) subs (take first rows) (waitingIn d rows) → StrictAround (base + m) 1 (State.withReserved (d .reserved - 1) d) subs rows
+    reserved-strict s =
+        let l : List Row = slice base first rows in
+        let z : all entryStrict l ≡ true = ap (λ (n : ℕ). all entryStrict (slice n first rows)) (sym own) ∙ s .reserved in
+        let e : base + (m + 1) ≡ base + m + 1 = omega arith in
+        let y : drop (m + 1) l ≡ later-rows = slice-drop (m + 1) base first rows ∙ ap (λ (n : ℕ). slice n first rows) e in
+        record {
+          subs = strict-agree (take (d .consumers) subs) base low (take first rows) (omega (arith, own)) low-front ∙ s .subs;
+          reserved = ap (all entryStrict) low-rest ∙ all-append entryStrict (take m l) later-rows (all-first entryStrict m l z) (ap (all entryStrict) (sym y) ∙ all-rest entryStrict (m + 1) l z);
+          waits = s .waits;
+        }
+
+  module _ (p : List Id) (u : List Audit) where
+    abbrev t : Dest
+    t = headView d subs rows p u
+
+    -- they stand from base on
+    reserved-are : t .reserved ≡ map heldAt (slice base first rows)
+    unfolding destOf
+    reserved-are = ap (λ (x : Dest). x .reserved) (head-dest d subs rows sum fits p u) ∙ ap (λ (n : ℕ). map heldAt (slice n first rows)) own
+
+    reserved-length : length (t .reserved) ≡ d .reserved
+    reserved-length = ap length reserved-are ∙ length-map (slice base first rows) heldAt ∙ length-slice base first rows (omega arith) ∙ omega (arith, ends)
+
+    reserved-from : drop m (t .reserved) ≡ map heldAt (slice (base + m) first rows)
+    reserved-from = ap (drop m) reserved-are ∙ map-drop m (slice base first rows) ∙ ap (map heldAt) (slice-drop m base first rows)
+
+    reserved-here : m < d .reserved → drop m (t .reserved) ≡ heldAt (getD rows (base + m) []) ∷ map heldAt (slice (base + m + 1) first rows)
+    reserved-here h =
+        let e : suc (base + m) ≡ base + m + 1 = omega arith in
+        reserved-from ∙ ap (map heldAt) (slice-cons (base + m) first rows [] (omega (arith, ends)) (omega arith) ∙ ap (λ (n : ℕ). getD rows (base + m) [] ∷ slice n first rows) e)
+
+    -- the destination around one of them
+    reserved-around : (h : m < d .reserved) → around (base + m) 1 (State.withReserved (d .reserved - 1) d) subs rows p u ≡ withReserved (take m (t .reserved) ++ map heldAt later-rows) t
+    unfolding destOf
+    reserved-around h =
+        let w : List Row = waitingIn d rows in
+        let same : subsAt (kindBy (d .queue)) (take (d .consumers) subs) low ≡ subsAt (kindBy (d .queue)) (take (d .consumers) subs) (take first rows) =
+        subs-agree (kindBy (d .queue)) (take (d .consumers) subs) base low (take first rows) (omega (arith, own)) (low-front h) in
+        let left : map heldAt (drop (subRows (take (d .consumers) subs)) low) ≡ take m (t .reserved) ++ map heldAt later-rows =
+        ap (map heldAt) (low-rest h)
+        ∙ map-append heldAt (take m (slice base first rows)) later-rows
+        ∙ ap (λ (x : List Held). x ++ map heldAt later-rows) (sym (ap (take m) reserved-are ∙ map-take m (slice base first rows))) in
+        (λ j. Def.withSubs (same j) (withReserved (left j) (destOf d subs (take first rows) w p u)))
+        ∙ ap (λ (x : Dest). withReserved (take m (t .reserved) ++ map heldAt later-rows) x) (sym (head-dest d subs rows sum fits p u))
 
 -- ---- the loop
 
@@ -171,6 +199,7 @@ module _ (now : ℕ) (id : Id) (d₀ : Head) (subs₀ rows₀ : List Row) where
     pub same : Same d₀ d subs₀ rows₀ subs rows
     pub from : base ≤ i
     pub to : i + left ≡ base + d .reserved
+    pub strict : strictTables d₀ subs₀ rows₀ ≡ true → StrictAround i 0 d subs rows
     pub said : (p : List Id) (u : List Audit) → freeing now id (i - base) (headView d subs rows p u) ≡ freed now id (headView d₀ subs₀ rows₀ p u)
 
   pub freeing-start : Fits subs₀ d₀ (length rows₀) 545 → Freeing (firstReserved d₀) (d₀ .reserved) d₀ subs₀ rows₀
@@ -182,6 +211,7 @@ module _ (now : ℕ) (id : Id) (d₀ : Head) (subs₀ rows₀ : List Row) where
         same = same-rest d₀ subs₀ rows₀;
         from = omega (arith, e);
         to = omega (arith, e);
+        strict = λ h. strict-as refl (cut-none (firstReserved d₀) (firstWaiting d₀) rows₀ (omega arith)) refl (head-strict d₀ subs₀ rows₀ (f .rows-used) (omega (arith, f .used, f .rows-long)) h);
         said = λ p u. ap (λ (n : ℕ). freeing now id n (headView d₀ subs₀ rows₀ p u)) z;
       }
 
@@ -195,6 +225,10 @@ module _ (now : ℕ) (id : Id) (d₀ : Head) (subs₀ rows₀ : List Row) where
     gap-there : Gap (base + (i - base)) 0 d subs rows
     gap-there = rw sits (g .gap)
 
+    -- all rows before the waiting ones
+    whole : cut i 0 (firstWaiting d) rows ≡ take (firstWaiting d) rows
+    whole = let a = g .gap in cut-none i (firstWaiting d) rows (omega (arith, a .low, a .sum))
+
     pub freeing-leaves : (events : List Row) → left ≤ 0 → Leaves (silent (freed now id)) d₀ d subs₀ rows₀ events subs rows events
     freeing-leaves events h =
         let a = g .gap in
@@ -203,6 +237,7 @@ module _ (now : ℕ) (id : Id) (d₀ : Head) (subs₀ rows₀ : List Row) where
         no-gap d subs rows (omega (arith, a .sum)) (omega (arith, a .used, a .long)) p u i (omega (arith, a .low, a .sum))
         ∙ sym (freeing-end now id (i - base) (headView d subs rows p u) (omega (arith, reserved-length d subs rows base (i - base) own gap-there p u, g .to, g .from)))
         ∙ g .said p u)
+        (g .strict)
 
     pub freeing-most : d₀ .events + d₀ .used ≤ 512 → d .events + d .used ≤ 512
     freeing-most h = let e : d .events ≡ d₀ .events = ap (λ (x : Head). x .events) (g .same .head) in omega (arith, g .same .used)
@@ -227,6 +262,7 @@ module _ (now : ℕ) (id : Id) (d₀ : Head) (subs₀ rows₀ : List Row) where
             same = g .same;
             from = omega (arith, g .from);
             to = omega (arith, g .to);
+            strict = λ h. strict-as refl (cut-none (i + 1) (firstWaiting d) rows (omega (arith, a .sum, g .to, own)) ∙ sym whole) refl (g .strict h);
             said = λ p u.
                 ap (λ (n : ℕ). freeing now id n (headView d subs rows p u)) z
                 ∙ sym (freeing-kept now id (i - base) (headView d subs rows p u) (heldAt (getD rows (base + (i - base)) [])) _ (reserved-here d subs rows base (i - base) own gap-there p u more) (rw sits x))
@@ -256,6 +292,9 @@ module _ (now : ℕ) (id : Id) (d₀ : Head) (subs₀ rows₀ : List Row) where
             same = same-both (g .same) one;
             from = g .from;
             to = omega (arith, g .to, c);
+            strict = λ h.
+                let z : StrictAround (base + (i - base)) 1 b subs rows = reserved-strict d subs rows base (i - base) own gap-there more (strict-as refl (sym whole) refl (g .strict h)) in
+                m .strict 1 (omega arith) (omega (arith, a .sum, g .to, own)) (omega (arith, a .sum, more)) (subst (λ (n : ℕ). StrictAround n 1 b subs rows) sits z);
             said = λ p u.
                 let t : Dest = headView d subs rows p u in
                 let k : ℕ = i - base in

@@ -1,5 +1,5 @@
 -- The loop over what a leaving consumer had in flight, a turn at a time. Assumes nothing.
-use mathlib.Core.Path.{_≡_, refl, sym, ap, ap₂, _∙_}
+use mathlib.Core.Path.{_≡_, refl, sym, ap, ap₂, _∙_, subst}
 use mathlib.Core.Bool.{true, false}
 use mathlib.Core.List.{List, [], _∷_, map}
 use Prim.Native.Nat.{ℕ, suc, _+_, _-_, _≤_, _<_}
@@ -17,7 +17,7 @@ use Rattle.definition.proofs.Tests.{if-true, if-false}
 use Rattle.state.specs.declared.Head.{Head}
 use Rattle.state.specs.State.{firstWaiting}
 use Rattle.returns.specs.Returns.{held, reserves, givenBack, gives, givesAll}
-use Rattle.returns.specs.Gaps.{cut, around, Moves, Same, Gap, Gave}
+use Rattle.returns.specs.Gaps.{cut, around, StrictAround, Moves, Same, Gap, Gave}
 use Rattle.returns.proofs.Rows.{take-of, cut-front}
 use Rattle.returns.proofs.Reinsert.{gives-none, gives-more}
 use Rattle.returns.proofs.Moving.{moves-as}
@@ -42,9 +42,10 @@ module _ (now : ℕ) (last : ℤ) (j : Id) (from : ℕ) (d₀ : Head) (subs₀ r
     pub gap : Gap from k d subs rows
     pub same : Same d₀ d subs₀ rows₀ subs rows
     pub said : (p : List Id) (u : List Audit) → coming k d subs rows p u ≡ coming k₀ d₀ subs₀ rows₀ p u
+    pub strict : StrictAround from k₀ d₀ subs₀ rows₀ → StrictAround from k d subs rows
 
   pub giving-start : (k : ℕ) → Gap from k d₀ subs₀ rows₀ → Giving k k d₀ subs₀ rows₀
-  giving-start k g = record { gap = g; same = same-rest d₀ subs₀ rows₀; said = λ p u. refl }
+  giving-start k g = record { gap = g; same = same-rest d₀ subs₀ rows₀; said = λ p u. refl; strict = λ s. s }
 
   pub giving-turn : (k₀ k : ℕ) (d r : Head) (subs rows subs′ rows′ : List Row) → Giving k₀ k d subs rows → 0 < k
       → Moves from (gives now last j (inflightAt (getD rows from []))) d r subs rows subs′ rows′ → Giving k₀ (k - 1) r subs′ rows′
@@ -63,6 +64,7 @@ module _ (now : ℕ) (last : ℤ) (j : Id) (from : ℕ) (d₀ : Head) (subs₀ r
             ∙ sym (gives-more now last j (inflightAt x) (map inflightAt rest) (around from k d subs rows p u))
             ∙ ap (λ (l : List Row). givesAll now last j (map inflightAt l) (around from k d subs rows p u)) (sym all)
             ∙ g .said p u;
+        strict = λ s. m .strict k some (omega (arith, a .sum, a .low)) (a .sum) (g .strict s);
       }
 
   pub giving-end : (k₀ k : ℕ) (d : Head) (subs rows : List Row) → Giving k₀ k d subs rows → k ≤ 0 → Gave now last j from k₀ d₀ d subs₀ rows₀ subs rows
@@ -75,6 +77,7 @@ module _ (now : ℕ) (last : ℤ) (j : Id) (from : ℕ) (d₀ : Head) (subs₀ r
             ∙ ap (λ (l : List Row). givesAll now last j (map inflightAt l) (around from 0 d subs rows p u)) (sym none)
             ∙ ap (λ (n : ℕ). coming n d subs rows p u) (sym z)
             ∙ g .said p u;
+        strict = λ s. subst (λ (n : ℕ). StrictAround from n d subs rows) z (g .strict s);
         gap = rw z at (g .gap);
         same = g .same;
       }

@@ -1,5 +1,5 @@
 -- A consumer leaves: its words go, its rows are a gap, and the gap closes. Assumes nothing.
-use mathlib.Core.Path.{_≡_, refl, sym, ap, ap₂, _∙_, transport}
+use mathlib.Core.Path.{_≡_, refl, sym, ap, ap₂, _∙_, transport, subst}
 use mathlib.Core.Bool.{Bool, true, false, not, _&&_, false≢true}
 use mathlib.Core.List.{List, [], _++_, map}
 use Prim.Native.Nat.{ℕ, suc, _+_, _-_, _≤_, _<_, min}
@@ -11,13 +11,13 @@ use lib.IntN.{ℤ}
 use lib.ListN.{length, take, drop, getD}
 use lib.Seq.{slice, length-slice, length-take-le, drop-drop, take-take, getD-take}
 use Rattle.model.specs.Model.{idOf}
-use Rattle.definition.specs.Base.{if_then_else_}
+use Rattle.definition.specs.Base.{if_then_else_, all}
 use Rattle.definition.specs.Types.{Kind, queue, Id, Audit, Dest}
 use Rattle.definition.specs.Types as Def
 use Rattle.definition.specs.Consumer.{isBrowser}
 use Rattle.definition.specs.Destination.{isId, without, dropSub, returning}
 use Rattle.definition.specs.Words.{kindBy, at}
-use Rattle.definition.specs.Layout.{Row, heldAt, inflightAt, inflightOf, heldOf, subAt, subsAt, subRows}
+use Rattle.definition.specs.Layout.{Row, heldAt, inflightAt, inflightOf, heldOf, subAt, subsAt, subRows, entryStrict, subsStrict}
 use Rattle.definition.proofs.Tests.{if-true, if-false}
 use Rattle.table.specs.Table.{closeGap}
 use Rattle.table.proofs.Lists.{slice-take, written, written-length, written-drop}
@@ -28,15 +28,17 @@ use Rattle.consumers.specs.Consumers.{subOf}
 use Rattle.consumers.specs.Seats.{flyingIn, afterIn, subIn}
 use Rattle.consumers.specs.Table.{positionFrom, takenOut, removed}
 use Rattle.consumers.proofs.View.{rows-append, rows-take, rows-split, rows-gone, subs-length, subs-gone, after-all, after-gone, sub-at}
+use Rattle.consumers.proofs.Strict.{strict-at, strict-gone}
 use Rattle.consumers.proofs.Laws.{removed-first, browser-sub}
 use Rattle.consumers.proofs.Seek.{found-at, without-at}
 use Rattle.state.specs.declared.Head.{Head}
-use Rattle.state.specs.State.{headView, withUsed, firstWaiting}
+use Rattle.state.specs.State.{headView, strictTables, withUsed, firstWaiting}
 use Rattle.state.specs.Fits.{Fits}
 use Rattle.state.specs.Leaves.{silent, Leaves}
 use Rattle.returns.specs.Returns.{leftAt, left, givesAll, droppedHead}
-use Rattle.returns.specs.Gaps.{destOf, waitingIn, around, Gap, Gave}
-use Rattle.returns.proofs.Gap.{head-dest, gap-leaves, same-both, forgets, forgets-same, forgets-gap}
+use Rattle.returns.specs.Gaps.{destOf, waitingIn, around, Strict, StrictAround, Gap, Gave}
+use Rattle.returns.proofs.Moving.{strict-as}
+use Rattle.returns.proofs.Gap.{head-dest, head-strict, gap-leaves, same-both, forgets, forgets-strict, forgets-same, forgets-gap}
 
 -- ---- the words
 
@@ -139,34 +141,65 @@ module _ (i : ℕ) (d : Head) (subs rows : List Row) (f : Fits subs d (length ro
   pub seat-rows : base + (inflightOf w + heldOf w) ≤ d .used
   seat-rows = omega (arith, rows-split ws i within, f .rows-used)
 
+  -- ---- its rows cut out of others
+
+  module _ (l : List Row) (h : subRows ws ≤ length l) where
+    abbrev after : List Row
+    after = drop (base + own) l
+
+    abbrev around-it : List Row
+    around-it = take base l ++ drop (base + own) l
+
+    short : base ≤ length l
+    short = omega (arith, rows-take ws i)
+
+    after-is : afterIn ws l i ≡ after
+    after-is = drop-drop (heldOf w) (inflightOf w) (drop base l) ∙ drop-drop own base l
+
+    rest-is : drop (subRows (take (d .consumers - 1) subs′)) around-it ≡ drop (subRows ws) l
+    rest-is =
+        ap (λ (x : List Row). drop (subRows x) around-it) others ∙ after-gone ws l i after short ∙ ap (drop (subRows (drop (suc i) ws))) (sym after-is) ∙ sym (after-all ws l i within)
+
+    leaving-words : (waits : List Row) → Strict (d .consumers) subs l waits → Strict (d .consumers - 1) subs′ around-it waits
+    leaving-words waits s =
+        let a = strict-at ws l i within (s .subs) in
+        record {
+          subs = ap (λ (x : List Row). subsStrict x around-it) others ∙ strict-gone ws l i after short a (ap (subsStrict (drop (suc i) ws)) (sym after-is) ∙ a .after);
+          reserved = ap (all entryStrict) rest-is ∙ s .reserved;
+          waits = s .waits;
+        }
+
+  -- it stands before the waiting rows
+  before : take base (take (firstWaiting d) rows) ≡ take base rows
+  before = take-take base (firstWaiting d) rows (omega (arith, rows-take ws i, f .rows-used))
+
+  leaving-strict : strictTables d subs rows ≡ true → StrictAround base own (droppedHead d) subs′ rows
+  leaving-strict h =
+      strict-as refl (ap (λ (x : List Row). x ++ slice (base + own) (firstWaiting d) rows) (sym before)) refl
+      (leaving-words (take (firstWaiting d) rows) first-long (waitingIn d rows) (head-strict d subs rows (f .rows-used) fits h))
+
   module _ (now : ℕ) (last : ℤ) (id : Id) (here : positionFrom 0 id ws ≡ At i) where
-    leaving-dest : (l waits : List Row) (p : List Id) (u : List Audit) → subRows ws ≤ length l
-        → destOf (droppedHead d) subs′ (take base l ++ drop (base + own) l) waits p u ≡ dropSub id (destOf d subs l waits p u)
+    leaving-dest : (l waits : List Row) (p : List Id) (u : List Audit) (h : subRows ws ≤ length l)
+        → destOf (droppedHead d) subs′ (around-it l h) waits p u ≡ dropSub id (destOf d subs l waits p u)
     unfolding destOf
     leaving-dest l waits p u h =
-        let c : List Row = drop (base + own) l in
-        let m : List Row = take base l ++ c in
-        let short : base ≤ length l = omega (arith, rows-take ws i) in
-        let after : afterIn ws l i ≡ c = drop-drop (heldOf w) (inflightOf w) (drop base l) ∙ drop-drop own base l in
+        let m : List Row = around-it l h in
         let all : subsAt kind (take (d .consumers - 1) subs′) m ≡ without (isId id) (subsAt kind ws l) =
         ap (λ (x : List Row). subsAt kind x m) others
-        ∙ subs-gone kind ws l i c within short (ap (subsAt kind (drop (suc i) ws)) (sym after))
+        ∙ subs-gone kind ws l i (after l h) within (short l h) (ap (subsAt kind (drop (suc i) ws)) (sym (after-is l h)))
         ∙ sym (without-at id ws i here kind l) in
-        let rest : drop (subRows (take (d .consumers - 1) subs′)) m ≡ drop (subRows ws) l =
-        ap (λ (x : List Row). drop (subRows x) m) others ∙ after-gone ws l i c short ∙ ap (drop (subRows (drop (suc i) ws))) (sym after) ∙ sym (after-all ws l i within) in
         let count : d .consumers - 1 ≡ length (without (isId id) (subsAt kind ws l)) =
         sym (ap length (sym all) ∙ subs-length kind (take (d .consumers - 1) subs′) m
         ∙ length-take-le (d .consumers - 1) subs′ (omega (arith, many, removed-length i (d .consumers) subs low many))) in
         let turn : (if leb (d .consumers - 1) (d .turn) then 0 else d .turn) ≡ (if leb (length (without (isId id) (subsAt kind ws l))) (d .turn) then 0 else d .turn) =
         ap (λ (n : ℕ). if_then_else_ {A = ℕ} (leb n (d .turn)) 0 (d .turn)) count in
-        λ j. Def.withRr (turn j) (Def.withSubs (all j) (Def.withReserved (map heldAt (rest j)) (destOf d subs l waits p u)))
+        λ j. Def.withRr (turn j) (Def.withSubs (all j) (Def.withReserved (map heldAt (rest-is l h j)) (destOf d subs l waits p u)))
 
     -- around its rows the destination is without it
     leaving-around : (p : List Id) (u : List Audit) → around base own (droppedHead d) subs′ rows p u ≡ dropSub id (headView d subs rows p u)
     leaving-around p u =
         let n : ℕ = firstWaiting d in
-        let short : base ≤ n = omega (arith, rows-take ws i, f .rows-used) in
-        ap (λ (x : List Row). destOf (droppedHead d) subs′ (x ++ slice (base + own) n rows) (waitingIn d rows) p u) (sym (take-take base n rows short))
+        ap (λ (x : List Row). destOf (droppedHead d) subs′ (x ++ slice (base + own) n rows) (waitingIn d rows) p u) (sym before)
         ∙ leaving-dest (take n rows) (waitingIn d rows) p u first-long
         ∙ ap (dropSub id) (sym (head-dest d subs rows (f .rows-used) fits p u))
 
@@ -196,7 +229,8 @@ module _ (i : ℕ) (d : Head) (subs rows : List Row) (f : Fits subs d (length ro
         ap (λ (n : ℕ). around base n (withUsed (d .used - own) b) subs′ (closeGap (base + 0) own (d .used) rows) u v) (sym e)
         ∙ forgets base 0 own own b subs′ rows leaving-gap less u v
         ∙ leaving-around u v
-        ∙ sym (left-is u v ∙ returning-none now last sub (dropSub id (headView d subs rows u v)) (d .queue) no)))
+        ∙ sym (left-is u v ∙ returning-none now last sub (dropSub id (headView d subs rows u v)) (d .queue) no))
+        (λ z. subst (λ (n : ℕ). StrictAround base n (withUsed (d .used - own) b) subs′ (closeGap (base + 0) own (d .used) rows)) e (forgets-strict base 0 own own b subs′ rows leaving-gap less (leaving-strict z))))
 
     -- what is held goes, and what was in flight returns
     pub leaves-gave : (g r : Head) (rows₁ subs″ rows′ events : List Row) → (d .queue && not (subOf w .browser)) ≡ true → g ≡ withUsed (d .used - heldOf w) (droppedHead d)
@@ -224,6 +258,7 @@ module _ (i : ℕ) (d : Head) (subs rows : List Row) (f : Fits subs d (length ro
         ∙ ap (givesAll now last (idOf (at 0 w) (at 1 w) (at 2 w)) (map inflightAt (flyingIn ws rows i))) (forgets base m k own b subs′ rows leaving-gap less u v ∙ leaving-around u v)
         ∙ gives-sub (dropSub id (headView d subs rows u v))
         ∙ sym (left-is u v ∙ returning-all now last sub (dropSub id (headView d subs rows u v)) (d .queue) yes))
+        (λ z. o .strict (subst (λ (y : ℕ). StrictAround base y h subs′ c) e (forgets-strict base m k own b subs′ rows leaving-gap less (leaving-strict z))))
 
     -- by what the code has read
     module _ (b : ℕ) (s : Sub) (g : Head) (subs₁ : List Row) (is-base : b ≡ base) (is-sub : s ≡ subOf w) (is-head : g ≡ droppedHead d) (is-subs : subs₁ ≡ subs′) where

@@ -1,5 +1,5 @@
 -- The first row of a gap goes: dropped as expired, back to the queue, or to the reserved rows. Assumes nothing.
-use mathlib.Core.Path.{_≡_, refl, sym, ap, ap₂, _∙_}
+use mathlib.Core.Path.{_≡_, refl, sym, ap, ap₂, _∙_, transport}
 use mathlib.Core.Bool.{true, false}
 use mathlib.Core.List.{List, [], _∷_, _++_, map, map-append}
 use Prim.Native.Nat.{ℕ, zero, suc, _+_, _-_, _≤_, _<_}
@@ -17,19 +17,22 @@ use Rattle.definition.specs.Types.{Id, Entry, Held, Audit, Dest}
 use Rattle.definition.specs.Types as Def
 use Rattle.definition.specs.Consumer.{addExpired}
 use Rattle.definition.specs.Destination.{count, insert, holdBack, reinsert}
+use Rattle.definition.specs.Base.{all}
 use Rattle.definition.specs.Words.{kindBy}
-use Rattle.definition.specs.Layout.{Row, heldAt, subsAt, subRows}
+use Rattle.definition.specs.Layout.{Row, heldAt, subsAt, subRows, entryStrict, subsStrict}
+use Rattle.definition.proofs.Lists.{all-end}
 use Rattle.table.specs.Table.{closeGap}
 use Rattle.table.proofs.Lists.{slice-take}
 use Rattle.table.proofs.Laws.{close-length, close-after}
 use Rattle.consumers.specs.Table.{onFirst, heldBackRow}
 use Rattle.consumers.proofs.Laws.{on-first, on-length, hold-back-rows, hold-back-first}
 use Rattle.consumers.proofs.View.{subs-before}
+use Rattle.consumers.proofs.Strict.{strict-before, strict-held-back}
 use Rattle.state.specs.declared.Head.{Head}
 use Rattle.state.specs.State.{withReserved, withWaiting, withUsed, withStats, firstWaiting}
 use Rattle.state.proofs.Counts.{expired-plain}
 use Rattle.returns.specs.Returns.{held, reserves}
-use Rattle.returns.specs.Gaps.{destOf, cut, waitingIn, around, settled, Open, Placed, Moves}
+use Rattle.returns.specs.Gaps.{destOf, cut, waitingIn, around, Strict, settled, Open, Placed, Moves}
 use Rattle.returns.proofs.Rows.{cut-less, cut-join, cut-length, closed-low, closed-high, turned-length, turned-after, turned-low, turned-high}
 use Rattle.returns.proofs.Reinsert.{reinsert-late, reinsert-live}
 
@@ -64,6 +67,27 @@ module _ (d : Head) (subs low waits : List Row) (p : List Id) (u : List Audit) w
       let own : subRows (take n (onFirst (heldBackRow (e .seq)) n subs)) ≡ subRows (take n subs) = ap subRows (on-first (heldBackRow (e .seq)) n subs) ∙ hold-back-rows (e .seq) (take n subs) in
       let all : subsAt (kindBy (d .queue)) (take n (onFirst (heldBackRow (e .seq)) n subs)) low ≡ map (holdBack (e .seq)) (t .subs) = hold-back-first (kindBy (d .queue)) (e .seq) n subs low in
       λ i. Def.withPending (h i) (Def.withSubs (all i) (Def.withReserved (map heldAt (drop (own i) low)) t))
+
+-- ---- strict words of rows
+
+pub strict-as : {n n′ : ℕ} {subs low low′ waits waits′ : List Row} → n′ ≡ n → low′ ≡ low → waits′ ≡ waits → Strict n subs low waits → Strict n′ subs low′ waits′
+strict-as {n} {n′} {subs} {low} {low′} {waits} {waits′} e p q s = transport (λ j. Strict (sym e j) subs (sym p j) (sym q j)) s
+
+strict-reserved : (n : ℕ) (subs low waits : List Row) (x : Row) → subRows (take n subs) ≤ length low → entryStrict x ≡ true → Strict n subs low waits → Strict n subs (low ++ x ∷ []) waits
+strict-reserved n subs low waits x h w s = record {
+  subs = strict-before (take n subs) low (x ∷ []) h ∙ s .subs;
+  reserved = ap (all entryStrict) (drop-append-le (subRows (take n subs)) low (x ∷ []) h) ∙ all-end entryStrict (drop (subRows (take n subs)) low) x (s .reserved) w;
+  waits = s .waits;
+}
+
+strict-stored : (seq n : ℕ) (subs low waits waits′ : List Row) → all entryStrict waits′ ≡ true → Strict n subs low waits → Strict n (onFirst (heldBackRow seq) n subs) low waits′
+strict-stored seq n subs low waits waits′ h s =
+    let first : take n (onFirst (heldBackRow seq) n subs) ≡ map (heldBackRow seq) (take n subs) = on-first (heldBackRow seq) n subs in
+    record {
+      subs = ap (λ (l : List Row). subsStrict l low) first ∙ strict-held-back seq (take n subs) low ∙ s .subs;
+      reserved = ap (λ (m : ℕ). all entryStrict (drop m low)) (ap subRows first ∙ hold-back-rows seq (take n subs)) ∙ s .reserved;
+      waits = h;
+    }
 
 -- past the first n
 on-past : (f : Row → Row) (n m : ℕ) (ws : List Row) → n ≤ m → drop m (onFirst f n ws) ≡ drop m ws
@@ -100,6 +124,8 @@ module _ (now from : ℕ) (e : Entry) (d : Head) (subs rows : List Row) (o : Ope
             ∙ dest-expired a subs (cut from k first rows) (waitingIn d rows) producers audits (omega (arith, o .expired, o .used))
             ∙ ap (count (addExpired 1)) (dest-counts d subs (cut from k first rows) (waitingIn d rows) producers audits (d .reserved) (d .waiting) (d .used - 1))
             ∙ sym (reinsert-late now e (around from k d subs rows producers audits) x);
+        strict = λ k some within sum s.
+            strict-as refl (ap (λ (n : ℕ). cut from (k - 1) n c) less ∙ cut-one from k first rows c some (omega arith) (omega arith) low) (ap (λ (n : ℕ). slice n (d .used - 1) c) less ∙ high) s;
         low = low;
         same = record {
           head = refl;
@@ -129,6 +155,9 @@ module _ (now from : ℕ) (e : Entry) (d : Head) (subs rows : List Row) (o : Ope
             ∙ dest-counts d held (cut from k first rows) (slice (first - 1) (r .used) rows′) producers audits (d .reserved) (r .waiting) (r .used)
             ∙ dest-stored d subs (cut from k first rows) (waitingIn d rows) producers audits e (slice (first - 1) (r .used) rows′) (s .waits)
             ∙ sym (reinsert-live now e (around from k d subs rows producers audits) x);
+        strict = λ k some within sum t.
+            strict-as (ap (λ (a : Head). a .consumers) (s .head)) (ap (λ (n : ℕ). cut from (k - 1) n rows′) less ∙ cut-one from k first rows rows′ some (omega arith) (omega arith) (s .low)) (ap (λ (n : ℕ). slice n (r .used) rows′) less)
+            (strict-stored (e .seq) (d .consumers) subs (cut from k first rows) (waitingIn d rows) (slice (first - 1) (r .used) rows′) (s .strict (t .waits)) t);
         low = s .low;
         same = record {
           head = s .head ∙ ap₂ (λ (y : Stats) (n : ℕ). settled d (withStats y (withReserved n r))) (sym (ap (λ (a : Head). a .stats) (s .head))) (sym (ap (λ (a : Head). a .reserved) (s .head)));
@@ -147,10 +176,10 @@ module _ (now from : ℕ) (e : Entry) (d : Head) (subs rows : List Row) (o : Ope
 
 -- the row goes to the end of the reserved ones
 module _ (from : ℕ) (d : Head) (subs rows : List Row) (o : Open from d (length rows)) where
-  pub moves-reserved : (r : Head) (rows′ : List Row) (x : Row) (h : Held) → heldAt x ≡ h → r ≡ withReserved (d .reserved + 1) d
+  pub moves-reserved : (r : Head) (rows′ : List Row) (x : Row) (h : Held) → heldAt x ≡ h → entryStrict x ≡ true → r ≡ withReserved (d .reserved + 1) d
       → rows′ ≡ set (closeGap from 1 (firstWaiting d) rows) (firstWaiting d - 1) x
       → Moves from (reserves h) d r subs rows subs rows′
-  moves-reserved r rows′ x h is p q =
+  moves-reserved r rows′ x h is well p q =
       let n : ℕ = firstWaiting d in
       let c : List Row = set (closeGap from 1 n rows) (n - 1) x in
       let w : List Row = waitingIn d rows in
@@ -163,16 +192,18 @@ module _ (from : ℕ) (d : Head) (subs rows : List Row) (o : Open from d (length
       turned-high from n rows x one some n n one up up some ∙ ap₂ (λ (y z : List Row). y ++ x ∷ z) (slice-empty n rows) (slice-empty n rows) in
       let high : slice n (d .used) c ≡ w =
       slice-take n (d .used) c (omega arith) ∙ ap (take (d .used - n)) (turned-after from n rows x one some n up) ∙ sym (slice-take n (d .used) rows (omega arith)) in
+      let longer : (k : ℕ) → 0 < k → from + (k + d .waiting) ≤ d .used → cut from (k - 1) n c ≡ cut from k n rows ++ x ∷ [] = (λ k more within.
+      sym (cut-join from (k - 1) (n - 1) n c (omega arith) (omega arith)) ∙ ap₂ (λ (y z : List Row). y ++ z) (cut-one from k n rows c more (omega arith) some low) last) in
       rw (p, q) (record {
         view = λ k producers audits more within sum.
             let l : List Row = cut from k n rows in
             let size : length l ≡ n - k = cut-length from k n rows (omega arith) some in
-            let longer : cut from (k - 1) n c ≡ l ++ x ∷ [] =
-            sym (cut-join from (k - 1) (n - 1) n c (omega arith) (omega arith)) ∙ ap₂ (λ (y z : List Row). y ++ z) (cut-one from k n rows c more (omega arith) some low) last in
-            ap₂ (λ (y z : List Row). destOf (withReserved (d .reserved + 1) d) subs y z producers audits) longer high
+            ap₂ (λ (y z : List Row). destOf (withReserved (d .reserved + 1) d) subs y z producers audits) (longer k more within) high
             ∙ dest-counts d subs (l ++ x ∷ []) w producers audits (d .reserved + 1) (d .waiting) (d .used)
             ∙ dest-reserved d subs l w producers audits x (omega (arith, size))
             ∙ ap (λ (y : Held). Def.withReserved (destOf d subs l w producers audits .reserved ++ y ∷ []) (destOf d subs l w producers audits)) is;
+        strict = λ k more within sum s.
+            strict-as refl (longer k more within) high (strict-reserved (d .consumers) subs (cut from k n rows) w x (omega (arith, cut-length from k n rows (omega arith) some)) well s);
         low = low;
         same = record {
           head = refl;
@@ -193,6 +224,7 @@ module _ (from : ℕ) (d : Head) (subs rows : List Row) (o : Open from d (length
 pub moves-as : (from : ℕ) (f g : Dest → Dest) (d r : Head) (subs rows subs′ rows′ : List Row) → ((t : Dest) → f t ≡ g t) → Moves from f d r subs rows subs′ rows′ → Moves from g d r subs rows subs′ rows′
 moves-as from f g d r subs rows subs′ rows′ h m = record {
   view = λ k producers audits some within sum. m .view k producers audits some within sum ∙ h (around from k d subs rows producers audits);
+  strict = m .strict;
   low = m .low;
   same = m .same;
   counts = m .counts;

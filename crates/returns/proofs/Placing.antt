@@ -2,24 +2,32 @@
 use mathlib.Core.Path.{_≡_, refl, sym, ap, ap₂, _∙_}
 use mathlib.Core.Bool.{Bool, true, false, _&&_, true≢false}
 use mathlib.Core.List.{List, [], _∷_, _++_, map}
-use Prim.Native.Nat.{ℕ, _+_, _-_, _≤_, _<_}
+use Prim.Native.Nat.{ℕ, suc, _+_, _-_, _≤_, _<_}
 use native.Mathlib.Omega.{arith}
 use borrow.Author.Tests.{ltb-true, eqb-true, lt-ltb, eq-eqb}
 use lib.Dec.{ltb, eqb}
 use lib.ListN.{length, take, drop, getD, set, length-set}
-use lib.Seq.{slice, length-slice, getD-take, getD-drop, drop-set-lt, take-set-le}
+use lib.Seq.{slice, length-slice, getD-take, getD-drop, drop-set-lt, take-set-le, set-split}
 use Rattle.entry.specs.Entry.{entryOf}
+use Rattle.definition.specs.Base.{all}
 use Rattle.definition.specs.Types.{Entry}
+use Rattle.definition.specs.Layout.{entryStrict}
 use Rattle.definition.proofs.Tests.{and-left, and-right, and-both}
+use Rattle.definition.proofs.Lists.{all-append}
 use Rattle.table.specs.Table.{Row, placeFrom, placeOf, closeGap}
 use Rattle.table.proofs.Bounds.{place-in}
 use Rattle.table.proofs.Search.{place-within}
 use Rattle.table.proofs.Laws.{close-length, close-after}
+use Rattle.consumers.proofs.Strict.{all-first, all-rest}
 use Rattle.state.specs.declared.Head.{Head}
 use Rattle.state.specs.State.{firstWaiting, withWaiting, withUsed}
 use Rattle.returns.specs.Gaps.{cut, waitingIn, Open, Placed}
 use Rattle.returns.proofs.Rows.{slice-front, slice-drop, slice-set-past, slice-set-in, closed-low, closed-high, turned-length, turned-after, turned-low, turned-high}
 use Rattle.returns.proofs.Insert.{insert-new, insert-same}
+
+-- a strict row among strict ones
+strict-among : (k j : ℕ) (w : List Row) (x : Row) → entryStrict x ≡ true → all entryStrict w ≡ true → all entryStrict (take k w ++ x ∷ drop j w) ≡ true
+strict-among k j w x h s = all-append entryStrict (take k w) (x ∷ drop j w) (all-first entryStrict k w s) (and-both (entryStrict x) _ h (all-rest entryStrict j w s))
 
 module _ (from : ℕ) (e : Entry) (d : Head) (rows : List Row) (o : Open from d (length rows)) where
   abbrev first : ℕ
@@ -50,13 +58,14 @@ module _ (from : ℕ) (e : Entry) (d : Head) (rows : List Row) (o : Open from d 
   there : place < d .used → getD (waitingIn d rows) k [] ≡ getD rows place []
   there h = getD-drop first (take (d .used) rows) k [] ∙ ap (λ (n : ℕ). getD (take (d .used) rows) n []) sits ∙ getD-take (d .used) rows place [] h
 
-  module _ (row : Row) (is : entryOf row ≡ e) where
+  module _ (row : Row) (is : entryOf row ≡ e) (well : entryStrict row ≡ true) where
     -- over the row that waits with the same number
     pub placed-over : (r : Head) (rows′ : List Row) → again ≡ true → r ≡ withUsed (d .used - 1) d → rows′ ≡ closeGap from 1 (d .used) (set rows place row)
         → Placed from e d r rows rows′
     placed-over r rows′ t p q =
         let b = place-bounds in
         let h : place < d .used = ltb-true place (d .used) (and-left _ _ t) in
+        let inside : k < length (waitingIn d rows) = omega (arith, sits, length-slice first (d .used) rows (b .3)) in
         let l : List Row = set rows place row in
         let size : length l ≡ length rows = length-set rows place row in
         let here : getD (getD (waitingIn d rows) k []) 0 0 ≡ e .seq = ap (λ (x : Row). getD x 0 0) (there h) ∙ eqb-true _ _ (and-right (ltb place (d .used)) _ t) in
@@ -69,7 +78,8 @@ module _ (from : ℕ) (e : Entry) (d : Head) (rows : List Row) (o : Open from d 
         ∙ slice-set-in first (d .used) k rows row (omega (arith, sits)) in
         rw (p, q) (record {
           low = low;
-          waits = ap (map entryOf) high ∙ insert-same row e is first k (waitingIn d rows) found (omega (arith, sits, length-slice first (d .used) rows (b .3))) here;
+          strict = λ s. ap (all entryStrict) (high ∙ set-split (waitingIn d rows) k row inside) ∙ strict-among k (suc k) (waitingIn d rows) row well s;
+          waits = ap (map entryOf) high ∙ insert-same row e is first k (waitingIn d rows) found inside here;
           head = refl;
           counts = omega arith;
           used = omega arith;
@@ -94,6 +104,7 @@ module _ (from : ℕ) (e : Entry) (d : Head) (rows : List Row) (o : Open from d 
         ∙ ap₂ (λ (x y : List Row). x ++ row ∷ y) front back in
         rw (p, q) (record {
           low = turned-low from place rows row (omega arith) (omega arith) first (d .used) (b .0) (b .1) (b .2) (b .3);
+          strict = λ s. ap (all entryStrict) high ∙ strict-among k k w row well s;
           waits = ap (map entryOf) high ∙ insert-new row e is first k w found new;
           head = refl;
           counts = omega arith;

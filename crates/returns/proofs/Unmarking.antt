@@ -1,6 +1,6 @@
 -- The transaction marks of all consumers with an identifier go, a consumer at a time. Assumes nothing.
 use mathlib.Core.Path.{_≡_, refl, sym, ap, ap₂, _∙_, transport}
-use mathlib.Core.Bool.{false}
+use mathlib.Core.Bool.{true, false, _&&_}
 use mathlib.Core.List.{List, [], _∷_, _++_, append-nil, map, map-append}
 use Prim.Native.Nat.{ℕ, zero, suc, _+_, _-_, _≤_, _<_}
 use native.Mathlib.Omega.{arith}
@@ -12,19 +12,22 @@ use Rattle.words.proofs.Tests.{by-test}
 use Rattle.model.specs.Model.{idOf, sameId}
 use Rattle.entry.specs.Entry.{entryOf}
 use Rattle.definition.specs.Base.{if_then_else_}
+use Rattle.definition.specs.Base as Base
 use Rattle.definition.specs.Types.{Kind, Id, Inflight}
 use Rattle.definition.specs.Types as Def
 use Rattle.definition.specs.Destination.{isId, noTx, unmarked}
 use Rattle.definition.specs.Words.{kindBy}
-use Rattle.definition.specs.Layout.{Row, flag, idAt, heldAt, inflightAt, inflightOf, heldOf, subAt, eachSub, subsAt, subRows}
-use Rattle.definition.proofs.Tests.{if-true, if-false}
+use Rattle.definition.specs.Layout.{Row, flag, idAt, heldAt, inflightAt, inflightOf, heldOf, subAt, eachSub, subsAt, subRows, entryStrict, flyingStrict, subStrict, subsStrict}
+use Rattle.definition.proofs.Tests.{if-true, if-false, and-both}
 use Rattle.table.specs.Table.{mapRows, unmarkRow}
 use Rattle.table.proofs.Lists.{slice-take, agree-later}
 use Rattle.table.proofs.Rows.{word-kept, unmark-entry}
 use Rattle.table.proofs.Laws.{map-length, map-before, map-after, map-used}
+use Rattle.table.proofs.Strict.{unmark-strict}
 use Rattle.consumers.specs.declared.Sub.{Sub}
 use Rattle.consumers.specs.Consumers.{subOf}
 use Rattle.consumers.proofs.View.{rows-next, rows-take, subs-append, subs-agree}
+use Rattle.consumers.proofs.Strict.{strict-sub, sub-strict, strict-append, strict-agree, strict-at, tables-strict, strict-tables, all-map}
 use Rattle.state.specs.declared.Head.{Head}
 use Rattle.state.specs.State.{headView}
 use Rattle.state.specs.Fits.{Fits}
@@ -68,6 +71,11 @@ quiet-sub : (k : Kind) (w : Row) (f h : List Row) → subAt k w (map unmarkRow f
 unfolding subAt
 quiet-sub k w f h = ap (λ (l : List Inflight). Def.withInflight l (subAt k w f h)) (quiet-rows f)
 
+quiet-strict : (w : Row) (f h : List Row) → subStrict w f h ≡ true → subStrict w (map unmarkRow f) h ≡ true
+quiet-strict w f h s =
+    let a = sub-strict w f h s in
+    strict-sub w (map unmarkRow f) h (record { words = a .words; flying = all-map flyingStrict flyingStrict unmarkRow unmark-strict f (a .flying); held = a .held })
+
 -- ---- all consumers
 
 abbrev one : Id → Def.Sub → Def.Sub
@@ -83,10 +91,11 @@ module _ (id : Id) (n : ℕ) (subs rows₀ : List Row) where
     pub size : length rows ≡ length rows₀
     pub rest : drop base rows ≡ drop base rows₀
     pub said : (k : Kind) → subsAt k (take i ws) rows ≡ map (one id) (subsAt k (take i ws) rows₀)
+    pub strict : subsStrict ws rows₀ ≡ true → subsStrict (take i ws) rows ≡ true
 
   pub unmarking-start : Unmarking 0 0 rows₀
   unfolding eachSub subRows
-  unmarking-start = record { start = refl; within = omega arith; size = refl; rest = refl; said = λ k. refl }
+  unmarking-start = record { start = refl; within = omega arith; size = refl; rest = refl; said = λ k. refl; strict = λ _. refl }
 
 module _ (id : Id) (d : Head) (subs rows₀ : List Row) (a : Fits subs d (length rows₀) 545) where
   abbrev n : ℕ
@@ -143,13 +152,20 @@ module _ (id : Id) (d : Head) (subs rows₀ : List Row) (a : Fits subs d (length
             long : length l ≡ length rows
             front : take base l ≡ take base rows
             here : subAt kind w (take f (drop base l)) (take h (drop f (drop base l))) ≡ v
+            strict : subStrict w (take f x) (take h (drop f x)) ≡ true → subStrict w (take f (drop base l)) (take h (drop f (drop base l))) ≡ true
             after : drop (base + (f + h)) l ≡ drop (base + (f + h)) rows
 
           abbrev seen : Def.Sub
           seen = subAt kind w (take f x) (take h (drop f x))
 
           part-same : Part rows seen
-          part-same = record { long = refl; front = refl; here = ap (λ (l : List Row). subAt kind w (take f l) (take h (drop f l))) (g .rest); after = refl }
+          part-same = record {
+            long = refl;
+            front = refl;
+            here = ap (λ (l : List Row). subAt kind w (take f l) (take h (drop f l))) (g .rest);
+            strict = λ t. ap (λ (l : List Row). subStrict w (take f l) (take h (drop f l))) (g .rest) ∙ t;
+            after = refl;
+          }
 
           part-marked : Part marked (noTx seen)
           part-marked =
@@ -166,6 +182,7 @@ module _ (id : Id) (d : Head) (subs rows₀ : List Row) (a : Fits subs d (length
                 long = map-length unmarkRow base (base + f) rows;
                 front = map-before unmarkRow base (base + f) rows base (omega arith);
                 here = ap₂ (λ (l m : List Row). subAt kind w l (take h m)) mine later ∙ quiet-sub kind w (take f x) (take h (drop f x));
+                strict = λ t. ap₂ (λ (l m : List Row). subStrict w l (take h m)) mine later ∙ quiet-strict w (take f x) (take h (drop f x)) t;
                 after = map-after unmarkRow base (base + f) rows (base + (f + h)) (omega arith);
               }
 
@@ -202,6 +219,23 @@ module _ (id : Id) (d : Head) (subs rows₀ : List Row) (a : Fits subs d (length
               ∙ sym (map-append (one id) (subsAt kind (take i us) rows₀) (seen ∷ []))
               ∙ ap (map (one id)) (sym (upto rows₀ seen refl))
 
+        -- strict words of this consumer, and of those up to it
+        strict-here : subsStrict us rows₀ ≡ true → subStrict w (take f x) (take h (drop f x)) ≡ true
+        strict-here t =
+            (λ j. subStrict w (take (in-flight j) (drop (g .start j) rows₀)) (take (holds j) (drop (in-flight j) (drop (g .start j) rows₀))))
+            ∙ strict-sub w _ _ (strict-at us rows₀ i (omega (arith, many)) t .own)
+
+        strict-upto : subsStrict us rows₀ ≡ true → subsStrict (take (suc i) us) rows′ ≡ true
+        unfolding eachSub
+        strict-upto t =
+            let p = part (kindBy (d .queue)) in
+            let mine : subsStrict (w ∷ []) (drop (subRows (take i us)) rows′) ≡ true =
+            (λ j. subStrict w (take (sym in-flight j) (drop (sym (g .start) j) rows′)) (take (sym holds j) (drop (sym in-flight j) (drop (sym (g .start) j) rows′))) && true)
+            ∙ and-both (subStrict w (take f (drop base rows′)) (take h (drop f (drop base rows′)))) true (p .strict (strict-here t)) refl in
+            ap (λ (y : List Row). subsStrict y rows′) (take-suc us i [] (omega (arith, many)))
+            ∙ strict-append (take i us) (w ∷ []) rows′
+            ∙ and-both (subsStrict (take i us) rows′) _ (strict-agree (take i us) base rows′ rows (omega (arith, g .start)) (p .front) ∙ g .strict t) mine
+
         pub unmarking-turn : Unmarking id n subs rows₀ (i + 1) (base + s .inflight + s .held) rows′
         unmarking-turn =
             let e : base + f + h ≡ base + (f + h) = omega arith in
@@ -213,6 +247,7 @@ module _ (id : Id) (d : Head) (subs rows₀ : List Row) (a : Fits subs d (length
               size = p .long ∙ g .size;
               rest = ap (λ (n : ℕ). drop n rows′) e ∙ p .after ∙ agree-later base (base + (f + h)) rows rows₀ (omega arith) (g .rest) ∙ ap (λ (n : ℕ). drop n rows₀) (sym e);
               said = λ k. rw o (upto-all k);
+              strict = λ t. rw o (strict-upto t);
             }
 
   -- all are done
@@ -237,6 +272,10 @@ module _ (id : Id) (d : Head) (subs rows₀ : List Row) (a : Fits subs d (length
         consumers = a .consumers;
         used = a .used;
         rows-used = a .rows-used;
+        strict = λ t.
+            let b = tables-strict (d .reserved + d .waiting) us rows₀ t in
+            strict-tables (d .reserved + d .waiting) us rows
+            (record { subs = ap (λ (l : List Row). subsStrict l rows) (sym all) ∙ g .strict (b .subs); others = ap (λ (l : List Row). Base.all entryStrict (take (d .reserved + d .waiting) l)) others ∙ b .others });
         subs-past = refl;
         rows-past = agree-later base 512 rows rows₀ (omega (arith, m, a .rows-used, a .used)) (g .rest);
         subs-length = refl;

@@ -1,6 +1,7 @@
 -- The tables with a gap: rows that no count of the head takes in, before the waiting ones. What stands around the gap is a destination, and
 -- the first row of the gap goes to a place in it. Assumes nothing.
 use mathlib.Core.Path.{_≡_}
+use mathlib.Core.Bool.{true}
 use mathlib.Core.List.{List, _++_, map}
 use mathlib.Core.Option.{none, some}
 use Prim.Native.Nat.{ℕ, _+_, _-_, _≤_, _<_, _^_}
@@ -8,11 +9,11 @@ use lib.ListN.{length, take, drop}
 use lib.IntN.{ℤ}
 use lib.Seq.{slice}
 use Rattle.entry.specs.Entry.{entryOf}
-use Rattle.definition.specs.Base.{if_then_else_}
+use Rattle.definition.specs.Base.{if_then_else_, all}
 use Rattle.definition.specs.Types.{Id, Entry, Audit, Dest}
 use Rattle.definition.specs.Destination.{insert}
 use Rattle.definition.specs.Words.{kindBy}
-use Rattle.definition.specs.Layout.{Row, inflightAt, heldAt, subsAt, subRows}
+use Rattle.definition.specs.Layout.{Row, inflightAt, heldAt, subsAt, subRows, entryStrict, subsStrict}
 use Rattle.state.specs.declared.Head.{Head}
 use Rattle.state.specs.State.{withWaiting, withUsed, firstWaiting}
 use Rattle.returns.specs.Returns.{givesAll}
@@ -46,6 +47,16 @@ waitingIn d rows = slice (firstWaiting d) (d .used) rows
 abbrev pub around : ℕ → ℕ → Head → List Row → List Row → List Id → List Audit → Dest
 around from k d subs rows producers audits = destOf d subs (cut from k (firstWaiting d) rows) (waitingIn d rows) producers audits
 
+-- of n consumers, these rows before the waiting ones and these waiting ones, the words in use are strict
+pub record Strict (n : ℕ) (ws low high : List Row) : Type 0 where
+  pub subs : subsStrict (take n ws) low ≡ true
+  pub reserved : all entryStrict (drop (subRows (take n ws)) low) ≡ true
+  pub waits : all entryStrict high ≡ true
+
+-- and around a gap of k rows
+abbrev pub StrictAround : ℕ → ℕ → Head → List Row → List Row → Type 0
+StrictAround from k d subs rows = Strict (d .consumers) subs (cut from k (firstWaiting d) rows) (waitingIn d rows)
+
 -- a row before the waiting ones, and numbers that do not run out
 pub record Open (from : ℕ) (d : Head) (rows : ℕ) : Type 0 where
   pub before : from + d .waiting < d .used
@@ -78,6 +89,7 @@ settled d r = record {
 pub record Placed (from : ℕ) (e : Entry) (d r : Head) (rows rows′ : List Row) : Type 0 where
   pub low : take (firstWaiting d - 1) rows′ ≡ cut from 1 (firstWaiting d) rows
   pub waits : map entryOf (slice (firstWaiting d - 1) (r .used) rows′) ≡ insert e (map entryOf (waitingIn d rows))
+  pub strict : all entryStrict (waitingIn d rows) ≡ true → all entryStrict (slice (firstWaiting d - 1) (r .used) rows′) ≡ true
   pub head : r ≡ withWaiting (r .waiting) (withUsed (r .used) d)
   pub counts : r .used + d .waiting + 1 ≡ d .used + r .waiting
   pub used : r .used ≤ d .used
@@ -100,6 +112,8 @@ pub record Moves (from : ℕ) (f : Dest → Dest) (d r : Head) (subs rows subs�
   pub view : (k : ℕ) (producers : List Id) (audits : List Audit) → 0 < k → from + (k + d .waiting) ≤ d .used
       → subRows (take (d .consumers) subs) + (d .reserved + (d .waiting + k)) ≡ d .used
       → around from (k - 1) r subs′ rows′ producers audits ≡ f (around from k d subs rows producers audits)
+  pub strict : (k : ℕ) → 0 < k → from + (k + d .waiting) ≤ d .used → subRows (take (d .consumers) subs) + (d .reserved + (d .waiting + k)) ≡ d .used
+      → StrictAround from k d subs rows → StrictAround from (k - 1) r subs′ rows′
   pub low : take (firstWaiting d - 1) rows′ ≡ cut from 1 (firstWaiting d) rows
   pub same : Same d r subs rows subs′ rows′
   pub counts : r .used + (d .reserved + (d .waiting + 1)) ≡ d .used + (r .reserved + r .waiting)
@@ -120,5 +134,6 @@ pub record Gap (from k : ℕ) (d : Head) (subs rows : List Row) : Type 0 where
 pub record Gave (now : ℕ) (last : ℤ) (j : Id) (from k : ℕ) (d r : Head) (subs rows subs′ rows′ : List Row) : Type 0 where
   pub view : (producers : List Id) (audits : List Audit)
       → around from 0 r subs′ rows′ producers audits ≡ givesAll now last j (map inflightAt (slice from (from + k) rows)) (around from k d subs rows producers audits)
+  pub strict : StrictAround from k d subs rows → StrictAround from 0 r subs′ rows′
   pub gap : Gap from 0 r subs′ rows′
   pub same : Same d r subs rows subs′ rows′

@@ -11,7 +11,7 @@ ghost use Rattle.entry.specs.Entry.{entryOf, redelivered};
 ghost use Rattle.definition.specs.Base.{if_then_else_, is-some};
 ghost use Rattle.definition.specs.Types.{Audit};
 ghost use Rattle.definition.specs.Destination.{subOf, wasDelivered, reinsert, heldBy, unmarked};
-ghost use Rattle.definition.specs.Layout.{heldAt, inflightAt};
+ghost use Rattle.definition.specs.Layout.{heldAt, inflightAt, entryStrict};
 ghost use Rattle.definition.specs.Layout as Layout;
 ghost use Rattle.table.specs.Table.{closeGap, mapRows, unmarkRow};
 ghost use Rattle.consumers.specs.Table.{positionFrom};
@@ -33,14 +33,14 @@ use state::Head;
 
 // The row of an entry that waits.
 fn waiting_row(e: Entry) -> Row
-    ensures { λ r. ⌜ entryOf r ≡ e ⌝ }
+    ensures { λ r. ⌜ (entryOf r ≡ e) × (entryStrict r ≡ true) ⌝ }
 {
     entry::held_row(e)
 }
 
 // The row of an entry that is reserved for a consumer.
 fn reserved_row(e: Entry, s: Sub) -> Row
-    ensures { λ r. ⌜ heldAt r ≡ held (idOf (s .conn) (s .session) (s .value)) e ⌝ }
+    ensures { λ r. ⌜ (heldAt r ≡ held (idOf (s .conn) (s .session) (s .value)) e) × (entryStrict r ≡ true) ⌝ }
 {
     entry::reserved_row(e, s.conn, s.session, s.value)
 }

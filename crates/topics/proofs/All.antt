@@ -197,7 +197,7 @@ module _ (now : ℕ) (ws : List Row) (i base : ℕ) (d₀ d : Head) (subs rows e
     strict-turn l o =
         let y = size in
         let z = ready .rows in
-        line-turn count ws subs i base rows more l subs′ (subWords t) rows′ n end end′ pre-is ends refl refl (stored-strict t) (o (line-own count ws subs i base rows more l)) (ap (λ (x : Seen). x .before) said) (omega arith) agrees
+        line-turn count ws subs i base rows more l subs′ (subWords t) rows′ n end end′ pre-is ends refl (stored-strict t) (o (line-own count ws subs i base rows more l)) (ap (λ (x : Seen). x .before) said) (omega arith) agrees
 
     pub whole-turn : whole now ws (i + 1) end′ r subs′ rows′ events′ ≡ whole now ws i base d subs rows events
     unfolding whole seen

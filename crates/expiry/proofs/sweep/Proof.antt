@@ -88,7 +88,7 @@ sweep-subs-requires c κs =
     let clock : a .clock ≤ 2 ^ 62 = omega (arith, g .before .before .before .if2 .left) in
     let few : a .most ≤ 512 = omega (arith, g .before .before .if3 .left) in
     let w = c .before .before .before .before .sweep-list in
-    able-at (a .most) (a .clock) (a .d) (now (a .subs)) (now (a .rows)) (now (a .events)) f clock few (g .first-waiting .result) (g .first-waiting .ensures) (w .result) _ (w .kept .0) (w .ensures .0) (w .ensures .1 .0) (w .ensures .1 .1) _ (c .before .before .shorter .ensures)
+    able-at (a .most) (a .clock) (a .d) (now (a .subs)) (now (a .rows)) (now (a .events)) f clock few (g .first-waiting .result) (g .first-waiting .ensures) (w .result) _ (w .kept .0) (w .ensures .0) (w .ensures .1 .0) (w .ensures .1 .1 .0) (w .ensures .1 .1 .1) _ (c .before .before .shorter .ensures)
 
 shorter-requires-2 : tie.Need-shorter-requires-2
 shorter-requires-2 c κs = search needs
@@ -116,7 +116,7 @@ returns-4 c =
     let l = c .before .before .before .before .before .before .before .shorter .ensures in
     let sure = and-both _ _ t (and-both _ _ (le-leb (a .clock) (2 ^ 62) clock) (le-leb (a .most) 512 few)) in
     let e = c .finished .ensures ∙ ap (finished (r .result .gone) (a .clock)) (c .before .shorter2 .ensures) in
-    sweep-from (a .most) (a .clock) (a .d) (now (a .subs)) (now (a .rows)) (now (a .events)) f clock few (g .first-waiting .result) (g .first-waiting .ensures) (w .result) _ (w .kept .0) (w .ensures .0) (w .ensures .1 .0) (w .ensures .1 .1) _ l (r .result) _ _ (r .ensures) _ sure _ e
+    sweep-from (a .most) (a .clock) (a .d) (now (a .subs)) (now (a .rows)) (now (a .events)) f clock few (g .first-waiting .result) (g .first-waiting .ensures) (w .result) _ (w .kept .0) (w .ensures .0) (w .ensures .1 .0) (w .ensures .1 .1 .0) (w .ensures .1 .1 .1) _ l (r .result) _ _ (r .ensures) _ sure _ e
 
 pub sweep-spec : {M : Type 1} → statement M
 sweep-spec =

@@ -12,7 +12,7 @@ returns : tie.Need-returns
 returns c =
     let a = c .before .args in
     let f = c .before .pre in
-    (sym (ap (λ (b : Bool). sweptUnless b (a .most) (a .clock) (listed (a .from) (a .start) (now (a .rows)))) (c .if1 .taken)), (record { length = omega arith; tail = refl; gone = f .gone }, refl))
+    (sym (ap (λ (b : Bool). sweptUnless b (a .most) (a .clock) (listed (a .from) (a .start) (now (a .rows)))) (c .if1 .taken)), (record { length = omega arith; tail = refl; gone = f .gone }, (refl, λ h. h)))
 
 sweep-list-requires : tie.Need-sweep-list-requires
 sweep-list-requires c κs = search needs

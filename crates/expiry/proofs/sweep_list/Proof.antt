@@ -33,7 +33,7 @@ returns : tie.Need-returns Inv-loop μ-loop
 returns c =
     let l = c .before .before .before .before .before .before .before .loop in
     let a = c .before .before .before .before .before .before .before .before .args in
-    (turn-none (a .most) (a .clock) (a .from) (now (a .rows)) (a .start) (l .rows) (l .w) (l .inv) (c .before .before .soonest .result) (c .before .before .soonest .ensures) (not-true _ (c .if2 .taken)), (l .inv .shorter, l .inv .past))
+    (turn-none (a .most) (a .clock) (a .from) (now (a .rows)) (a .start) (l .rows) (l .w) (l .inv) (c .before .before .soonest .result) (c .before .before .soonest .ensures) (not-true _ (c .if2 .taken)), (l .inv .shorter, (l .inv .past, l .inv .strict)))
 
 remove-seq-requires : tie.Need-remove-seq-requires Inv-loop μ-loop
 remove-seq-requires c κs = search needs
@@ -79,7 +79,7 @@ returns-2 : tie.Need-returns-2 Inv-loop μ-loop
 returns-2 c =
     let l = c .before .before .loop in
     let a = c .before .before .before .args in
-    (turn-end (a .most) (a .clock) (a .from) (now (a .rows)) (a .start) (l .rows) (l .w) (l .inv) (c .if1 .left), (l .inv .shorter, l .inv .past))
+    (turn-end (a .most) (a .clock) (a .from) (now (a .rows)) (a .start) (l .rows) (l .w) (l .inv) (c .if1 .left), (l .inv .shorter, (l .inv .past, l .inv .strict)))
 
 pub sweep-list-spec : {M : Type 1} → statement M
 sweep-list-spec =

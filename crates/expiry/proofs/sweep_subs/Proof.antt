@@ -74,7 +74,7 @@ loop-again c =
     let v = c .before .before .before .before .before .sweep-held in
     let s = c .before .before .before .before .before .before .before .before .before .before .load in
     let made = c .before .store .ensures ∙ ap (λ (y : Sub). set (l .subs) (l .i) (subWords y)) (c .before .before .holding .ensures) in
-    round-turn (a .most) (a .clock) (now (a .subs)) (now (a .rows)) (a .d) (a .gone) pre (l .subs) (l .rows) (l .w) (l .base) (l .i) (l .inv) (c .before .before .before .before .before .before .before .before .before .before .before .before .loop-test .taken) (s .result) _ (v .result) _ _ (s .ensures) refl made (v .kept .0) (v .ensures .0) (v .ensures .1 .0) (v .ensures .1 .1)
+    round-turn (a .most) (a .clock) (now (a .subs)) (now (a .rows)) (a .d) (a .gone) pre (l .subs) (l .rows) (l .w) (l .base) (l .i) (l .inv) (c .before .before .before .before .before .before .before .before .before .before .before .before .loop-test .taken) (s .result) _ (v .result) _ _ (s .ensures) refl made (v .kept .0) (v .ensures .0) (v .ensures .1 .0) (v .ensures .1 .1 .0) (v .ensures .1 .1 .1)
 
 same-length : tie.Need-same-length Inv-loop μ-loop
 same-length c = search needs

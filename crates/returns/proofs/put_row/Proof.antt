@@ -62,7 +62,7 @@ returns c =
     let at : c .before .before .before .before .before .before .before .place-of .result ≡ place (a .from) (a .e) (a .d) (now (a .rows)) o = c .before .before .before .before .before .before .before .place-of .ensures ∙ ap (λ (n : ℕ). placeOf n (a .d .used) (a .e .seq) (now (a .rows))) (c .before .before .before .before .before .before .before .before .first-waiting .ensures) in
     let w = rw at at (sym (c .before .before .before .before .before .waits-at .ensures) ∙ c .before .before .before .before .if1 .taken) in
     let q = c .before .before .close-gap .ensures ∙ ap (λ (n : ℕ). closeGap (a .from) 1 (a .d .used) (set (now (a .rows)) n (c .before .before .before .before .before .before .before .before .before .before .waiting-row .result))) at in
-    placed-over (a .from) (a .e) (a .d) (now (a .rows)) o (c .before .before .before .before .before .before .before .before .before .before .waiting-row .result) (c .before .before .before .before .before .before .before .before .before .before .waiting-row .ensures) _ _ w refl q
+    placed-over (a .from) (a .e) (a .d) (now (a .rows)) o (c .before .before .before .before .before .before .before .before .before .before .waiting-row .result) (c .before .before .before .before .before .before .before .before .before .before .waiting-row .ensures .0) (c .before .before .before .before .before .before .before .before .before .before .waiting-row .ensures .1) _ _ w refl q
 
 close-gap-requires-2 : tie.Need-close-gap-requires-2
 close-gap-requires-2 c κs = search needs
@@ -106,7 +106,7 @@ returns-2 c =
     let w = rw at at (sym (c .before .before .before .before .before .waits-at .ensures) ∙ c .before .before .before .before .if1 .left) in
     let q = ap (λ (l : List Row). set l (c .before .before .before .before .before .before .before .place-of .result - 1) (c .before .before .before .before .before .before .before .before .before .before .waiting-row .result)) (c .before .before .close-gap2 .ensures)
     ∙ ap (λ (n : ℕ). set (closeGap (a .from) 1 n (now (a .rows))) (n - 1) (c .before .before .before .before .before .before .before .before .before .before .waiting-row .result)) at in
-    placed-new (a .from) (a .e) (a .d) (now (a .rows)) o (c .before .before .before .before .before .before .before .before .before .before .waiting-row .result) (c .before .before .before .before .before .before .before .before .before .before .waiting-row .ensures) _ _ w refl q
+    placed-new (a .from) (a .e) (a .d) (now (a .rows)) o (c .before .before .before .before .before .before .before .before .before .before .waiting-row .result) (c .before .before .before .before .before .before .before .before .before .before .waiting-row .ensures .0) (c .before .before .before .before .before .before .before .before .before .before .waiting-row .ensures .1) _ _ w refl q
 
 pub put-row-spec : {M : Type 1} → statement M
 put-row-spec =
