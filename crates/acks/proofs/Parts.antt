@@ -13,10 +13,12 @@ use Rattle.definition.specs.Base.{keep, tally, all}
 use Rattle.definition.specs.Types.{Kind}
 use Rattle.definition.specs.Types as Def
 use Rattle.definition.specs.Consumer.{_⊕_, Step, isBrowser, free, redeliver}
-use Rattle.definition.specs.Layout.{Row, inflightAt, eventWords}
+use Rattle.definition.specs.Layout.{Row, inflightAt, eventWords, flyingStrict}
 use Rattle.consumers.specs.declared.Sub.{Sub}
 use Rattle.consumers.specs.Consumers.{subView}
 use Rattle.consumers.proofs.Laws.{browser-sub}
+use Rattle.consumers.proofs.Strict.{all-map}
+use Rattle.definition.proofs.Lists.{all-keep}
 use Rattle.definition.proofs.Thin.{tally-length}
 use Rattle.state.specs.declared.Head.{Head}
 use Rattle.state.specs.State.{withStats, withUsed, withEvents}
@@ -25,6 +27,7 @@ use Rattle.table.proofs.Lists.{slice-take}
 use Rattle.table.proofs.Bounds.{count-in, gone-in}
 use Rattle.table.proofs.Laws.{map-length, map-after, map-parts, remove-length, remove-after, remove-parts}
 use Rattle.table.proofs.Segments.{kept-length}
+use Rattle.table.proofs.Strict.{mark-strict, redeliver-strict}
 use Rattle.acks.specs.declared.Span.{Span}
 use Rattle.acks.specs.Rules.{inSpan, silently, acts, removedCounts, removedEvents}
 use Rattle.acks.specs.Parts.{nine, ownFlying, ownHeld, ownAfter, ownView, Own, Told, Acted}
@@ -53,7 +56,7 @@ module _ (base : ℕ) (t : Sub) (a f h c : List Row) (ea : length a ≡ base) (e
   after-parts = ap (drop (t .held)) rest-parts ∙ drop-at h c (t .held) eh
 
 module _ (base : ℕ) (s : Sub) (rows : List Row) where
-  in-parts : rows ≡ take base rows ++ (ownFlying base s rows ++ (ownHeld base s rows ++ ownAfter base s rows))
+  pub in-parts : rows ≡ take base rows ++ (ownFlying base s rows ++ (ownHeld base s rows ++ ownAfter base s rows))
   in-parts = sym (
       ap (λ (x : List Row). take base rows ++ (ownFlying base s rows ++ x)) (take-append-drop (s .held) (drop (s .inflight) (drop base rows)))
       ∙ ap (λ (x : List Row). take base rows ++ x) (take-append-drop (s .inflight) (drop base rows))
@@ -90,10 +93,11 @@ module _ (step : Def.Sub → Step) (k : Kind) (base : ℕ) (s t : Sub) (d q r : 
   pub acted : (f c : List Row) (m : ℕ) → rows′ ≡ take base rows ++ (f ++ (ownHeld base s rows ++ c)) → length f ≡ t .inflight → t .held ≡ s .held
       → take n c ≡ take n (ownAfter base s rows) → drop 512 rows′ ≡ drop 512 rows → length rows′ ≡ length rows
       → subView k t f (ownHeld base s rows) ≡ step (ownView k base s rows) .sub
+      → (all flyingStrict (ownFlying base s rows) ≡ true → all flyingStrict f ≡ true)
       → Told (step (ownView k base s rows) .counts) (step (ownView k base s rows) .events) m d q events events′
       → r ≡ withUsed (r .used) q → r .used + m ≤ d .used → r .used + s .inflight ≡ d .used + t .inflight
       → Acted step k base s t d r rows events rows′ events′
-  acted f c m e ef et ec past size view told er few used =
+  acted f c m e ef et ec past size view strict told er few used =
       let a : List Row = take base rows in
       let h : List Row = ownHeld base s rows in
       let ea : length a ≡ base = front-size base s rows d own in
@@ -107,6 +111,8 @@ module _ (step : Def.Sub → Step) (k : Kind) (base : ℕ) (s t : Sub) (d q r : 
         before = ap (take base) e ∙ take-at a (f ++ (h ++ c)) base ea;
         sub = ap₂ (subView k t) flies holds ∙ view;
         after = ap (take n) tail ∙ ec;
+        holds = holds;
+        strict = λ x. ap (all flyingStrict) flies ∙ strict x;
         past = past;
         size = size;
         flying = omega arith;
@@ -162,12 +168,13 @@ module _ (k : Kind) (base : ℕ) (s : Sub) (d : Head) (rows : List Row) (own : O
 
   -- by g, with x rows freed
   placed : (g : Row → Row) (step : Def.Sub → Def.Sub) (x : ℕ) (rows′ events : List Row) → rows′ ≡ mapRows g base end rows
+      → ((w : Row) → flyingStrict w ≡ true → flyingStrict (g w) ≡ true)
       → subView k (withFreed x s) (map g f) h ≡ step v → Acted (silently step) k base s (withFreed x s) d d rows events rows′ events
-  placed g step x rows′ events e view =
+  placed g step x rows′ events e strict view =
       let parts : rows′ ≡ take base rows ++ (map g f ++ (h ++ c)) =
       e ∙ ap (mapRows g base end) (in-parts base s rows) ∙ map-parts base end (take base rows) f (h ++ c) (front-size base s rows d own) end-is g in
       acted (silently step) k base s (withFreed x s) d d d rows events rows′ events own (map g f) c 0 parts (length-map f g ∙ flying-size base s rows d own) refl refl
-      (ap (drop 512) e ∙ map-after g base end rows 512 (omega arith)) (ap length e ∙ map-length g base end rows) view (told-none 0 d events) refl (omega arith) refl
+      (ap (drop 512) e ∙ map-after g base end rows 512 (omega arith)) (ap length e ∙ map-length g base end rows) view (all-map flyingStrict flyingStrict g strict f) (told-none 0 d events) refl (omega arith) refl
 
   module _ (p : Span) where
     pub acted-mark : (tx : Bool) (n : ℕ) (rows′ events : List Row) → all nine (slice base end rows) ≡ true
@@ -180,7 +187,7 @@ module _ (k : Kind) (base : ℕ) (s : Sub) (d : Head) (rows : List Row) (own : O
         en ∙ count-in (λ w. inRange (p .first) (p .last) w && not (isFreed w)) base end rows (omega arith) (omega arith)
         ∙ ap (tally (λ w. inRange (p .first) (p .last) w && not (isFreed w))) (flying-slice base s rows)
         ∙ sym (tally-map inflightAt (λ i. inSpan p i && not (i .freed)) f) in
-        placed (markRow (p .first) (p .last) tx) (free (inSpan p) tx) (s .freed + n) rows′ events e
+        placed (markRow (p .first) (p .last) tx) (free (inSpan p) tx) (s .freed + n) rows′ events e (mark-strict (p .first) (p .last) tx)
         (ap₂ (λ (l : List Def.Inflight) (m : ℕ). Def.withInflight l (Def.withFreed (s .freed + m) v)) (mark-flying p f tx own-nine) fresh)
 
     pub acted-raise : (rows′ events : List Row) → all nine (slice base end rows) ≡ true → rows′ ≡ mapRows (redeliverRow (p .first) (p .last)) base end rows
@@ -188,7 +195,7 @@ module _ (k : Kind) (base : ℕ) (s : Sub) (d : Head) (rows : List Row) (own : O
     unfolding subView
     acted-raise rows′ events nines e =
         let own-nine : all nine f ≡ true = ap (all nine) (sym (flying-slice base s rows)) ∙ nines in
-        placed (redeliverRow (p .first) (p .last)) (redeliver (inSpan p)) (s .freed) rows′ events e (ap (λ (l : List Def.Inflight). Def.withInflight l v) (raise-flying p f own-nine))
+        placed (redeliverRow (p .first) (p .last)) (redeliver (inSpan p)) (s .freed) rows′ events e (redeliver-strict (p .first) (p .last)) (ap (λ (l : List Def.Inflight). Def.withInflight l v) (raise-flying p f own-nine))
 
     -- ---- rows that go
 
@@ -256,7 +263,7 @@ module _ (k : Kind) (base : ℕ) (s : Sub) (d : Head) (rows : List Row) (own : O
         (ap (drop 512) e ∙ remove-after (inRange (p .first) (p .last)) base end (d .used) rows 512 (omega arith))
         (ap length e ∙ remove-length (inRange (p .first) (p .last)) base end (d .used) rows)
         (ap₂ (λ (l : List Def.Inflight) (z : ℕ). Def.withInflight l (Def.withFreed z v)) (sym (keep-flying p f)) (ey ∙ ap (λ (z : ℕ). s .freed - z) (ex ∙ freed-is)))
-        own-told (er ∙ ap (λ (y : ℕ). withUsed y q) (sym ru)) (omega arith) (omega arith)
+        (all-keep flyingStrict (λ r. not (inRange (p .first) (p .last) r)) f) own-told (er ∙ ap (λ (y : ℕ). withUsed y q) (sym ru)) (omega arith) (omega arith)
 
 -- ---- by the effect
 
@@ -288,6 +295,8 @@ acts-stays effect counts cause hit k base s d rows events u =
       before = refl;
       sub = refl;
       after = refl;
+      holds = refl;
+      strict = λ x. x;
       past = refl;
       size = refl;
       flying = omega arith;
@@ -308,6 +317,8 @@ acted-same step other k base s t d r rows events rows′ events′ e a = record 
   before = a .before;
   sub = a .sub ∙ ap (λ (x : Step). x .sub) e;
   after = a .after;
+  holds = a .holds;
+  strict = a .strict;
   past = a .past;
   size = a .size;
   flying = a .flying;

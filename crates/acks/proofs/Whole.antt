@@ -5,15 +5,16 @@ use mathlib.Core.List.{List, [], _∷_, _++_, map, append-nil}
 use mathlib.Core.Option.{some}
 use Prim.Native.Nat.{ℕ, suc, _+_, _-_, _≤_, _<_, min}
 use native.Mathlib.Omega.{arith}
-use lib.ListN.{length, take, drop, getD, set, length-set}
+use lib.ListN.{length, take, drop, getD, set, length-set, length-drop}
 use lib.Seq.{length-take-le, take-take, take-set-le, take-set-lt, drop-set-lt, getD-take, getD-set-same, drop-drop}
 use Rattle.entry.specs.Entry.{entryOf}
+use Rattle.definition.specs.Base.{all}
 use Rattle.definition.specs.Types.{Kind, Id, Audit, Dest}
 use Rattle.definition.specs.Types as Def
 use Rattle.definition.specs.Consumer.{_⊕_, Step, Ack, ackSub}
 use Rattle.definition.specs.Destination.{Out, subOf}
 use Rattle.definition.specs.Words.{at}
-use Rattle.definition.specs.Layout.{Row, heldAt, inflightOf, heldOf, subAt, subsAt, subRows, eventWords}
+use Rattle.definition.specs.Layout.{Row, heldAt, inflightOf, heldOf, subAt, subsAt, subRows, eventWords, entryStrict, subsStrict}
 use Rattle.table.proofs.Lists.{slice-take}
 use Rattle.consumers.specs.declared.Sub.{Sub}
 use Rattle.consumers.specs.declared.Found.the-variants.{At, Nothing}
@@ -22,14 +23,16 @@ use Rattle.consumers.specs.Consumers as Value
 use Rattle.consumers.specs.Seats.{afterIn, subIn}
 use Rattle.consumers.specs.Table.{positionFrom}
 use Rattle.consumers.proofs.View.{sub-at, sub-stored, subs-split, subs-set, subs-agree, rows-split, rows-set, after-all}
+use Rattle.consumers.proofs.Strict.{SubStrict, stored-strict, strict-at, strict-agree, strict-put, tables-strict, strict-tables}
 use Rattle.consumers.proofs.Seek.{position-within, found-at, put-at, found-none}
 use Rattle.consumers.proofs.Laws.{fitting-at}
 use Rattle.state.specs.declared.Head.{Head}
-use Rattle.state.specs.State.{headView, kindBy, withStats, withUsed, withEvents}
+use Rattle.state.specs.State.{headView, strictTables, kindBy, withStats, withUsed, withEvents}
 use Rattle.state.specs.Fits.{Fits}
 use Rattle.state.specs.Leaves.{Leaves, LeavesIf}
 use Rattle.acks.specs.Acks.{stepAt, acked}
 use Rattle.acks.specs.Parts.{ownFlying, ownHeld, ownAfter, ownView, Own, Acted, Kept}
+use Rattle.acks.proofs.Parts.{in-parts}
 
 -- lists that agree up to n agree in a part of that
 agree : (j k n : ℕ) (x y : List Row) → j + k ≤ n → take n x ≡ take n y → take k (drop j x) ≡ take k (drop j y)
@@ -71,6 +74,7 @@ module _ (subs rows events : List Row) (d : Head) (fits : Fits subs d (length ro
         consumers = fits .consumers;
         used = fits .used;
         rows-used = fits .rows-used;
+        strict = λ h. h;
         subs-past = refl;
         rows-past = refl;
         subs-length = refl;
@@ -204,8 +208,35 @@ module _ (subs rows events : List Row) (d : Head) (fits : Fits subs d (length ro
           ∙ ap (take m) (sym (drop-drop j (subRows post) (ownAfter base s rows)))
           ∙ ap (λ (l : List Row). take m (drop j l)) (sym others₀)
 
+      -- strict words stay strict
+      flying-size : length (ownFlying base t rows′) ≡ t .inflight
+      flying-size = length-take-le (t .inflight) (drop base rows′) (simp length-drop (omega (arith, own, a .size, a .flying)))
+
+      held-size : length (ownHeld base t rows′) ≡ t .held
+      held-size = length-take-le (t .held) (drop (t .inflight) (drop base rows′)) (simp length-drop (omega (arith, own, a .size, a .flying, a .held)))
+
+      subs-strict : subsStrict ws rows ≡ true → subsStrict ws′ rows′ ≡ true
+      unfolding Value.subOf subWords
+      subs-strict z =
+          let g = strict-at ws rows i within z in
+          let mine : SubStrict (subWords t) (ownFlying base t rows′) (ownHeld base t rows′) =
+          record { words = stored-strict t; flying = a .strict (g .own .flying); held = ap (all entryStrict) (a .holds) ∙ g .own .held } in
+          let last : subsStrict post (ownAfter base t rows′) ≡ true = strict-agree post n (ownAfter base t rows′) (ownAfter base s rows) (omega (arith, n-is)) (a .after) ∙ g .after in
+          ap (subsStrict ws′) (in-parts base t rows′ ∙ ap (λ (l : List Row). l ++ (ownFlying base t rows′ ++ (ownHeld base t rows′ ++ ownAfter base t rows′))) (a .before))
+          ∙ strict-put ws rows i (subWords t) (ownFlying base t rows′) (ownHeld base t rows′) (ownAfter base t rows′) within (omega (arith, own)) flying-size held-size g mine last
+
       abbrev same : {A : Type 0} (f : Head → A) → f r ≡ f (withUsed (r .used) (withEvents (r .events) (withStats (d .stats ⊕ step v .counts) d)))
       same f = ap f (a .head)
+
+      strict : strictTables d subs rows ≡ true → strictTables r subs′ rows′ ≡ true
+      strict z =
+          let m : ℕ = d .reserved + d .waiting in
+          let g = tables-strict m ws rows z in
+          same (λ (y : Head). strictTables y subs′ rows′)
+          ∙ strict-tables m (take (d .consumers) subs′) rows′ (record {
+            subs = ap (λ (l : List Row). subsStrict l rows′) ws-is ∙ subs-strict (g .subs);
+            others = ap (all entryStrict) (same-part 0 m (omega arith)) ∙ g .others;
+          })
 
       module _ (id : Id) (e : positionFrom 0 id ws ≡ At i) where
         abbrev does : Dest → Out
@@ -270,6 +301,7 @@ module _ (subs rows events : List Row) (d : Head) (fits : Fits subs d (length ro
                 consumers = omega (arith, fits .consumers);
                 used = omega (arith, fits .used);
                 rows-used = omega (arith, fits .rows-used);
+                strict = strict;
                 subs-past = drop-set-lt 32 subs i (subWords t) (omega (arith, fits .consumers));
                 rows-past = a .past;
                 subs-length = length-set subs i (subWords t);

@@ -1,6 +1,6 @@
 -- One consumer's part of the tables, whose rows begin at base, and what a step leaves of it. Assumes nothing.
 use mathlib.Core.Path.{_≡_}
-use mathlib.Core.Bool.{Bool, not, _&&_}
+use mathlib.Core.Bool.{Bool, true, not, _&&_}
 use mathlib.Core.List.{List, [], _∷_, _++_, map}
 use Prim.Native.Nat.{ℕ, _+_, _-_, _≤_, _^_}
 use lib.Dec.{eqb}
@@ -8,11 +8,11 @@ use lib.ListN.{length, take, drop, set}
 use Rattle.stats.specs.declared.Stats.{Stats}
 use Rattle.stats.specs.Counted.{withDiscardedBy}
 use Rattle.entry.specs.Entry.{entryOf}
-use Rattle.definition.specs.Base.{if_then_else_, tally}
+use Rattle.definition.specs.Base.{if_then_else_, tally, all}
 use Rattle.definition.specs.Types.{Kind, Event, letter}
 use Rattle.definition.specs.Types as Def
 use Rattle.definition.specs.Consumer.{_⊕_, Step}
-use Rattle.definition.specs.Layout.{Row, eventWords}
+use Rattle.definition.specs.Layout.{Row, eventWords, flyingStrict}
 use Rattle.consumers.specs.declared.Sub.{Sub}
 use Rattle.consumers.specs.Consumers.{subView}
 use Rattle.state.specs.declared.Head.{Head}
@@ -83,11 +83,14 @@ rowLetters cause (r ∷ l) =
 abbrev pub rowDiscards : (Row → Bool) → List Row → ℕ
 rowDiscards q l = tally (λ r. q r && not (entryOf r .persistent)) l
 
--- the consumer, the counters and the events are as the step has them, and the rows before and after are as they were
+-- the consumer, the counters and the events are as the step has them, the rows before and after and those that it holds are as they were, and
+-- strict rows in flight stay strict
 pub record Acted (step : Def.Sub → Step) (k : Kind) (base : ℕ) (s t : Sub) (d r : Head) (rows events rows′ events′ : List Row) : Type 0 where
   pub before : take base rows′ ≡ take base rows
   pub sub : ownView k base t rows′ ≡ step (ownView k base s rows) .sub
   pub after : take (d .used - (base + (s .inflight + s .held))) (ownAfter base t rows′) ≡ take (d .used - (base + (s .inflight + s .held))) (ownAfter base s rows)
+  pub holds : ownHeld base t rows′ ≡ ownHeld base s rows
+  pub strict : all flyingStrict (ownFlying base s rows) ≡ true → all flyingStrict (ownFlying base t rows′) ≡ true
   pub past : drop 512 rows′ ≡ drop 512 rows
   pub size : length rows′ ≡ length rows
   pub flying : t .inflight ≤ s .inflight

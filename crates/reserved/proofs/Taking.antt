@@ -1,12 +1,12 @@
 -- The rows that are taken out of the reserved ones, and what that leaves of the destination. Assumes nothing.
 use mathlib.Core.Path.{_≡_, refl, sym, ap, ap₂, _∙_, subst}
-use mathlib.Core.Bool.{Bool, false, not, _&&_}
+use mathlib.Core.Bool.{Bool, true, false, not, _&&_}
 use mathlib.Core.List.{List, [], _∷_, _++_, map, append-nil}
 use mathlib.Core.Option.{Option, none, some}
 use Prim.Native.Nat.{ℕ, _+_, _-_, _≤_}
 use native.Mathlib.Omega.{arith}
 use lib.ListN.{length, take, drop, length-drop, length-map, take-append-drop}
-use lib.Seq.{slice, length-slice, length-take-le, take-at, drop-at}
+use lib.Seq.{slice, length-slice, length-take-le, take-add, take-at, drop-at}
 use Rattle.stats.specs.declared.Stats.{Stats}
 use Rattle.stats.specs.Counted.{withDequeuedBy, withExpiredBy}
 use Rattle.model.specs.declared.AckCount.{AckCount}
@@ -14,20 +14,22 @@ use Rattle.model.specs.declared.AckCount.the-variants.{Uncounted, Dequeue, Expi
 use Rattle.model.specs.declared.AckRule.{AckRule}
 use Rattle.model.specs.Model.{ackRule}
 use Rattle.entry.specs.Entry.{entryOf}
-use Rattle.definition.specs.Base.{if_then_else_, keep, tally}
+use Rattle.definition.specs.Base.{if_then_else_, keep, tally, all}
 use Rattle.definition.specs.Types.{Kind, Id, Entry, Held, Audit, Event, Dest, letter}
 use Rattle.definition.specs.Consumer.{_⊕_, Ack, addDequeued, addExpired, addDiscarded}
 use Rattle.definition.specs.Destination.{Out, letters, ackReserved}
-use Rattle.definition.specs.Layout.{Row, heldAt, subsAt, subRows, eventWords}
+use Rattle.definition.specs.Layout.{Row, heldAt, subsAt, subRows, eventWords, entryStrict}
 use Rattle.definition.proofs.Tests.{by-test}
 use Rattle.definition.proofs.Thin.{tally-length}
+use Rattle.definition.proofs.Lists.{all-append, all-keep}
 use Rattle.definition.proofs.Local.{⊕-zero}
 use Rattle.table.specs.Table.{removeRows}
 use Rattle.table.proofs.Laws.{remove-length, remove-after, remove-parts}
 use Rattle.table.proofs.Segments.{kept-length}
 use Rattle.consumers.proofs.View.{subs-agree}
+use Rattle.consumers.proofs.Strict.{all-left, all-right, strict-agree, tables-strict, strict-tables}
 use Rattle.state.specs.declared.Head.{Head}
-use Rattle.state.specs.State.{headView, kindBy, withStats, withUsed, withEvents, withReserved, firstReserved, firstWaiting}
+use Rattle.state.specs.State.{headView, strictTables, kindBy, withStats, withUsed, withEvents, withReserved, firstReserved, firstWaiting}
 use Rattle.state.specs.Fits.{Fits}
 use Rattle.state.specs.Leaves.{Leaves}
 use Rattle.state.proofs.Counts.{dequeued-plain, expired-plain}
@@ -192,8 +194,20 @@ module _ (id : Id) (counts : AckCount) (p : Span) (d t r : Head) (gone : ℕ) (r
         ∙ ap (removeRows q base (base + d .reserved) (d .used)) in-parts
         ∙ remove-parts q base (base + d .reserved) (d .used) a s c z a-size (omega (arith, s-size)) (omega (arith, c-size, used-is))
 
+    before : take base rows′ ≡ take base rows
+    before = ap (take base) parts ∙ take-at a (kept ++ (c ++ junk)) base a-size
+
     others : drop base rows′ ≡ kept ++ (c ++ junk)
     others = ap (drop base) parts ∙ drop-at a (kept ++ (c ++ junk)) base a-size
+
+    left-is : take (d .reserved - gone) (drop base rows′) ≡ kept
+    left-is = ap (take (d .reserved - gone)) others ∙ take-at kept (c ++ junk) (d .reserved - gone) kept-size
+
+    waits-are : take (d .waiting) (drop (d .reserved - gone) (drop base rows′)) ≡ c
+    waits-are =
+        ap (λ (l : List Row). take (d .waiting) (drop (d .reserved - gone) l)) others
+        ∙ ap (take (d .waiting)) (drop-at kept (c ++ junk) (d .reserved - gone) kept-size)
+        ∙ take-at c junk (d .waiting) c-size
 
     -- the numbers
     abbrev x : Stats
@@ -213,21 +227,16 @@ module _ (id : Id) (counts : AckCount) (p : Span) (d t r : Head) (gone : ℕ) (r
     view : (ps : List Id) (qs : List Audit) → headView r subs rows′ ps qs ≡ taking id counts p (headView d subs rows ps qs) .dest
     unfolding headView taking wantsRow
     view ps qs =
-        let mine : subsAt k ws rows′ ≡ subsAt k ws rows = subs-agree k ws base rows′ rows (omega arith) (ap (take base) parts ∙ take-at a (kept ++ (c ++ junk)) base a-size) in
-        let left : take (d .reserved - gone) (drop base rows′) ≡ kept = ap (take (d .reserved - gone)) others ∙ take-at kept (c ++ junk) (d .reserved - gone) kept-size in
-        let waits : take (d .waiting) (drop (d .reserved - gone) (drop base rows′)) ≡ c =
-        ap (λ (l : List Row). take (d .waiting) (drop (d .reserved - gone) l)) others
-        ∙ ap (take (d .waiting)) (drop-at kept (c ++ junk) (d .reserved - gone) kept-size)
-        ∙ take-at c junk (d .waiting) c-size in
+        let mine : subsAt k ws rows′ ≡ subsAt k ws rows = subs-agree k ws base rows′ rows (omega arith) before in
         let held : map heldAt (take (d .reserved - gone) (drop base rows′)) ≡ keep (λ h. not (wants id p h)) (map heldAt s) =
-        ap (map heldAt) left ∙ sym (keep-map heldAt (λ h. not (wants id p h)) s) in
+        ap (map heldAt) left-is ∙ sym (keep-map heldAt (λ h. not (wants id p h)) s) in
         ap (λ (y : Head). headView y subs rows′ ps qs) head-is
         ∙ (λ j. record {
           kind = k;
           topicLimit = d .«topic_limit»;
           callLimit = d .«call_limit»;
           callsUsed = d .«calls_used»;
-          pending = map entryOf (waits j);
+          pending = map entryOf (waits-are j);
           subs = mine j;
           rr = d .turn;
           producers = ps;
@@ -235,6 +244,18 @@ module _ (id : Id) (counts : AckCount) (p : Span) (d t r : Head) (gone : ℕ) (r
           stats = x;
           idle = headView d subs rows ps qs .idle;
           reserved = held j;
+        })
+
+    -- strict words stay strict
+    strict : strictTables d subs rows ≡ true → strictTables r subs rows′ ≡ true
+    strict h =
+        let g = tables-strict (d .reserved + d .waiting) ws rows h in
+        let both : all entryStrict (s ++ c) ≡ true = ap (all entryStrict) (sym (take-add (d .reserved) (d .waiting) (drop base rows))) ∙ g .others in
+        let left : take (d .reserved - gone + d .waiting) (drop base rows′) ≡ kept ++ c = take-add (d .reserved - gone) (d .waiting) (drop base rows′) ∙ ap₂ (λ (l m : List Row). l ++ m) left-is waits-are in
+        ap (λ (y : Head). strictTables y subs rows′) head-is
+        ∙ strict-tables (d .reserved - gone + d .waiting) ws rows′ (record {
+          subs = strict-agree ws base rows′ rows (omega arith) before ∙ g .subs;
+          others = ap (all entryStrict) left ∙ all-append entryStrict kept c (all-keep entryStrict (λ w. not (q w)) s (all-left entryStrict s c both)) (all-right entryStrict s c both);
         })
 
     same-events : r .events ≡ t .events
@@ -270,6 +291,7 @@ module _ (id : Id) (counts : AckCount) (p : Span) (d t r : Head) (gone : ℕ) (r
             consumers = omega (arith, fits .consumers);
             used = omega (arith, fits .used);
             rows-used = omega arith;
+            strict = strict;
             subs-past = refl;
             rows-past = ap (drop 512) out ∙ remove-after q (firstReserved d) (firstWaiting d) (d .used) rows 512 (omega (arith, fits .used));
             subs-length = refl;
@@ -328,6 +350,7 @@ module _ (id : Id) (a : Ack) (subs rows events : List Row) (d : Head) (fits : Fi
       consumers = fits .consumers;
       used = fits .used;
       rows-used = fits .rows-used;
+      strict = λ h. h;
       subs-past = refl;
       rows-past = refl;
       subs-length = refl;
