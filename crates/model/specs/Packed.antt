@@ -1,7 +1,9 @@
--- A rule as a number of six hexadecimal digits, as the table of ack types has it. Assumes nothing.
+-- A rule as a number of six hexadecimal digits, as the table of ack types has it, and where it stands there. Assumes nothing.
 use Prim.Native.Nat.{ℕ, _/_, _%_, _^_}
 use lib.Dec.{eqb}
 use Rattle.words.specs.Pick.{if_then_else_}
+use Rattle.model.specs.declared.AckType.{AckType}
+use Rattle.model.specs.declared.AckType.the-variants.{Delivered, Poison, Standard, Redelivered, Individual, Unmatched, Expired, Other}
 use Rattle.model.specs.declared.AckRange.{AckRange}
 use Rattle.model.specs.declared.AckRange.the-variants.{Empty, Between, Cumulative, Last}
 use Rattle.model.specs.declared.AckEffect.{AckEffect}
@@ -9,6 +11,17 @@ use Rattle.model.specs.declared.AckEffect.the-variants.{Stays, Frees, Ma
 use Rattle.model.specs.declared.AckCount.{AckCount}
 use Rattle.model.specs.declared.AckCount.the-variants.{Uncounted, Dequeue, Expiry, DeadLetter}
 use Rattle.model.specs.declared.AckRule.{AckRule}
+
+-- the place of a type is its byte; where a byte names no type, the byte
+abbrev pub placeOf : AckType → ℕ → ℕ
+placeOf Delivered k = 0
+placeOf Poison k = 1
+placeOf Standard k = 2
+placeOf Redelivered k = 3
+placeOf Individual k = 4
+placeOf Unmatched k = 5
+placeOf Expired k = 6
+placeOf Other k = k
 
 unfoldable pub rangeOf : ℕ → AckRange
 rangeOf d = if eqb d 0 then Empty else if eqb d 1 then Between else if eqb d 2 then Cumulative else Last

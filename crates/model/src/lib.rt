@@ -1,7 +1,7 @@
 // Identifiers as numbers, and the ack types of model.rs.
 ghost use mathlib.Core.Path.{_≡_};
 ghost use Rattle.model.specs.Model.{newId, idOf, sameId, ackType, ackRule};
-ghost use Rattle.model.specs.Packed.{rangeOf, effectOf, countOf};
+ghost use Rattle.model.specs.Packed.{placeOf, rangeOf, effectOf, countOf};
 
 // ConsumerId and ProducerId: the host's numbers for their texts, one to one.
 pub struct Id {
@@ -84,6 +84,22 @@ impl AckType {
             AckType::UNMATCHED => AckType::Unmatched,
             AckType::EXPIRED => AckType::Expired,
             _ => AckType::Other,
+        }
+    }
+
+    // The place in a table of all bytes: the type's constant; where a byte names no type, the byte.
+    fn place(self, byte: u8) -> u8
+        ensures { λ r. ⌜ r ≡ placeOf self byte ⌝ }
+    {
+        match self {
+            AckType::Delivered => AckType::DELIVERED,
+            AckType::Poison => AckType::POISON,
+            AckType::Standard => AckType::STANDARD,
+            AckType::Redelivered => AckType::REDELIVERED,
+            AckType::Individual => AckType::INDIVIDUAL,
+            AckType::Unmatched => AckType::UNMATCHED,
+            AckType::Expired => AckType::EXPIRED,
+            AckType::Other => byte,
         }
     }
 }
@@ -431,7 +447,8 @@ impl AckRule {
     pub fn of(byte: u8) -> AckRule
         ensures { λ r. ⌜ r ≡ ackRule byte ⌝ }
     {
-        let rule = AckRule::TABLE[byte as usize];
+        let kind = AckType::new(byte);
+        let rule = AckRule::TABLE[kind.place(byte) as usize];
         AckRule {
             range: AckRange::of(rule / 0x10_0000 % 16),
             effect: AckEffect::of(rule / 0x1_0000 % 16),

@@ -1,18 +1,28 @@
--- `model::AckRule::of` meets its contract: the table's rule is one equation over all its entries, which antt computes.
+-- `model::AckRule::of` meets its contract: the table's rule is one equation over all its entries, which antt computes; the place of a byte's
+-- type has that byte's rule.
 -- Assumes nothing.
-use mathlib.Core.Path.{refl}
+use mathlib.Core.Path.{refl, ap, _∙_}
 use mathlib.Core.List.{List, _∷_}
 use Prim.Native.Nat.{ℕ}
 use lib.ListN.{replicate}
 use borrow.Author.Needs.{needs}
 use Rattle.model.specs.Model.{ackType, ackRule}
 use Rattle.model.specs.Packed.{rangeOf, effectOf, countOf}
-use Rattle.model.proofs.Table.{at}
+use Rattle.model.proofs.Table.{at, placed}
 use Rattle.model.proofs.AckRule.of.Statement.{statement}
 use Rattle.model.proofs.AckRule.of.Tie as tie
 
 table : List ℕ
 table = 0x111100 ∷ 0x131213 ∷ 0x232221 ∷ 0x141200 ∷ 0x331231 ∷ 0x232221 ∷ 0x131212 ∷ replicate 249 0x001200
+
+new-requires : tie.Need-new-requires
+new-requires c κs = search needs
+
+place-requires : tie.Need-place-requires
+place-requires c κs = search needs
+
+cast-rule : tie.Need-cast-rule
+cast-rule c = search needs
 
 mul-rule : tie.Need-mul-rule
 mul-rule c = search needs
@@ -41,6 +51,8 @@ of-requires-6 c κs = search needs
 returns : tie.Need-returns
 unfolding table ackType ackRule rangeOf effectOf countOf
 returns c =
+    let place = c .before .before .before .before .before .before .place in
+    let kind = c .before .before .before .before .before .before .before .new in
     rw (
       c .before .before .before .before .before .of .ensures,
       c .before .before .before .before .of2 .ensures,
@@ -49,12 +61,15 @@ returns c =
       c .before .of5 .ensures,
       c .of6 .ensures,
     )
-    (at table refl (c .before .before .before .before .before .before .args .byte) (search needs))
+    (at table refl (place .result) (search needs) ∙ ap ackRule (place .ensures) ∙ placed (kind .result) (c .before .before .before .before .before .before .before .before .args .byte) (kind .ensures))
 
 pub of-spec : {M : Type 1} → statement M
 of-spec =
     tie.close
     (tie.spec
+    new-requires
+    place-requires
+    cast-rule
     mul-rule
     array-read-rule
     of-requires
