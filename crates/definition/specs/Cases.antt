@@ -99,9 +99,14 @@ abbrev left : ℤ → Ran
 left last = ran (joining (plain 9 (pos 3)) 1 ∷ enqueuing (entry 10 (pos 0)) 1 ∷ enqueuing (entry 20 (pos 0)) 1 ∷ enqueuing (entry 30 (pos 0)) 1
     ∷ asking (consumer 9) (acknowledge (acks 4 true (some 30) (some 30)) 2) ∷ leaving (consumer 9) last 3 ∷ []) (opened queue 0 100 0)
 
+-- three in flight, all acknowledged in a transaction; the consumer leaves, and they stay reserved
+abbrev kept : Ran
+kept = ran (joining (plain 9 (pos 3)) 1 ∷ enqueuing (entry 10 (pos 0)) 1 ∷ enqueuing (entry 20 (pos 0)) 1 ∷ enqueuing (entry 30 (pos 0)) 1
+    ∷ asking (consumer 9) (acknowledge (acks 2 true none (some 30)) 2) ∷ leaving (consumer 9) (negsuc 0) 3 ∷ []) (opened queue 0 100 0)
+
 -- then a STANDARD with last -1, or a POISON with first and last -1
 abbrev afterwards : ℕ → Option ℕ → Ran
-afterwards type first = ran (asking (consumer 9) (acknowledge (acks type false first (some 18446744073709551615)) 4) ∷ []) (left (negsuc 0) .dest)
+afterwards type first = ran (asking (consumer 9) (acknowledge (acks type false first (some 18446744073709551615)) 4) ∷ []) (kept .dest)
 
 abbrev acked : List ℕ → List Call
 acked [] = []
@@ -335,10 +340,11 @@ starred =
     ∷ sameNumbers (counts (leftWith (pos 2147483647) (negsuc 0))) (2147483647 ∷ 2147483647 ∷ 2147483647 ∷ [])
     ∷ sameSigned (oneMore (pos 2147483647)) (pos 2147483647)
     -- Reserved entries: STANDARD with last -1 takes all, as the number is read as unsigned
-    ∷ sameNumbers (counters (afterwards 2 none .dest)) (3 ∷ 1 ∷ 0 ∷ 0 ∷ 3 ∷ [])
+    ∷ sameNumbers (map (λ h. h .entry .seq) (kept .dest .reserved)) (10 ∷ 20 ∷ 30 ∷ [])
+    ∷ sameNumbers (counters (afterwards 2 none .dest)) (3 ∷ 3 ∷ 0 ∷ 0 ∷ 3 ∷ [])
     ∷ sameNumbers (map (λ h. h .entry .seq) (afterwards 2 none .dest .reserved)) []
     -- POISON with first and last -1 takes none
-    ∷ sameNumbers (map (λ h. h .entry .seq) (afterwards 1 (some 18446744073709551615) .dest .reserved)) (30 ∷ [])
+    ∷ sameNumbers (map (λ h. h .entry .seq) (afterwards 1 (some 18446744073709551615) .dest .reserved)) (10 ∷ 20 ∷ 30 ∷ [])
     -- Expiration 0 or -1 never expires; equal to the clock is expired; clock + 1 is not
     ∷ not (expired (pos 50) (entry 1 (pos 0)))
     ∷ not (expired (pos 50) (entry 1 (negsuc 0)))
