@@ -19,7 +19,8 @@
  * `struct destination` has all four. Longer arrays will do: what stands past these sizes is never read or written. A shorter
  * one gets refusal 1. docs/LAYOUT.md says what each word of the state holds; a caller that only calls need not know.
  * The state starts with an accepted `open`, whatever the arrays held before. They may be copied, stored and lent again, at another
- * address too. What comes back is tested: a state whose numbers do not fit together (document 01: not sound) gets refusal 2.
+ * address too. What comes back is tested: a state whose numbers do not fit together, with a kind or a mark that is not 0 or 1, or with a
+ * redelivery that is no 32-bit number (document 01: not sound), gets refusal 2. Words that are not in use may be any.
  *
  * Whose memory. All of it is the caller's. The library keeps no pointer after a call. Each array is passed as a pointer to its first
  * element and its number of elements (words of head; rows of the others). No pointer may be null. The four arrays must not
@@ -65,7 +66,7 @@ extern "C" {
 
 #define DESTINATION_ACCEPTED 0
 #define DESTINATION_SHORT 1         /* a state array is short, the event list holds under 545, or a page list under 50 lines */
-#define DESTINATION_NOT_SOUND 2     /* the state's numbers do not fit together, as before the first open; open does not ask */
+#define DESTINATION_NOT_SOUND 2     /* the state's numbers do not fit or are out of range, as before the first open; open does not ask */
 #define DESTINATION_ARGUMENTS 3     /* a number is outside its range, a code is unknown, or an unused word is not 0 */
 #define DESTINATION_CALLS_USED_UP 9 /* as many calls were accepted as the call limit says; open does not ask */
 #define DESTINATION_NUMBER_HELD 4   /* enqueue: the sequence number is held in a row, wherever it stands */

@@ -42,6 +42,7 @@ static struct buffers clean;  /* what real calls have left */
 
 static uint64_t seed = 1;
 static uint64_t states, sent, most_sent, batches, batched;
+static uint64_t marked[2]; /* states with one mark, kind or redelivery set: not sound, sound */
 
 /* states by kind and by what their call got (0: accepted) */
 enum kind { REAL, DAMAGED, LENGTHS, RANDOM };
@@ -366,8 +367,35 @@ static void damage_pair(void)
     }
 }
 
+static struct lent lent(struct lengths n);
+static const struct lengths exact = {DESTINATION_HEAD_WORDS, DESTINATION_CONSUMERS, DESTINATION_ROWS, DESTINATION_EVENTS};
+
+/* the kind, a mark or a redelivery, sometimes where it is not in use */
+static void damage_mark(void)
+{
+    static const size_t of_consumer[] = {5, 6, 7, 10}, of_row[] = {2, 5, 7, 8};
+    static const uint64_t ends[] = {0, 1, 2, 7, INT32_MAX, UINT64_C(1) << 31, UINT64_C(1) << 32, (uint64_t)INT32_MIN,
+                                    (uint64_t)INT32_MIN - 1, UINT64_MAX};
+    uint64_t word = ends[below(sizeof ends / sizeof *ends)];
+    switch (below(4)) {
+    case 0:
+        put(&work.head[5 * below(2)], word);
+        break;
+    case 1:
+        put(&work.subs[below(clean.head[12] + 1) % DESTINATION_CONSUMERS][of_consumer[below(4)]], word);
+        break;
+    default:
+        put(&work.rows[below(used_rows() + 4) % DESTINATION_ROWS][of_row[below(4)]], word);
+    }
+    marked[paper_sound(lent(exact))]++;
+}
+
 static void damage(uint64_t words)
 {
+    if (words == 1 && one_in(2)) {
+        damage_mark();
+        return;
+    }
     if (words == 2 && one_in(2)) {
         damage_pair();
         return;
@@ -378,7 +406,30 @@ static void damage(uint64_t words)
     }
 }
 
-/* any words at all; sometimes small ones, so that the counts may fit */
+/* mostly one of the two */
+static uint64_t some_mark(void)
+{
+    return one_in(20) ? odd_number() : below(2);
+}
+
+/* kind and marks */
+static void remark(struct buffers *b)
+{
+    b->head[0] = some_mark();
+    b->head[5] = some_mark();
+    for (size_t i = 0; i < SUBS; i++) {
+        for (size_t j = 5; j < 8; j++)
+            b->subs[i][j] = some_mark();
+        b->subs[i][10] = some_mark();
+    }
+    for (size_t i = 0; i < ROWS; i++) {
+        b->rows[i][2] = some_mark();
+        b->rows[i][7] = some_mark();
+        b->rows[i][8] = some_mark();
+    }
+}
+
+/* any words at all; sometimes small ones, so that the counts may fit, and marks */
 static void randomise(struct buffers *b)
 {
     uint64_t small = below(3);
@@ -390,6 +441,8 @@ static void randomise(struct buffers *b)
     for (size_t i = 0; i < ROWS; i++)
         for (size_t j = 0; j < DESTINATION_ROW_WORDS; j++)
             b->rows[i][j] = small ? any() >> 40 : odd_number();
+    if (small)
+        remark(b);
 }
 
 /* ---- a call and what must hold after it */
@@ -413,13 +466,11 @@ static struct destination_outcome lend(struct lengths n, struct destination_requ
     return destination_call(work.head, n.head, work.subs, n.subs, work.rows, n.rows, work.events, n.events, r);
 }
 
-/* one more is counted, one more call is used, and nothing else has changed; marks are written as 0 or 1, and an unused clock as any */
+/* one more is counted, one more call is used, and nothing else has changed, save an unused clock */
 static bool counted(struct destination_request r)
 {
     static struct buffers after;
     memcpy(&after, &before, sizeof after);
-    after.head[0] = after.head[0] != 0;
-    after.head[5] = after.head[5] != 0;
     after.head[6] = after.head[5] != 0 ? after.head[6] : work.head[6];
     after.head[r.code == ADD_DISCARDED ? 10 : 9]++;
     after.head[3]++;
@@ -532,7 +583,7 @@ static void ask_counters(struct lent s, uint64_t barred)
 static bool same_line(const struct destination_line *l, const uint64_t *row)
 {
     return l->sequence == row[0] && l->expiration == destination_signed(row[1]) &&
-           l->redelivery == destination_signed(row[5] << 32) >> 32;
+           l->redelivery == destination_signed(row[5]);
 }
 
 static void ask_page(struct lent s, uint64_t barred)
@@ -574,8 +625,6 @@ static void ask(struct lengths n)
 }
 
 /* ---- the states */
-
-static const struct lengths exact = {DESTINATION_HEAD_WORDS, DESTINATION_CONSUMERS, DESTINATION_ROWS, DESTINATION_EVENTS};
 
 static size_t some_length(size_t least, size_t most)
 {
@@ -708,6 +757,8 @@ static int table(void)
     printf("\nevents %" PRIu64 ", at most %" PRIu64 " in a call\n", sent, most_sent);
     printf("queries: answered %" PRIu64 ", refused with 1 %" PRIu64 ", 2 %" PRIu64 ", 3 %" PRIu64 "\n", asked[0], asked[1], asked[2], asked[3]);
     printf("many calls at once %" PRIu64 " times, %" PRIu64 " calls\n", batches, batched);
+    printf("one mark, kind or redelivery set: sound %" PRIu64 ", not sound %" PRIu64 "\n", marked[1], marked[0]);
+    missing |= marked[0] == 0 || marked[1] == 0;
     missing |= asked[0] == 0 || asked[1] == 0 || asked[2] == 0 || asked[3] == 0;
     if (missing)
         printf("not every refusal was met\n");

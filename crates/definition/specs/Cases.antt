@@ -6,7 +6,7 @@ use mathlib.Core.List.{List, [], _∷_, _++_, map}
 use mathlib.Core.Option.{Option, none, some}
 use lib.Dec.{eqb, T}
 use lib.IntN.{ℤ, pos, negsuc}
-use lib.ListN.{length, getD}
+use lib.ListN.{length, getD, set}
 use Rattle.definition.specs.Base.{keep, is-some, every, upFrom}
 use Rattle.definition.specs.Types.{queue, topic, Id, Entry, Sub, Audit, Dest, Event, letter, message, null, withPull, withPending, withSubs, withRr, withProducers, withAudits, withIdle}
 use Rattle.definition.specs.Consumer.{expired, Ack, ackRange, ackSub, send, oneMore, consumerOpen}
@@ -262,6 +262,45 @@ lentRow seq redelivery dseq = seq ∷ 0 ∷ 1 ∷ 7 ∷ 0 ∷ redelivery ∷ dse
 abbrev lentWith : ℕ → ℕ → Buffers
 lentWith waits rows = record { head = lentHead waits; subs = lentSub ∷ map (λ k. []) (upFrom 0 31); rows = lentRow 5 0 1 ∷ lentRow 6 (minus 1) 0 ∷ map (λ k. []) (upFrom 2 (rows - 2)) }
 
+-- whether one with this head, these first consumers and these first rows is sound
+abbrev soundWith : List ℕ → List (List ℕ) → List (List ℕ) → Bool
+soundWith head subs rows = soundBuffers (record { head = head; subs = subs ++ map (λ k. []) (upFrom 0 (32 - length subs)); rows = rows ++ map (λ k. []) (upFrom 0 (512 - length rows)) })
+
+-- of this kind, with nothing that waits
+abbrev kindWith : ℕ → Bool
+kindWith x = soundWith (set (lentHead 0) 0 x) (lentSub ∷ []) (lentRow 5 0 1 ∷ [])
+
+-- with another word of the head; with another consumer; with another row in flight; with another row that waits
+abbrev headWith : ℕ → ℕ → Bool
+headWith k x = soundWith (set (lentHead 1) k x) (lentSub ∷ []) (lentRow 5 0 1 ∷ lentRow 6 0 0 ∷ [])
+
+abbrev subWith : ℕ → ℕ → Bool
+subWith k x = soundWith (lentHead 1) (set lentSub k x ∷ []) (lentRow 5 0 1 ∷ lentRow 6 0 0 ∷ [])
+
+abbrev flyingWith : ℕ → ℕ → Bool
+flyingWith k x = soundWith (lentHead 1) (lentSub ∷ []) (set (lentRow 5 0 1) k x ∷ lentRow 6 0 0 ∷ [])
+
+abbrev waitingWith : ℕ → ℕ → Bool
+waitingWith k x = soundWith (lentHead 1) (lentSub ∷ []) (lentRow 5 0 1 ∷ set (lentRow 6 0 0) k x ∷ [])
+
+-- with a row in a browser's snapshot; with one that is reserved
+abbrev snapshotWith : ℕ → ℕ → Bool
+snapshotWith k x = soundWith (lentHead 1) (set (set lentSub 6 1) 15 1 ∷ []) (lentRow 5 0 1 ∷ set (lentRow 7 0 0) k x ∷ lentRow 6 0 0 ∷ [])
+
+abbrev reservedWith : ℕ → ℕ → Bool
+reservedWith k x = soundWith (set (lentHead 1) 15 1) (lentSub ∷ []) (lentRow 5 0 1 ∷ set (lentRow 7 0 0) k x ∷ lentRow 6 0 0 ∷ [])
+
+-- the row in flight is freed, with this mark
+abbrev freedWith : ℕ → Bool
+freedWith x = soundWith (lentHead 1) (set lentSub 13 1 ∷ []) (set (lentRow 5 0 1) 7 x ∷ lentRow 6 0 0 ∷ [])
+
+-- a row whose words are all out of range but for those that make it an entry, and a consumer whose marks are
+abbrev junkRow : List ℕ
+junkRow = 5 ∷ 0 ∷ 7 ∷ 7 ∷ 0 ∷ 4294967296 ∷ 9 ∷ 2 ∷ 2 ∷ []
+
+abbrev junkSub : List ℕ
+junkSub = set (set (set (set lentSub 5 2) 6 2) 7 2) 10 2
+
 abbrev acksFive : List ℕ
 acksFive = 9 ∷ 1 ∷ 1 ∷ 1028 ∷ 0 ∷ 5 ∷ 31 ∷ 0 ∷ []
 
@@ -475,8 +514,48 @@ buffers =
     ∷ sameNumbers (onBuffers (lentWith 512 512) 545 0 (0 ∷ 0 ∷ 1 ∷ 0 ∷ 0 ∷ 0 ∷ 0 ∷ 0 ∷ [])) (0 ∷ 0 ∷ [])
     ∷ []
 
+-- stored words: kind and marks are 0 or 1, a redelivery is an i32 sign-extended to its word; what is not in use may be any
+abbrev stored : List Bool
+stored =
+    headWith 5 1
+    ∷ kindWith 0
+    ∷ kindWith 1
+    ∷ not (kindWith 2)
+    ∷ not (headWith 5 2)
+    ∷ subWith 5 1
+    ∷ not (subWith 5 2)
+    ∷ not (subWith 6 2)
+    ∷ subWith 7 1
+    ∷ not (subWith 7 7)
+    ∷ subWith 10 1
+    ∷ not (subWith 10 2)
+    ∷ flyingWith 2 0
+    ∷ not (flyingWith 2 7)
+    ∷ not (flyingWith 5 4294967296)
+    ∷ flyingWith 8 1
+    ∷ not (flyingWith 8 2)
+    ∷ freedWith 1
+    ∷ not (freedWith 2)
+    ∷ waitingWith 5 2147483647
+    ∷ not (waitingWith 5 2147483648)
+    ∷ waitingWith 5 (minus 2147483648)
+    ∷ not (waitingWith 5 (minus 2147483649))
+    ∷ not (waitingWith 2 2)
+    ∷ snapshotWith 8 7
+    ∷ not (snapshotWith 2 2)
+    ∷ not (snapshotWith 5 4294967296)
+    ∷ reservedWith 7 (minus 5)
+    ∷ not (reservedWith 2 2)
+    ∷ not (reservedWith 5 4294967296)
+    -- one that waits behind a reserved one
+    ∷ not (soundWith (set (lentHead 1) 15 1) (lentSub ∷ []) (lentRow 5 0 1 ∷ lentRow 7 0 0 ∷ set (lentRow 6 0 0) 2 2 ∷ []))
+    ∷ waitingWith 7 2
+    ∷ waitingWith 8 7
+    ∷ soundWith (lentHead 1) (lentSub ∷ junkSub ∷ []) (lentRow 5 0 1 ∷ lentRow 6 0 0 ∷ junkRow ∷ [])
+    ∷ []
+
 cases : List Bool
-cases = starred ++ (corners ++ (refusals ++ (words ++ (queries ++ buffers))))
+cases = starred ++ (corners ++ (refusals ++ (words ++ (queries ++ (buffers ++ stored)))))
 
 all-right : T (every cases)
 unfolding cases consumerOpen destinationOpen callsOpen wordsOpen queriesOpen layoutOpen Rows.entryOf Ring.orderOf Ring.auditOk

@@ -1,29 +1,28 @@
 -- The head's tests: where the code may stop, the rings of the audits one by one, and the bound that fits a word. Assumes nothing.
 use mathlib.Core.Path.{_≡_, sym, ap, ap₂, _∙_}
-use mathlib.Core.Bool.{Bool, true, false, _&&_, _||_, or-false}
+use mathlib.Core.Bool.{Bool, true, false, _&&_}
 use mathlib.Core.List.{List}
 use Prim.Native.Nat.{ℕ, suc, _+_, _-_, _≤_, _<_, _^_}
 use native.Mathlib.Omega.{arith}
-use borrow.Author.Tests.{ltb-true, leb-true, ne-eqb}
-use lib.Dec.{leb, ltb, eqb}
+use borrow.Author.Tests.{leb-true}
+use lib.Dec.{leb}
 use lib.ListN.{drop}
 use lib.Seq.{getD-drop, drop-drop}
-use Rattle.words.proofs.Tests.{by-test}
 use Rattle.audit.specs.Audit as Ring
 use Rattle.audit.specs.declared.Audit as RingState
 use Rattle.definition.specs.Calls.{bound, countersOk}
 use Rattle.definition.specs.Words.{at}
 use Rattle.definition.specs.Layout.{statsAt, ringAt, ringsFormed}
 use Rattle.definition.proofs.Tests.{and-left, and-right}
-use Rattle.sound.specs.Sound.{limitsOk, countsOk, idleOk, headOk}
+use Rattle.sound.specs.Sound.{limitsOk, countsOk, marksOk, headOk}
 
 pub head-stop : (h : List ℕ) → limitsOk h ≡ false → false ≡ headOk h
 unfolding headOk
-head-stop h e = sym (ap (λ (b : Bool). b && (countsOk h && (idleOk h && countersOk (bound (at 3 h)) (statsAt h)))) e)
+head-stop h e = sym (ap (λ (b : Bool). b && (countsOk h && (marksOk h && countersOk (bound (at 3 h)) (statsAt h)))) e)
 
-pub head-rest : (h : List ℕ) → limitsOk h ≡ true → (countsOk h && (idleOk h && countersOk (bound (at 3 h)) (statsAt h))) ≡ headOk h
+pub head-rest : (h : List ℕ) → limitsOk h ≡ true → (countsOk h && (marksOk h && countersOk (bound (at 3 h)) (statsAt h))) ≡ headOk h
 unfolding headOk
-head-rest h e = sym (ap (λ (b : Bool). b && (countsOk h && (idleOk h && countersOk (bound (at 3 h)) (statsAt h)))) e)
+head-rest h e = sym (ap (λ (b : Bool). b && (countsOk h && (marksOk h && countersOk (bound (at 3 h)) (statsAt h)))) e)
 
 pub limits-used : (h : List ℕ) → limitsOk h ≡ true → at 3 h ≤ 2 ^ 40
 limits-used h e =
@@ -36,12 +35,6 @@ limits-used h e =
     )
 
 -- ---- rings
-
-pub ring-tests : (start count : ℕ) → ((ltb count 1024 && eqb start 0) || (eqb count 1024 && ltb start 1024)) ≡ Ring.auditOk (record { start = start; count = count })
-unfolding Ring.auditOk
-ring-tests start count = by-test (ltb count 1024)
-    (λ t. rw (t, ne-eqb count 1024 (λ e. omega (arith, ltb-true count 1024 t))) (or-false (eqb start 0)))
-    (λ t. by-test (eqb count 1024) (λ u. rw (t, u)) (λ u. rw (t, u)))
 
 module _ (h : List ℕ) (m from : ℕ) (total : Bool) (e : ringsFormed m (drop from h) ≡ total) where
   rings-turn : 0 < m → (Ring.auditOk (record { start = at (from + 3) h; count = at (from + 4) h }) && ringsFormed (m - 1) (drop (from + 1029) h)) ≡ total

@@ -9,7 +9,7 @@ use native.Mathlib.Omega.{arith}
 use borrow.Author.Tests.{eq-eqb, ltb-true, leb-true, eqb-true, lt-ltb, le-leb}
 use lib.Dec.{leb, ltb, eqb}
 use lib.ListN.{length, take, drop, length-append, length-take, length-drop, length-map}
-use lib.Seq.{drop-drop, getD-drop, length-take-le}
+use lib.Seq.{drop-drop, getD-drop, length-take-le, take-add}
 use Rattle.words.specs.Pick.{if_then_else_}
 use Rattle.words.proofs.Tests.{by-test}
 use Rattle.audit.specs.Audit as Ring
@@ -20,13 +20,13 @@ use Rattle.definition.specs.Types.{Kind, queue, topic, Entry, Sub, Dest}
 use Rattle.definition.specs.Consumer.{shown, isBrowser}
 use Rattle.definition.specs.Calls.{word, idOk, entryOk, clockOk, bound, seqs, flying, rowsOf, subTests, subSound, consumerRows, taken, held, allRows, placed, auditOk, soundTests, sound}
 use Rattle.definition.specs.Words.{at, kindOf}
-use Rattle.definition.specs.Layout.{Row, Buffers, idAt, heldAt, subAt, eachSub, subsAt, subRows, idsAt, ringAt, auditsAt, view, usedRows, ringsFormed, formed, soundBuffers}
+use Rattle.definition.specs.Layout.{Row, Buffers, idAt, heldAt, subAt, eachSub, subsAt, subRows, idsAt, ringAt, auditsAt, view, usedRows, ringsFormed, isMark, entryStrict, subStrict, subsStrict, tablesStrict, strict, formed, soundBuffers}
 use mathlib.Core.List.{append-nil}
 use Rattle.definition.proofs.Tests.{and-left, and-right, and-both}
 use Rattle.definition.proofs.Thin.{every-all, all-every, map-append}
 use Rattle.distinct.proofs.Laws.{iff, distinct-left, distinct-right}
-use Rattle.sound.specs.Sound.{limitsOk, countsOk, idleOk, headOk, rowOk, holderOk, ownTests, ownSound, kindBy, seqsAt, apartBy, emptyBy, reservedAt, waitingAt, queueApart, tableTests, tablesOk, lent, restOk}
-use Rattle.sound.proofs.Tests.{empty-take, all-map}
+use Rattle.sound.specs.Sound.{limitsOk, countsOk, marksOk, headOk, rowOk, holderOk, ownTests, ownSound, ownOk, eachOk, kindBy, seqsAt, apartBy, emptyBy, reservedAt, waitingAt, queueApart, tableTests, tablesOk, lent, restOk}
+use Rattle.sound.proofs.Tests.{swap-inner, empty-take, all-map}
 use Rattle.sound.proofs.Rows.{id-fits}
 use Rattle.sound.proofs.Subs.{seqs-rows, rows-ok, sorted-means, all-append, rows-of-sub, optional-test, ids-means}
 
@@ -244,6 +244,17 @@ rows-count k (w ∷ ws) rows =
     ap length (rows-of-sub k w f h) ∙ length-append (map entryOf f) (map entryOf h) ∙ ap₂ _+_ (length-map f entryOf) (length-map h entryOf) in
     omega (arith, length-append (rowsOf (subAt k w f h)) rest, e, length-take (at 14 w) rows, length-take (at 15 w) (drop (at 14 w) rows), rows-count k ws (drop (at 15 w) (drop (at 14 w) rows)))
 
+-- the tests of the consumers, and their words
+each-parts : (k : Kind) (most : ℕ) (ws rows : List Row) → eachOk k most ws rows ≡ (all (ownSound k most) (subsAt k ws rows) && subsStrict ws rows)
+unfolding eachSub
+each-parts k most [] rows = refl
+each-parts k most (w ∷ ws) rows =
+    let f = take (at 14 w) rows in
+    let h = take (at 15 w) (drop (at 14 w) rows) in
+    let rest = drop (at 15 w) (drop (at 14 w) rows) in
+    ap (λ (t : Bool). ownOk k most w f h && t) (each-parts k most ws rest)
+    ∙ swap-inner (ownSound k most (subAt k w f h)) (subStrict w f h) (all (ownSound k most) (subsAt k ws rest)) (subsStrict ws rest)
+
 -- ---- places
 
 held-rows : (l : List Row) → map (λ x. x .entry) (map heldAt l) ≡ map entryOf l
@@ -325,27 +336,48 @@ module _ (h : List ℕ) (subs rows : List Row) (words : Words h) (ls : 32 ≤ le
       ap₂ (λ (x y : List Entry). all entryOk (x ++ y)) (s .waits) (held-means (subRows us) (at 15 h) (at 16 h) us rows (in-table f) k (view b) s)
       ∙ all-append entryOk (map entryOf (waitingAt (subRows us) (at 15 h) (at 16 h) rows)) (map entryOf (reservedAt (subRows us) (at 15 h) rows))
 
+  abbrev formedTests : List Bool
+  formedTests = leb (at 12 h) 32 ∷ leb (at 13 h) 32 ∷ leb (at 14 h) 8 ∷ leb (usedRows b) 512 ∷ ringsFormed (at 14 h) (drop 113 h) ∷ strict b ∷ []
+
+  abbrev markTests : List Bool
+  markTests = isMark (at 0 h) ∷ isMark (at 5 h) ∷ tablesStrict (at 15 h + at 16 h) us rows ∷ []
+
+  abbrev kept-rows : List Row
+  kept-rows = reservedAt (subRows us) (at 15 h) rows
+
+  abbrev waiting-rows : List Row
+  waiting-rows = waitingAt (subRows us) (at 15 h) (at 16 h) rows
+
+  strict-parts : tablesStrict (at 15 h + at 16 h) us rows ≡ (subsStrict us rows && (all entryStrict kept-rows && all entryStrict waiting-rows))
+  unfolding tablesStrict
+  strict-parts =
+      let z : List Row = drop (subRows us) rows in
+      ap (λ (l : List Row). subsStrict us rows && all entryStrict l) (take-add (at 15 h) (at 16 h) z ∙ ap (λ (l : List Row). kept-rows ++ take (at 16 h) l) (drop-drop (at 15 h) (subRows us) rows))
+      ∙ ap (λ (t : Bool). subsStrict us rows && t) (all-append entryStrict kept-rows waiting-rows)
+
   holders-same : all (λ x. idOk (x .holder)) (view b .reserved) ≡ all holderOk (reservedAt (subRows us) (at 15 h) rows)
   unfolding view
   holders-same = all-map (λ x. idOk (x .holder)) heldAt (reservedAt (subRows us) (at 15 h) rows)
 
   sound-head : formed b ≡ true → sound (view b) ≡ true → headOk h ≡ true
-  unfolding formed sound view headOk
+  unfolding formed strict sound view headOk
   sound-head e g =
-      let f = every-all (leb (at 12 h) 32 ∷ leb (at 13 h) 32 ∷ leb (at 14 h) 8 ∷ leb (usedRows b) 512 ∷ ringsFormed (at 14 h) (drop 113 h) ∷ []) e in
+      let f = every-all formedTests e in
+      let s = every-all markTests (f .1 .1 .1 .1 .1 .0) in
       let p = every-all (soundTests (view b)) g in
       let n = leb-true (at 12 h) 32 (f .0) in
       and-both (limitsOk h) _
       (and-both (leb 1 (at 2 h)) _ (p .0) (and-both (leb (at 2 h) (2 ^ 40)) _ (p .1 .0) (and-both (leb (at 3 h) (at 2 h)) _ (p .1 .1 .0) (p .1 .1 .1 .0))))
       (and-both (countsOk h) _
       (and-both (leb (at 12 h) 32) _ (f .0) (and-both (leb (at 13 h) 32) _ (f .1 .0) (and-both (leb (at 14 h) 8) _ (f .1 .1 .0) (sym (turn-same n) ∙ p .1 .1 .1 .1 .1 .1 .1 .1 .1 .1 .1 .1 .1 .1 .0))))
-      (and-both (idleOk h) _ (sym (optional-test clockOk (at 5 h) (at 6 h)) ∙ p .1 .1 .1 .1 .1 .1 .1 .1 .1 .1 .1 .1 .1 .1 .1 .1 .0)
+      (and-both (marksOk h) _ (and-both (isMark (at 0 h)) _ (s .0) (and-both (isMark (at 5 h)) _ (s .1 .0) (sym (optional-test clockOk (at 5 h) (at 6 h)) ∙ p .1 .1 .1 .1 .1 .1 .1 .1 .1 .1 .1 .1 .1 .1 .1 .1 .0)))
       (p .1 .1 .1 .1 .1 .1 .1 .1 .1 .1 .1 .1 .1 .1 .1 .0)))
 
   sound-rest : formed b ≡ true → sound (view b) ≡ true → restOk b ≡ true
-  unfolding formed sound view restOk
+  unfolding formed strict sound view restOk
   sound-rest e g =
-      let f = every-all (leb (at 12 h) 32 ∷ leb (at 13 h) 32 ∷ leb (at 14 h) 8 ∷ leb (usedRows b) 512 ∷ ringsFormed (at 14 h) (drop 113 h) ∷ []) e in
+      let f = every-all formedTests e in
+      let s = every-all markTests (f .1 .1 .1 .1 .1 .0) in
       let p = every-all (soundTests (view b)) g in
       let u = leb-true (usedRows b) 512 (f .1 .1 .1 .0) in
       let w = map entryOf (waitingAt (subRows us) (at 15 h) (at 16 h) rows) in
@@ -353,6 +385,8 @@ module _ (h : List ℕ) (subs rows : List Row) (words : Words h) (ls : 32 ≤ le
       let ok = sym (entries-same u) ∙ p .1 .1 .1 .1 .1 .1 .1 .1 .0 in
       let subs-ok = p .1 .1 .1 .1 .1 .1 .1 .1 .1 .1 .1 .0 in
       let place = sym (placed-means (subRows us) (at 15 h) (at 16 h) us rows (in-table u) k (view b) (stands u)) ∙ p .1 .1 .1 .1 .1 .1 .1 .1 .1 .1 .1 .1 .1 .0 in
+      let t = sym strict-parts ∙ s .1 .1 .0 in
+      let o = and-right (subsStrict us rows) (all entryStrict kept-rows && all entryStrict waiting-rows) t in
       let risen = sym (ap (λ (l : List Entry). ascending (seqs l)) (stands u .waits)) ∙ p .1 .1 .1 .1 .1 .1 .1 .1 .1 .1 .0 in
       and-both (leb (usedRows b) 512) _ (f .1 .1 .1 .0)
       (and-both (ringsFormed (at 14 h) (drop 113 h)) _ (f .1 .1 .1 .1 .0)
@@ -360,13 +394,14 @@ module _ (h : List ℕ) (subs rows : List Row) (words : Words h) (ls : 32 ≤ le
       ∙ all-every tests (
         and-left (emptyBy k (at 15 h + at 16 h)) (queueApart k (subRows us) (at 15 h) (at 16 h) us rows) place,
         (
-          all-mono (subSound k (at 3 h)) (ownSound k (bound (at 3 h))) (λ s t. sub-own k (at 3 h) s t .0) (subsAt k us rows) subs-ok,
+          each-parts k (bound (at 3 h)) us rows
+              ∙ and-both (all (ownSound k (bound (at 3 h))) (subsAt k us rows)) _ (all-mono (subSound k (at 3 h)) (ownSound k (bound (at 3 h))) (λ s t. sub-own k (at 3 h) s t .0) (subsAt k us rows) subs-ok) (and-left (subsStrict us rows) _ t),
           (
             sym (ids-means k us rows) ∙ p .1 .1 .1 .1 .1 .1 .1 .1 .1 .1 .1 .1 .0,
             (
-              and-both (all rowOk (reservedAt (subRows us) (at 15 h) rows)) _ (rows-ok (reservedAt (subRows us) (at 15 h) rows) ∙ and-right (all entryOk w) (all entryOk r) ok) (sym holders-same ∙ p .1 .1 .1 .1 .1 .1 .1 .1 .1 .0),
+              and-both (all rowOk (reservedAt (subRows us) (at 15 h) rows)) _ (rows-ok kept-rows ∙ and-both (all entryOk r) _ (and-right (all entryOk w) (all entryOk r) ok) (and-left (all entryStrict kept-rows) _ o)) (sym holders-same ∙ p .1 .1 .1 .1 .1 .1 .1 .1 .1 .0),
               (
-                sorted-means (waitingAt (subRows us) (at 15 h) (at 16 h) rows) ∙ and-both (all entryOk w) (ascending (seqs w)) (and-left (all entryOk w) (all entryOk r) ok) risen,
+                sorted-means waiting-rows ∙ and-both (all entryOk w && all entryStrict waiting-rows) (ascending (seqs w)) (and-both (all entryOk w) _ (and-left (all entryOk w) (all entryOk r) ok) (and-right (all entryStrict kept-rows) _ o)) risen,
                 (
                   and-both (queueApart k (subRows us) (at 15 h) (at 16 h) us rows) _ (and-right (emptyBy k (at 15 h + at 16 h)) (queueApart k (subRows us) (at 15 h) (at 16 h) us rows) place)
                       (all-mono (subSound k (at 3 h)) (apartBy k) (λ s t. apart-of k s (sub-own k (at 3 h) s t .1)) (subsAt k us rows) subs-ok),
@@ -391,7 +426,7 @@ module _ (h : List ℕ) (subs rows : List Row) (words : Words h) (ls : 32 ≤ le
       omega (arith, length-append w (map (λ x. x .entry) r ++ c), length-append (map (λ x. x .entry) r) c, rows-count k us rows)
 
   rest-sound : headOk h ≡ true → restOk b ≡ true → (formed b ≡ true) × (sound (view b) ≡ true)
-  unfolding formed sound view headOk restOk
+  unfolding formed strict sound view headOk restOk
   rest-sound e g =
       let limits = and-left (limitsOk h) _ e in
       let l2 = and-right (leb 1 (at 2 h)) _ limits in
@@ -411,12 +446,20 @@ module _ (h : List ℕ) (subs rows : List Row) (words : Words h) (ls : 32 ≤ le
       let u = leb-true (usedRows b) 512 f4 in
       let n = leb-true (at 12 h) 32 f1 in
       let o = subRows us in
+      let own = all (ownSound k (bound (at 3 h))) (subsAt k us rows) in
+      let each = sym (each-parts k (bound (at 3 h)) us rows) ∙ p .1 .0 in
       let kept = p .1 .1 .1 .0 in
+      let r = all entryOk (map entryOf kept-rows) in
+      let held-ok = sym (rows-ok kept-rows) ∙ and-left (all rowOk kept-rows) _ kept in
       let w = map entryOf (waitingAt o (at 15 h) (at 16 h) rows) in
-      let sorted = sym (sorted-means (waitingAt o (at 15 h) (at 16 h) rows)) ∙ p .1 .1 .1 .1 .0 in
+      let sorted = sym (sorted-means waiting-rows) ∙ p .1 .1 .1 .1 .0 in
+      let waits-ok = and-left (all entryOk w && all entryStrict waiting-rows) _ sorted in
+      let m = and-left (marksOk h) _ marks in
+      let m2 = and-right (isMark (at 0 h)) _ m in
+      let tables = strict-parts ∙ and-both (subsStrict us rows) _ (and-right own (subsStrict us rows) each) (and-both (all entryStrict kept-rows) _ (and-right r _ held-ok) (and-right (all entryOk w) _ waits-ok)) in
       let apart = p .1 .1 .1 .1 .1 .0 in
       let group = and-left (queueApart k o (at 15 h) (at 16 h) us rows) _ apart in (
-        all-every (leb (at 12 h) 32 ∷ leb (at 13 h) 32 ∷ leb (at 14 h) 8 ∷ leb (usedRows b) 512 ∷ ringsFormed (at 14 h) (drop 113 h) ∷ []) (f1, (f2, (f3, (f4, (f5, tt))))),
+        all-every formedTests (f1, (f2, (f3, (f4, (f5, (all-every markTests (and-left (isMark (at 0 h)) _ m, (and-left (isMark (at 5 h)) _ m2, (tables, tt))), tt)))))),
         all-every (soundTests (view b)) (
           and-left (leb 1 (at 2 h)) _ limits,
           (
@@ -434,13 +477,13 @@ module _ (h : List ℕ) (subs rows : List Row) (words : Words h) (ls : 32 ≤ le
                       (
                         le-leb (length (allRows (view b))) 512 (few-rows u),
                         (
-                          entries-same u ∙ and-both (all entryOk w) _ (and-left (all entryOk w) _ sorted) (sym (rows-ok (reservedAt o (at 15 h) rows)) ∙ and-left (all rowOk (reservedAt o (at 15 h) rows)) _ kept),
+                          entries-same u ∙ and-both (all entryOk w) _ (and-left (all entryOk w) _ waits-ok) (and-left r _ held-ok),
                           (
-                            holders-same ∙ and-right (all rowOk (reservedAt o (at 15 h) rows)) _ kept,
+                            holders-same ∙ and-right (all rowOk kept-rows) _ kept,
                             (
-                              ap (λ (l : List Entry). ascending (seqs l)) (stands u .waits) ∙ and-right (all entryOk w) _ sorted,
+                              ap (λ (l : List Entry). ascending (seqs l)) (stands u .waits) ∙ and-right (all entryOk w && all entryStrict waiting-rows) _ sorted,
                               (
-                                own-subs k (at 3 h) (subsAt k us rows) (p .1 .0) (and-right (queueApart k o (at 15 h) (at 16 h) us rows) _ apart) (taken-means o (at 15 h) (at 16 h) us rows (in-table u) k group),
+                                own-subs k (at 3 h) (subsAt k us rows) (and-left own (subsStrict us rows) each) (and-right (queueApart k o (at 15 h) (at 16 h) us rows) _ apart) (taken-means o (at 15 h) (at 16 h) us rows (in-table u) k group),
                                 (
                                   ids-means k us rows ∙ p .1 .1 .0,
                                   (
@@ -448,9 +491,9 @@ module _ (h : List ℕ) (subs rows : List Row) (words : Words h) (ls : 32 ≤ le
                                     (
                                       turn-same n ∙ and-right (leb (at 14 h) 8) _ c3,
                                       (
-                                        and-right (idleOk h) _ marks,
+                                        and-right (marksOk h) _ marks,
                                         (
-                                          optional-test clockOk (at 5 h) (at 6 h) ∙ and-left (idleOk h) _ marks,
+                                          optional-test clockOk (at 5 h) (at 6 h) ∙ and-right (isMark (at 5 h)) _ m2,
                                           (
                                             le-leb (length (auditsAt (at 14 h) (drop 113 h))) 8 (omega (arith, audits-count (at 14 h) (drop 113 h), leb-true (at 14 h) 8 f3)),
                                             (audits-fit (at 14 h) (drop 113 h) (words-drop 113 h words) f5, tt),

@@ -11,16 +11,16 @@ use lib.Dec.{leb, ltb, eqb}
 use lib.ListN.{length, getD, drop}
 use lib.Seq.{slice, getD-drop}
 use mir.Val.{boolByte}
-use Rattle.words.specs.Words.{signed, int}
+use Rattle.words.specs.Words.{signed, int, isInt}
 use Rattle.words.specs.Pick.{if_then_else_}
 use Rattle.words.proofs.Tests.{by-test}
 use Rattle.entry.specs.Entry.{entryOf}
 use Rattle.definition.specs.Base.{all, tally}
 use Rattle.definition.specs.Calls.{within, idOk}
 use Rattle.definition.specs.Words.{at}
-use Rattle.definition.specs.Layout.{Row, flag, idAt}
+use Rattle.definition.specs.Layout.{Row, flag, idAt, isMark, entryStrict}
 use Rattle.definition.proofs.Tests.{and-left, and-right}
-use Rattle.sound.specs.Sound.{upward, rowOk, holderOk, flyingOk, sortedOk}
+use Rattle.sound.specs.Sound.{upward, rowOk, flightOk, holderOk, flyingOk, sortedOk}
 use Rattle.sound.proofs.Tests.{swap-inner, part-turn, part-end}
 
 -- ---- ranges
@@ -39,8 +39,8 @@ id-fits w h = rw (lt-ltb (at 0 w) (2 ^ 64) h, signed-within (at 1 w), signed-wit
 pub holder-fits : (w : Row) → at 6 w < 2 ^ 64 → holderOk w ≡ true
 holder-fits w h = id-fits (drop 6 w) (rw (getD-drop 6 w 0 0) h)
 
-pub row-tests : (w : Row) → at 3 w < 2 ^ 64 → at 4 w < 2 ^ 64 → (leb 1 (at 0 w) && ltb (at 0 w) (2 ^ 63)) ≡ rowOk w
-unfolding entryOf
+pub row-tests : (w : Row) → at 3 w < 2 ^ 64 → at 4 w < 2 ^ 64 → ((leb 1 (at 0 w) && ltb (at 0 w) (2 ^ 63)) && (isMark (at 2 w) && isInt (at 5 w))) ≡ rowOk w
+unfolding entryOf entryStrict
 row-tests w h k =
     rw (signed-within (at 1 w), lt-ltb (at 3 w) (2 ^ 64) h, lt-ltb (at 4 w) (2 ^ 64) k, int-within (at 5 w), and-true (ltb (at 0 w) (2 ^ 63)))
 
@@ -57,14 +57,14 @@ sorted-cons least w l =
     rw add-one (swap-inner (rowOk w) (all rowOk l) (leb least (at 0 w)) (upward (suc (at 0 w)) (map (at 0) l)))
 
 flying-cons : (least count next freed : ℕ) (w : Row) (l : List Row)
-    → flyingOk least count next freed (w ∷ l) ≡ ((rowOk w && leb least (at 6 w)) && flyingOk (at 6 w + 1) (count + boolByte (flag (at 7 w))) next freed l)
+    → flyingOk least count next freed (w ∷ l) ≡ ((flightOk w && leb least (at 6 w)) && flyingOk (at 6 w + 1) (count + boolByte (flag (at 7 w))) next freed l)
 unfolding flyingOk
 flying-cons least count next freed w l =
     let t : ℕ = tally (λ v. flag (at 7 v)) l in
     let u : Bool = upward (suc (at 6 w)) (map (at 6) l ++ next ∷ []) in
     let e : (if flag (at 7 w) then 1 else 0) ≡ boolByte (flag (at 7 w)) = one (flag (at 7 w)) in
     let f : count + ((if flag (at 7 w) then 1 else 0) + t) ≡ (count + boolByte (flag (at 7 w))) + t = rw e (sym (add-assoc count (boolByte (flag (at 7 w))) t)) in
-    rw (add-one, f) (three (rowOk w) (all rowOk l) (leb least (at 6 w)) u (eqb freed ((count + boolByte (flag (at 7 w))) + t)))
+    rw (add-one, f) (three (flightOk w) (all flightOk l) (leb least (at 6 w)) u (eqb freed ((count + boolByte (flag (at 7 w))) + t)))
   where
     one : (b : Bool) → (if b then 1 else 0) ≡ boolByte b
     one true = refl
@@ -82,7 +82,7 @@ unfolding flyingOk
 flying-le least count next freed l t =
     upward-le least (map (at 6) l) next
     (and-left (upward least (map (at 6) l ++ next ∷ [])) (eqb freed (count + tally (λ w. flag (at 7 w)) l))
-    (and-right (all rowOk l) (upward least (map (at 6) l ++ next ∷ []) && eqb freed (count + tally (λ w. flag (at 7 w)) l)) t))
+    (and-right (all flightOk l) (upward least (map (at 6) l ++ next ∷ []) && eqb freed (count + tally (λ w. flag (at 7 w)) l)) t))
 
 -- ---- the loops
 
@@ -106,26 +106,26 @@ module _ (rows : List Row) (i to : ℕ) (k : to ≤ length rows) (total : Bool) 
 
   module _ (least count next freed : ℕ) (e : flyingOk least count next freed (slice i to rows) ≡ total) where
     flying-turn : i < to
-        → ((rowOk (getD rows i []) && leb least (at 6 (getD rows i [])))
+        → ((flightOk (getD rows i []) && leb least (at 6 (getD rows i [])))
         && flyingOk (at 6 (getD rows i []) + 1) (count + boolByte (flag (at 7 (getD rows i [])))) next freed (slice (i + 1) to rows)) ≡ total
     flying-turn h = sym (ap (flyingOk least count next freed) (part-turn rows i to [] h k) ∙ flying-cons least count next freed (getD rows i []) (slice (i + 1) to rows)) ∙ e
 
-    pub flying-bad : i < to → rowOk (getD rows i []) ≡ false → false ≡ total
+    pub flying-bad : i < to → flightOk (getD rows i []) ≡ false → false ≡ total
     flying-bad h q = rw q at (flying-turn h)
 
     pub flying-low : i < to → at 6 (getD rows i []) < least → false ≡ total
-    flying-low h q = rw (lt-leb least (at 6 (getD rows i [])) q, and-false (rowOk (getD rows i []))) at (flying-turn h)
+    flying-low h q = rw (lt-leb least (at 6 (getD rows i [])) q, and-false (flightOk (getD rows i []))) at (flying-turn h)
 
     pub flying-high : i < to → next ≤ at 6 (getD rows i []) → false ≡ total
     flying-high h q = by-test total
         (λ t.
         let d : ℕ = at 6 (getD rows i []) in
         let c : ℕ = count + boolByte (flag (at 7 (getD rows i []))) in
-        let rest : flyingOk (d + 1) c next freed (slice (i + 1) to rows) ≡ true = and-right (rowOk (getD rows i []) && leb least d) (flyingOk (d + 1) c next freed (slice (i + 1) to rows)) (flying-turn h ∙ t) in
+        let rest : flyingOk (d + 1) c next freed (slice (i + 1) to rows) ≡ true = and-right (flightOk (getD rows i []) && leb least d) (flyingOk (d + 1) c next freed (slice (i + 1) to rows)) (flying-turn h ∙ t) in
         absurd (omega (arith, flying-le (d + 1) c next freed (slice (i + 1) to rows) rest)))
         (λ t. sym t)
 
-    pub flying-next : i < to → rowOk (getD rows i []) ≡ true → least ≤ at 6 (getD rows i [])
+    pub flying-next : i < to → flightOk (getD rows i []) ≡ true → least ≤ at 6 (getD rows i [])
         → flyingOk (at 6 (getD rows i []) + 1) (count + boolByte (flag (at 7 (getD rows i [])))) next freed (slice (i + 1) to rows) ≡ total
     flying-next h q b = rw (q, le-leb least (at 6 (getD rows i [])) b) at (flying-turn h)
 

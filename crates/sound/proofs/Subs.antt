@@ -18,17 +18,17 @@ use Rattle.model.specs.Model.{idOf, sameId, sameSigned}
 use Rattle.model.proofs.Ids.{same-signed, same-signed-refl}
 use Rattle.entry.specs.Entry.{entryOf}
 use Rattle.definition.specs.Base.{all, every, tally, empty, rising, ascending}
-use Rattle.definition.specs.Types.{Kind, queue, topic, Id, Entry, Sub}
+use Rattle.definition.specs.Types.{Kind, queue, topic, Id, Entry}
 use Rattle.definition.specs.Consumer.{shown}
 use Rattle.definition.specs.Calls.{idOk, entryOk, optional, seqs, rowsOf, distinctIds}
 use Rattle.definition.specs.Words.{at}
-use Rattle.definition.specs.Layout.{Row, flag, idAt, inflightAt, browserAt, tpendingAt, subAt, eachSub, subsAt, subRows}
+use Rattle.definition.specs.Layout.{Row, flag, idAt, inflightAt, browserAt, tpendingAt, subAt, eachSub, subsAt, subRows, isMark, entryStrict, flyingStrict, wordsStrict, subStrict}
 use mathlib.Core.List.{append-nil}
 use Rattle.definition.proofs.Tests.{and-left, and-right, and-both}
 use Rattle.definition.proofs.Thin.{every-all, all-every}
 use Rattle.distinct.proofs.Laws.{iff}
-use Rattle.sound.specs.Sound.{upward, rowOk, flyingOk, sortedOk, wordTests, heldOk, ownTests, ownSound, kindBy, idsApart, rowsUpTo}
-use Rattle.sound.proofs.Tests.{part-turn, part-end, part-of, empty-take, all-map}
+use Rattle.sound.specs.Sound.{upward, rowOk, flightOk, flyingOk, sortedOk, wordTests, heldOk, ownTests, ownSound, ownOk, kindBy, idsApart, rowsUpTo}
+use Rattle.sound.proofs.Tests.{swap-inner, part-turn, part-end, part-of, empty-take}
 
 -- ---- rows
 
@@ -57,29 +57,37 @@ unfolding entryOf
 seqs-rows [] = refl
 seqs-rows (w ∷ l) = ap (λ (m : List ℕ). at 0 w ∷ m) (seqs-rows l)
 
-pub rows-ok : (l : List Row) → all rowOk l ≡ all entryOk (map entryOf l)
-rows-ok l = sym (all-map entryOk entryOf l)
+and-assoc : (s t u : Bool) → (s && (t && u)) ≡ ((s && t) && u)
+and-assoc true t u = refl
+and-assoc false t u = refl
+
+pub rows-ok : (l : List Row) → all rowOk l ≡ (all entryOk (map entryOf l) && all entryStrict l)
+rows-ok [] = refl
+rows-ok (w ∷ l) = ap (λ (t : Bool). rowOk w && t) (rows-ok l) ∙ swap-inner (entryOk (entryOf w)) (entryStrict w) (all entryOk (map entryOf l)) (all entryStrict l)
+
+flights-ok : (l : List Row) → all flightOk l ≡ (all entryOk (map entryOf l) && all flyingStrict l)
+unfolding flyingStrict
+flights-ok [] = refl
+flights-ok (w ∷ l) =
+    ap₂ _&&_ (sym (and-assoc (entryOk (entryOf w)) (entryStrict w) (isMark (at 7 w) && isMark (at 8 w)))) (flights-ok l)
+    ∙ swap-inner (entryOk (entryOf w)) (flyingStrict w) (all entryOk (map entryOf l)) (all flyingStrict l)
 
 pub flying-means : (next freed : ℕ) (f : List Row)
     → flyingOk 0 0 next freed f
-    ≡ (all entryOk (map entryOf f) && (ascending (map (λ i. i .dseq) (map inflightAt f) ++ next ∷ []) && eqb freed (tally (λ i. i .freed) (map inflightAt f))))
+    ≡ ((all entryOk (map entryOf f) && all flyingStrict f) && (ascending (map (λ i. i .dseq) (map inflightAt f) ++ next ∷ []) && eqb freed (tally (λ i. i .freed) (map inflightAt f))))
 unfolding flyingOk
 flying-means next freed f =
-    ap₂ _&&_ (rows-ok f)
+    ap₂ _&&_ (flights-ok f)
     (ap₂ _&&_ (upward-ascends (map (at 6) f ++ next ∷ []) ∙ ap (λ (l : List ℕ). ascending (l ++ next ∷ [])) (dseqs-rows f))
     (ap (eqb freed) (zero-add (tally (λ w. flag (at 7 w)) f) ∙ freed-rows f)))
 
-pub sorted-means : (l : List Row) → sortedOk 0 l ≡ (all entryOk (map entryOf l) && ascending (seqs (map entryOf l)))
+pub sorted-means : (l : List Row) → sortedOk 0 l ≡ ((all entryOk (map entryOf l) && all entryStrict l) && ascending (seqs (map entryOf l)))
 unfolding sortedOk
 sorted-means l = ap₂ _&&_ (rows-ok l) (upward-ascends (map (at 0) l) ∙ ap ascending (seqs-rows l))
 
 pub all-append : {A : Type 0} (p : A → Bool) (a b : List A) → all p (a ++ b) ≡ (all p a && all p b)
 all-append p [] b = refl
-all-append p (x ∷ a) b = ap (λ (t : Bool). p x && t) (all-append p a b) ∙ assoc (p x) (all p a) (all p b)
-  where
-    assoc : (s t u : Bool) → (s && (t && u)) ≡ ((s && t) && u)
-    assoc true t u = refl
-    assoc false t u = refl
+all-append p (x ∷ a) b = ap (λ (t : Bool). p x && t) (all-append p a b) ∙ and-assoc (p x) (all p a) (all p b)
 
 -- ---- one consumer
 
@@ -122,11 +130,15 @@ module _ (most : ℕ) (w : Row) (f h : List Row) (named : idOk (idAt w) ≡ true
   rows-parts : (k : Kind) → all entryOk (rowsOf (subAt k w f h)) ≡ (all entryOk (map entryOf f) && all entryOk (map entryOf h))
   rows-parts k = ap (all entryOk) (rows-of-sub k w f h) ∙ all-append entryOk (map entryOf f) (map entryOf h)
 
-  pub own-tests : (q : Bool) → ownSound (kindBy q) most (subAt (kindBy q) w f h) ≡ (every (wordTests q most w) && (flyingOk 0 0 (at 8 w) (at 13 w) f && heldOk q h))
-  unfolding ownSound subAt
+  abbrev strictTests : List Bool
+  strictTests = wordsStrict w ∷ all flyingStrict f ∷ all entryStrict h ∷ []
+
+  pub own-tests : (q : Bool) → ownOk (kindBy q) most w f h ≡ (every (wordTests q most w) && (flyingOk 0 0 (at 8 w) (at 13 w) f && heldOk q h))
+  unfolding ownSound subAt subStrict
   own-tests true = iff _ _
       (λ e.
-      let p = every-all (ownTests queue most (subAt queue w f h)) e in
+      let p = every-all (ownTests queue most (subAt queue w f h)) (and-left (ownSound queue most (subAt queue w f h)) (subStrict w f h) e) in
+      let s = every-all strictTests (and-right (ownSound queue most (subAt queue w f h)) (subStrict w f h) e) in
       let r = sym (rows-parts queue) ∙ p .1 .1 .1 .0 in
       let x = and-left (all entryOk (map entryOf f)) (all entryOk (map entryOf h)) r in
       let y = and-right (all entryOk (map entryOf f)) (all entryOk (map entryOf h)) r in
@@ -143,7 +155,7 @@ module _ (most : ℕ) (w : Row) (f h : List Row) (named : idOk (idAt w) ≡ true
                 p .1 .1 .1 .1 .1 .1 .1 .1 .1 .0,
                 (
                   sym (pull-test most (at 10 w) (at 11 w)) ∙ p .1 .1 .1 .1 .1 .1 .1 .1 .1 .1 .0,
-                  (ap (λ (t : Bool). flag (at 6 w) || t) (none-held ∙ sym (empty-map h)) ∙ sym (queue-held (flag (at 6 w)) (map entryOf h)) ∙ p .1 .1 .1 .1 .1 .1 .1 .1 .1 .1 .1 .0, tt),
+                  (ap (λ (t : Bool). flag (at 6 w) || t) (none-held ∙ sym (empty-map h)) ∙ sym (queue-held (flag (at 6 w)) (map entryOf h)) ∙ p .1 .1 .1 .1 .1 .1 .1 .1 .1 .1 .1 .0, (s .0, tt)),
                 ),
               ),
             ),
@@ -151,26 +163,29 @@ module _ (most : ℕ) (w : Row) (f h : List Row) (named : idOk (idAt w) ≡ true
         ),
       ))
       (and-both (flyingOk 0 0 (at 8 w) (at 13 w) f) (heldOk true h)
-      (flying-means (at 8 w) (at 13 w) f ∙ and-both _ _ x (and-both _ _ (p .1 .1 .1 .1 .1 .1 .0) (p .1 .1 .1 .1 .1 .0)))
-      (rows-ok h ∙ y)))
+      (flying-means (at 8 w) (at 13 w) f ∙ and-both _ _ (and-both _ _ x (s .1 .0)) (and-both _ _ (p .1 .1 .1 .1 .1 .1 .0) (p .1 .1 .1 .1 .1 .0)))
+      (rows-ok h ∙ and-both _ _ y (s .1 .1 .0))))
       (λ e.
       let p = every-all (wordTests true most w) (and-left (every (wordTests true most w)) (flyingOk 0 0 (at 8 w) (at 13 w) f && heldOk true h) e) in
       let r = and-right (every (wordTests true most w)) (flyingOk 0 0 (at 8 w) (at 13 w) f && heldOk true h) e in
       let u = sym (flying-means (at 8 w) (at 13 w) f) ∙ and-left (flyingOk 0 0 (at 8 w) (at 13 w) f) (heldOk true h) r in
       let v = sym (rows-ok h) ∙ and-right (flyingOk 0 0 (at 8 w) (at 13 w) f) (heldOk true h) r in
       let a = all entryOk (map entryOf f) in
+      let af = and-left (a && all flyingStrict f) _ u in
       let b = ascending (map (λ i. i .dseq) (map inflightAt f) ++ at 8 w ∷ []) in
       let d = eqb (at 13 w) (tally (λ i. i .freed) (map inflightAt f)) in
-      let m = and-right a (b && d) u in
+      let m = and-right (a && all flyingStrict f) (b && d) u in
+      let g = all entryOk (map entryOf h) in
       let place = sym (ap (λ (t : Bool). flag (at 6 w) || t) (none-held ∙ sym (empty-map h))) ∙ p .1 .1 .1 .1 .1 .1 .0 in
-      all-every (ownTests queue most (subAt queue w f h)) (
+      and-both (ownSound queue most (subAt queue w f h)) (subStrict w f h)
+      (all-every (ownTests queue most (subAt queue w f h)) (
         named,
         (
           p .0,
           (
             p .1 .0,
             (
-              rows-parts queue ∙ and-both a (all entryOk (map entryOf h)) (and-left a (b && d) u) v,
+              rows-parts queue ∙ and-both a g (and-left a (all flyingStrict f) af) (and-left g (all entryStrict h) v),
               (
                 p .1 .1 .0,
                 (
@@ -197,9 +212,11 @@ module _ (most : ℕ) (w : Row) (f h : List Row) (named : idOk (idAt w) ≡ true
           ),
         ),
       ))
+      (all-every strictTests (p .1 .1 .1 .1 .1 .1 .1 .0, (and-right a (all flyingStrict f) af, (and-right g (all entryStrict h) v, tt)))))
   own-tests false = iff _ _
       (λ e.
-      let p = every-all (ownTests topic most (subAt topic w f h)) e in
+      let p = every-all (ownTests topic most (subAt topic w f h)) (and-left (ownSound topic most (subAt topic w f h)) (subStrict w f h) e) in
+      let s = every-all strictTests (and-right (ownSound topic most (subAt topic w f h)) (subStrict w f h) e) in
       let r = sym (rows-parts topic) ∙ p .1 .1 .1 .0 in
       let x = and-left (all entryOk (map entryOf f)) (all entryOk (map entryOf h)) r in
       let y = and-right (all entryOk (map entryOf f)) (all entryOk (map entryOf h)) r in
@@ -214,34 +231,37 @@ module _ (most : ℕ) (w : Row) (f h : List Row) (named : idOk (idAt w) ≡ true
               p .1 .1 .1 .1 .1 .1 .1 .1 .0,
               (
                 p .1 .1 .1 .1 .1 .1 .1 .1 .1 .0,
-                (sym (pull-test most (at 10 w) (at 11 w)) ∙ p .1 .1 .1 .1 .1 .1 .1 .1 .1 .1 .0, (refl, tt)),
+                (sym (pull-test most (at 10 w) (at 11 w)) ∙ p .1 .1 .1 .1 .1 .1 .1 .1 .1 .1 .0, (refl, (s .0, tt))),
               ),
             ),
           ),
         ),
       ))
       (and-both (flyingOk 0 0 (at 8 w) (at 13 w) f) (heldOk false h)
-      (flying-means (at 8 w) (at 13 w) f ∙ and-both _ _ x (and-both _ _ (p .1 .1 .1 .1 .1 .1 .0) (p .1 .1 .1 .1 .1 .0)))
-      (sorted-means h ∙ and-both _ _ y (p .1 .1 .1 .1 .1 .1 .1 .0))))
+      (flying-means (at 8 w) (at 13 w) f ∙ and-both _ _ (and-both _ _ x (s .1 .0)) (and-both _ _ (p .1 .1 .1 .1 .1 .1 .0) (p .1 .1 .1 .1 .1 .0)))
+      (sorted-means h ∙ and-both _ _ (and-both _ _ y (s .1 .1 .0)) (p .1 .1 .1 .1 .1 .1 .1 .0))))
       (λ e.
       let p = every-all (wordTests false most w) (and-left (every (wordTests false most w)) (flyingOk 0 0 (at 8 w) (at 13 w) f && heldOk false h) e) in
       let r = and-right (every (wordTests false most w)) (flyingOk 0 0 (at 8 w) (at 13 w) f && heldOk false h) e in
       let u = sym (flying-means (at 8 w) (at 13 w) f) ∙ and-left (flyingOk 0 0 (at 8 w) (at 13 w) f) (heldOk false h) r in
       let v = sym (sorted-means h) ∙ and-right (flyingOk 0 0 (at 8 w) (at 13 w) f) (heldOk false h) r in
       let a = all entryOk (map entryOf f) in
+      let af = and-left (a && all flyingStrict f) _ u in
       let b = ascending (map (λ i. i .dseq) (map inflightAt f) ++ at 8 w ∷ []) in
       let d = eqb (at 13 w) (tally (λ i. i .freed) (map inflightAt f)) in
-      let m = and-right a (b && d) u in
+      let m = and-right (a && all flyingStrict f) (b && d) u in
       let g = all entryOk (map entryOf h) in
       let s = ascending (seqs (map entryOf h)) in
-      all-every (ownTests topic most (subAt topic w f h)) (
+      let gh = and-left (g && all entryStrict h) s v in
+      and-both (ownSound topic most (subAt topic w f h)) (subStrict w f h)
+      (all-every (ownTests topic most (subAt topic w f h)) (
         named,
         (
           p .0,
           (
             p .1 .0,
             (
-              rows-parts topic ∙ and-both a g (and-left a (b && d) u) (and-left g s v),
+              rows-parts topic ∙ and-both a g (and-left a (all flyingStrict f) af) (and-left g (all entryStrict h) gh),
               (
                 p .1 .1 .0,
                 (
@@ -249,7 +269,7 @@ module _ (most : ℕ) (w : Row) (f h : List Row) (named : idOk (idAt w) ≡ true
                   (
                     and-left b d m,
                     (
-                      and-right g s v,
+                      and-right (g && all entryStrict h) s v,
                       (
                         p .1 .1 .1 .0,
                         (
@@ -268,13 +288,14 @@ module _ (most : ℕ) (w : Row) (f h : List Row) (named : idOk (idAt w) ≡ true
           ),
         ),
       ))
+      (all-every strictTests (p .1 .1 .1 .1 .1 .1 .1 .0, (and-right a (all flyingStrict f) af, (and-right g (all entryStrict h) gh, tt)))))
 
 -- the same with its rows where they stand
 module _ (q : Bool) (most : ℕ) (w : Row) (rows : List Row) (base : ℕ) (b : base + (at 14 w + at 15 w) ≤ length rows) (named : idOk (idAt w) ≡ true) where
-  abbrev pub placedSub : Sub
-  placedSub = subAt (kindBy q) w (take (at 14 w) (drop base rows)) (take (at 15 w) (drop (at 14 w) (drop base rows)))
+  abbrev pub placedOk : Bool
+  placedOk = ownOk (kindBy q) most w (take (at 14 w) (drop base rows)) (take (at 15 w) (drop (at 14 w) (drop base rows)))
 
-  placed-tests : ownSound (kindBy q) most placedSub
+  placed-tests : placedOk
       ≡ (every (wordTests q most w) && (flyingOk 0 0 (at 8 w) (at 13 w) (slice base (base + at 14 w) rows) && heldOk q (slice (base + at 14 w) (base + at 14 w + at 15 w) rows)))
   placed-tests =
       let held : slice (base + at 14 w) (base + at 14 w + at 15 w) rows ≡ take (at 15 w) (drop (at 14 w) (drop base rows)) =
@@ -284,15 +305,15 @@ module _ (q : Bool) (most : ℕ) (w : Row) (rows : List Row) (base : ℕ) (b : b
       ∙ ap₂ (λ (f h : List Row). every (wordTests q most w) && (flyingOk 0 0 (at 8 w) (at 13 w) f && heldOk q h))
       (sym (part-of rows base (at 14 w) (omega arith))) (sym held)
 
-  pub placed-words : every (wordTests q most w) ≡ false → false ≡ ownSound (kindBy q) most placedSub
+  pub placed-words : every (wordTests q most w) ≡ false → false ≡ placedOk
   placed-words e =
       sym (placed-tests ∙ ap (λ (t : Bool). t && (flyingOk 0 0 (at 8 w) (at 13 w) (slice base (base + at 14 w) rows) && heldOk q (slice (base + at 14 w) (base + at 14 w + at 15 w) rows))) e)
 
-  pub placed-flying : every (wordTests q most w) ≡ true → flyingOk 0 0 (at 8 w) (at 13 w) (slice base (base + at 14 w) rows) ≡ false → false ≡ ownSound (kindBy q) most placedSub
+  pub placed-flying : every (wordTests q most w) ≡ true → flyingOk 0 0 (at 8 w) (at 13 w) (slice base (base + at 14 w) rows) ≡ false → false ≡ placedOk
   placed-flying e f = sym (placed-tests ∙ ap₂ (λ (s t : Bool). s && (t && heldOk q (slice (base + at 14 w) (base + at 14 w + at 15 w) rows))) e f)
 
   pub placed-held : every (wordTests q most w) ≡ true → flyingOk 0 0 (at 8 w) (at 13 w) (slice base (base + at 14 w) rows) ≡ true
-      → heldOk q (slice (base + at 14 w) (base + at 14 w + at 15 w) rows) ≡ ownSound (kindBy q) most placedSub
+      → heldOk q (slice (base + at 14 w) (base + at 14 w + at 15 w) rows) ≡ placedOk
   placed-held e f = sym (placed-tests ∙ ap₂ (λ (s t : Bool). s && (t && heldOk q (slice (base + at 14 w) (base + at 14 w + at 15 w) rows))) e f)
 
 -- ---- the loops
@@ -306,29 +327,29 @@ module _ (subs : List Row) (i n : ℕ) (b : n ≤ length subs) where
   unfolding subRows
   rows-end q = ap subRows (part-end subs i n q)
 
-  module _ (p : Sub → Bool) (k : Kind) (rows : List Row) (base : ℕ) (total : Bool) (e : all p (subsAt k (slice i n subs) (drop base rows)) ≡ total) where
-    -- the consumer at i, with its rows
-    abbrev pub here : Sub
-    here = let w = getD subs i [] in subAt k w (take (at 14 w) (drop base rows)) (take (at 15 w) (drop (at 14 w) (drop base rows)))
+  module _ {A : Type 0} (p : A → Bool) (of : Row → List Row → List Row → A) (rows : List Row) (base : ℕ) (total : Bool) (e : all p (eachSub of (slice i n subs) (drop base rows)) ≡ total) where
+    -- what is read of the consumer at i, with its rows
+    abbrev pub here : A
+    here = let w = getD subs i [] in of w (take (at 14 w) (drop base rows)) (take (at 15 w) (drop (at 14 w) (drop base rows)))
 
-    walk-turn : i < n → (p here && all p (subsAt k (slice (i + 1) n subs) (drop (base + (at 14 (getD subs i []) + at 15 (getD subs i []))) rows))) ≡ total
+    walk-turn : i < n → (p here && all p (eachSub of (slice (i + 1) n subs) (drop (base + (at 14 (getD subs i []) + at 15 (getD subs i []))) rows))) ≡ total
     unfolding eachSub
     walk-turn h =
         let w = getD subs i [] in
         let d : drop (at 15 w) (drop (at 14 w) (drop base rows)) ≡ drop (base + (at 14 w + at 15 w)) rows =
         drop-drop (at 15 w) (at 14 w) (drop base rows) ∙ drop-drop (at 14 w + at 15 w) base rows in
-        sym (ap (λ (l : List Row). all p (subsAt k l (drop base rows))) (part-turn subs i n [] h b)
-        ∙ ap (λ (l : List Row). p here && all p (subsAt k (slice (i + 1) n subs) l)) d) ∙ e
+        sym (ap (λ (l : List Row). all p (eachSub of l (drop base rows))) (part-turn subs i n [] h b)
+        ∙ ap (λ (l : List Row). p here && all p (eachSub of (slice (i + 1) n subs) l)) d) ∙ e
 
     pub walk-stop : i < n → p here ≡ false → false ≡ total
-    walk-stop h q = sym (ap (λ (t : Bool). t && all p (subsAt k (slice (i + 1) n subs) (drop (base + (at 14 (getD subs i []) + at 15 (getD subs i []))) rows))) q) ∙ walk-turn h
+    walk-stop h q = sym (ap (λ (t : Bool). t && all p (eachSub of (slice (i + 1) n subs) (drop (base + (at 14 (getD subs i []) + at 15 (getD subs i []))) rows))) q) ∙ walk-turn h
 
-    pub walk-next : i < n → p here ≡ true → all p (subsAt k (slice (i + 1) n subs) (drop (base + (at 14 (getD subs i []) + at 15 (getD subs i []))) rows)) ≡ total
-    walk-next h q = sym (ap (λ (t : Bool). t && all p (subsAt k (slice (i + 1) n subs) (drop (base + (at 14 (getD subs i []) + at 15 (getD subs i []))) rows))) q) ∙ walk-turn h
+    pub walk-next : i < n → p here ≡ true → all p (eachSub of (slice (i + 1) n subs) (drop (base + (at 14 (getD subs i []) + at 15 (getD subs i []))) rows)) ≡ total
+    walk-next h q = sym (ap (λ (t : Bool). t && all p (eachSub of (slice (i + 1) n subs) (drop (base + (at 14 (getD subs i []) + at 15 (getD subs i []))) rows))) q) ∙ walk-turn h
 
     pub walk-end : i ≡ n → true ≡ total
     unfolding eachSub
-    walk-end q = sym (ap (λ (l : List Row). all p (subsAt k l (drop base rows))) (part-end subs i n q)) ∙ e
+    walk-end q = sym (ap (λ (l : List Row). all p (eachSub of l (drop base rows))) (part-end subs i n q)) ∙ e
 
   module _ (total : Bool) (e : idsApart (slice i n subs) ≡ total) where
     ids-turn : i < n → (all (λ v. not (sameId (idAt v) (idAt (getD subs i [])))) (slice (i + 1) n subs) && idsApart (slice (i + 1) n subs)) ≡ total

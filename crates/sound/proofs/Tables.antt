@@ -16,7 +16,7 @@ use Rattle.definition.specs.Words.{at}
 use Rattle.definition.specs.Layout.{Row, Buffers, statsAt, subsAt, subRows, usedSubs, usedRows, ringsFormed, lengthsOf}
 use Rattle.definition.proofs.Tests.{and-left, and-right}
 use Rattle.distinct.proofs.Laws.{member-append}
-use Rattle.sound.specs.Sound.{upward, seqsAt, limitsOk, countsOk, idleOk, headOk, rowOk, holderOk, sortedOk, ownSound, kindBy, idsApart, apartBy, rowsUpTo, emptyBy, reservedAt, waitingAt, queueSeqs, queueApart, tablesOk, restOk}
+use Rattle.sound.specs.Sound.{upward, seqsAt, limitsOk, countsOk, marksOk, headOk, rowOk, holderOk, sortedOk, eachOk, kindBy, idsApart, apartBy, rowsUpTo, emptyBy, reservedAt, waitingAt, queueSeqs, queueApart, tablesOk, restOk}
 use Rattle.sound.proofs.Tests.{part-of, part-turn}
 use Rattle.sound.proofs.Head.{limits-used}
 use Rattle.sound.proofs.Subs.{rows-in, rows-over}
@@ -107,7 +107,7 @@ with-holders false a b e f = ap (λ (x : Bool). x && b) e
 
 module _ (q : Bool) (most others reserved waiting : ℕ) (subs rows : List Row) (b : others + (reserved + waiting) ≤ length rows) where
   pub table-tests : (each ids held sorted apart : Bool)
-      → each ≡ all (ownSound (kindBy q) most) (subsAt (kindBy q) subs rows)
+      → each ≡ eachOk (kindBy q) most subs rows
       → ids ≡ idsApart subs
       → held ≡ all rowOk (slice others (others + reserved) rows)
       → (held ≡ true → all holderOk (slice others (others + reserved) rows) ≡ true)
@@ -124,7 +124,7 @@ module _ (q : Bool) (most others reserved waiting : ℕ) (subs rows : List Row) 
 
   -- where the waiting rows do not rise, nothing else is asked
   pub table-unsorted : (each ids held : Bool)
-      → each ≡ all (ownSound (kindBy q) most) (subsAt (kindBy q) subs rows)
+      → each ≡ eachOk (kindBy q) most subs rows
       → ids ≡ idsApart subs
       → held ≡ all rowOk (slice others (others + reserved) rows)
       → (held ≡ true → all holderOk (slice others (others + reserved) rows) ≡ true)
@@ -179,13 +179,13 @@ count-exact m h = by-test (leb m 512)
 pub head-counts : (h : List ℕ) → headOk h ≡ true → (at 12 h ≤ 32) × (at 14 h ≤ 8) × (at 3 h ≤ 2 ^ 40)
 unfolding headOk
 head-counts h e =
-    let c = and-left (countsOk h) (idleOk h && countersOk (bound (at 3 h)) (statsAt h)) (and-right (limitsOk h) (countsOk h && (idleOk h && countersOk (bound (at 3 h)) (statsAt h))) e) in
+    let c = and-left (countsOk h) (marksOk h && countersOk (bound (at 3 h)) (statsAt h)) (and-right (limitsOk h) (countsOk h && (marksOk h && countersOk (bound (at 3 h)) (statsAt h))) e) in
     let t : Bool = ltb (at 4 h) (at 12 h) || eqb (at 4 h) 0 in
     let p = and-right (leb (at 12 h) 32) (leb (at 13 h) 32 && (leb (at 14 h) 8 && t)) c in
     let q = and-right (leb (at 13 h) 32) (leb (at 14 h) 8 && t) p in (
       leb-true (at 12 h) 32 (and-left (leb (at 12 h) 32) (leb (at 13 h) 32 && (leb (at 14 h) 8 && t)) c),
       leb-true (at 14 h) 8 (and-left (leb (at 14 h) 8) t q),
-      limits-used h (and-left (limitsOk h) (countsOk h && (idleOk h && countersOk (bound (at 3 h)) (statsAt h))) e),
+      limits-used h (and-left (limitsOk h) (countsOk h && (marksOk h && countersOk (bound (at 3 h)) (statsAt h))) e),
     )
 
 pub long-enough : (b : Buffers) → not (stateShort (lengthsOf b 0)) ≡ true → (8345 ≤ length (b .head)) × (32 ≤ length (b .subs)) × (512 ≤ length (b .rows))

@@ -14,7 +14,7 @@ use Rattle.definition.specs.Consumer.{isBrowser}
 use Rattle.definition.specs.Calls.{idOk, entryOk, optional, bound, seqs, rowsOf, subPlaced, taken, countersOk}
 use Rattle.definition.specs.Words.{at}
 pub use Rattle.definition.specs.Words.{kindBy}
-use Rattle.definition.specs.Layout.{Row, Buffers, flag, idAt, heldAt, statsAt, subsAt, subRows, usedSubs, usedRows, ringsFormed}
+use Rattle.definition.specs.Layout.{Row, Buffers, flag, idAt, heldAt, subAt, eachSub, statsAt, subsAt, subRows, usedSubs, usedRows, ringsFormed, isMark, entryStrict, wordsStrict, subStrict}
 
 -- ---- the head
 
@@ -24,11 +24,12 @@ limitsOk h = leb 1 (at 2 h) && (leb (at 2 h) (2 ^ 40) && (leb (at 3 h) (at 2 h) 
 abbrev pub countsOk : List ℕ → Bool
 countsOk h = leb (at 12 h) 32 && (leb (at 13 h) 32 && (leb (at 14 h) 8 && (ltb (at 4 h) (at 12 h) || eqb (at 4 h) 0)))
 
-abbrev pub idleOk : List ℕ → Bool
-idleOk h = eqb (at 5 h) 0 || leb (at 6 h) (2 ^ 62)
+-- the kind and whether it is idle, and since when
+abbrev pub marksOk : List ℕ → Bool
+marksOk h = isMark (at 0 h) && (isMark (at 5 h) && (eqb (at 5 h) 0 || leb (at 6 h) (2 ^ 62)))
 
 unfoldable pub headOk : List ℕ → Bool
-headOk h = limitsOk h && (countsOk h && (idleOk h && countersOk (bound (at 3 h)) (statsAt h)))
+headOk h = limitsOk h && (countsOk h && (marksOk h && countersOk (bound (at 3 h)) (statsAt h)))
 
 -- ---- rows
 
@@ -39,16 +40,20 @@ upward k (x ∷ xs) = leb k x && upward (suc x) xs
 
 -- one that holds an entry
 abbrev pub rowOk : Row → Bool
-rowOk w = entryOk (entryOf w)
+rowOk w = entryOk (entryOf w) && entryStrict w
 
--- and, reserved, an identifier
+-- and is in flight
+abbrev pub flightOk : Row → Bool
+flightOk w = rowOk w && (isMark (at 7 w) && isMark (at 8 w))
+
+-- or is reserved: the identifier
 abbrev pub holderOk : Row → Bool
 holderOk w = idOk (heldAt w .holder)
 
 -- rows in flight, with the least delivery number that the first may have and those counted as freed before it
 unfoldable pub flyingOk : ℕ → ℕ → ℕ → ℕ → List Row → Bool
 flyingOk least count next freed l =
-    all rowOk l && (upward least (map (at 6) l ++ next ∷ []) && eqb freed (count + tally (λ w. flag (at 7 w)) l))
+    all flightOk l && (upward least (map (at 6) l ++ next ∷ []) && eqb freed (count + tally (λ w. flag (at 7 w)) l))
 
 -- rows by rising sequence number
 unfoldable pub sortedOk : ℕ → List Row → Bool
@@ -66,6 +71,7 @@ wordTests q most w =
     ∷ leb (at 12 w) most
     ∷ (eqb (at 10 w) 0 || leb (at 11 w) most)
     ∷ (not q || (flag (at 6 w) || eqb (at 15 w) 0))
+    ∷ wordsStrict w
     ∷ []
 
 -- and the rows that it holds besides those in flight
@@ -92,6 +98,13 @@ ownTests k most s =
 
 unfoldable pub ownSound : Kind → ℕ → Sub → Bool
 ownSound k most s = every (ownTests k most s)
+
+-- by its words and its rows, with those that have to be strict
+abbrev pub ownOk : Kind → ℕ → Row → List Row → List Row → Bool
+ownOk k most w flying held = ownSound k most (subAt k w flying held) && subStrict w flying held
+
+abbrev pub eachOk : Kind → ℕ → List Row → List Row → Bool
+eachOk k most ws rows = all (λ ok. ok) (eachSub (ownOk k most) ws rows)
 
 -- no identifier twice
 abbrev pub idsApart : List Row → Bool
@@ -137,7 +150,7 @@ queueApart topic others reserved waiting subs rows = true
 abbrev pub tableTests : Kind → ℕ → ℕ → ℕ → ℕ → List Row → List Row → List Bool
 tableTests k most others reserved waiting subs rows =
     emptyBy k (reserved + waiting)
-    ∷ all (ownSound k most) (subsAt k subs rows)
+    ∷ eachOk k most subs rows
     ∷ idsApart subs
     ∷ (all rowOk (reservedAt others reserved rows) && all holderOk (reservedAt others reserved rows))
     ∷ sortedOk 0 (waitingAt others reserved waiting rows)

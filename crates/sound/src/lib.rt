@@ -1,10 +1,11 @@
 // Whether lent buffers are long enough, and the layout of a sound state.
+use audit::Audit;
 use entry::Row;
 ghost use mathlib.Core.Path.{_≡_};
 ghost use mathlib.Core.Bool.{true, false, not, _&&_, _||_};
 ghost use mathlib.Core.List.{_++_};
 ghost use Prim.Native.Nat.{_+_, _*_, _-_, _≤_, _<_, _^_};
-ghost use lib.Dec.{ltb, eqb};
+ghost use lib.Dec.{ltb};
 ghost use lib.ListN.{take, drop};
 ghost use lib.Seq.{slice};
 ghost use Rattle.words.specs.Pick.{if_then_else_};
@@ -13,8 +14,8 @@ ghost use Rattle.definition.specs.Base.{all, every, distinct};
 ghost use Rattle.definition.specs.Types.{queue};
 ghost use Rattle.definition.specs.Calls.{idOk, countersOk, seqs, taken, stateShort};
 ghost use Rattle.definition.specs.Words.{at};
-ghost use Rattle.definition.specs.Layout.{flag, idAt, statsAt, subAt, subsAt, subRows, ringsFormed, soundBuffers, lengthsOf};
-ghost use Rattle.sound.specs.Sound.{limitsOk, countsOk, idleOk, headOk, rowOk, holderOk, flyingOk, sortedOk, wordTests, ownSound, kindBy, idsApart, seqsAt, apartBy, rowsUpTo, queueSeqs, queueApart, tablesOk, lent, restOk};
+ghost use Rattle.definition.specs.Layout.{flag, idAt, statsAt, subsAt, subRows, ringsFormed, wordsStrict, soundBuffers, lengthsOf};
+ghost use Rattle.sound.specs.Sound.{limitsOk, countsOk, marksOk, headOk, rowOk, flightOk, holderOk, flyingOk, sortedOk, wordTests, ownOk, eachOk, kindBy, idsApart, seqsAt, apartBy, rowsUpTo, queueSeqs, queueApart, tablesOk, lent, restOk};
 
 type SubRow = [u64; 16];
 
@@ -43,11 +44,13 @@ fn counts_ok(head: &[u64]) -> bool
     (n <= 32) & ((head[13] <= 32) & ((head[14] <= 8) & ((turn < n) | (turn == 0))))
 }
 
-fn idle_ok(head: &[u64]) -> bool
+// The kind and whether it is idle, and since when.
+fn marks_ok(head: &[u64]) -> bool
     requires { do ⌜ 8345 ≤ (← ⟦head.len()⟧) ⌝ }
-    ensures { λ r. ⌜ r ≡ idleOk (now (head .entry)) ⌝ }
+    ensures { λ r. ⌜ r ≡ marksOk (now (head .entry)) ⌝ }
 {
-    (head[5] == 0) | (head[6] <= entry::CLOCK_MOST)
+    let idle = head[5];
+    (head[0] <= 1) & ((idle <= 1) & ((idle == 0) | (head[6] <= entry::CLOCK_MOST)))
 }
 
 fn counters_ok(head: &[u64], most: u64) -> bool
@@ -66,14 +69,7 @@ fn head_ok(head: &[u64]) -> bool
     if !limits_ok(head) {
         return false;
     }
-    counts_ok(head) & (idle_ok(head) & counters_ok(head, 65536 * head[3] + 1))
-}
-
-// A ring's numbers: until the window is full the oldest stands at 0.
-fn ring_ok(start: u64, count: u64) -> bool
-    ensures { λ r. ⌜ r ≡ ((ltb count 1024 && eqb start 0) || (eqb count 1024 && ltb start 1024)) ⌝ }
-{
-    ((count < 1024) & (start == 0)) | ((count == 1024) & (start < 1024))
+    counts_ok(head) & (marks_ok(head) & counters_ok(head, 65536 * head[3] + 1))
 }
 
 // Each of n audits.
@@ -85,7 +81,11 @@ fn rings_ok(head: &[u64], n: u64) -> bool
     let mut left = n;
     let mut from = 113;
     while 0 < left {
-        if !ring_ok(head[from + 3], head[from + 4]) {
+        let ring = Audit {
+            start: head[from + 3] as usize,
+            count: head[from + 4] as usize,
+        };
+        if !ring.sound() {
             return false;
         }
         left -= 1;
@@ -111,7 +111,14 @@ fn entry_ok(row: Row) -> bool
     fits(row[4]);
     fits(row[6]);
     let seq = row[0];
-    (1 <= seq) & (seq < SEQ_END)
+    ((1 <= seq) & (seq < SEQ_END)) & ((row[2] <= 1) & words::is_int(row[5]))
+}
+
+// And in flight the marks that it is freed or in a transaction.
+fn flight_ok(row: Row) -> bool
+    ensures { λ r. ⌜ r ≡ flightOk row ⌝ }
+{
+    entry_ok(row) & ((row[7] <= 1) & (row[8] <= 1))
 }
 
 // rows[from..to].
@@ -166,7 +173,7 @@ fn flying_ok(rows: &[Row], from: usize, to: usize, next: u64, freed: u64) -> boo
     while i < to {
         let row = rows[i];
         let dseq = row[6];
-        if !entry_ok(row) {
+        if !flight_ok(row) {
             return false;
         }
         if dseq < least {
@@ -208,6 +215,13 @@ fn sub_rows(subs: &[SubRow], n: usize) -> usize
     (512 - room) as usize
 }
 
+// The marks of one consumer.
+fn sub_marks_ok(w: SubRow) -> bool
+    ensures { λ r. ⌜ r ≡ wordsStrict w ⌝ }
+{
+    (w[5] <= 1) & ((w[6] <= 1) & ((w[7] <= 1) & ((w[10] <= 1) & true)))
+}
+
 // The words of one consumer by themselves: on a queue it holds rows only if it browses.
 fn words_ok(w: SubRow, most: u64, on_queue: bool) -> bool
     ensures { λ r. ⌜ r ≡ every (wordTests «on_queue» most w) ⌝ }
@@ -216,15 +230,17 @@ fn words_ok(w: SubRow, most: u64, on_queue: bool) -> bool
     fits(w[0]);
     let pull = (w[10] == 0) | (w[11] <= most);
     let place = !on_queue | ((w[6] != 0) | (w[15] == 0));
+    let marks = sub_marks_ok(w);
     (w[3] < PREFETCH_END)
         & ((w[4] <= 64)
-            & ((w[9] < SEQ_END) & ((w[8] <= most) & ((w[12] <= most) & (pull & (place & true))))))
+            & ((w[9] < SEQ_END)
+                & ((w[8] <= most) & ((w[12] <= most) & (pull & (place & (marks & true)))))))
 }
 
 // One consumer, whose rows start at base.
 fn sub_ok(w: SubRow, rows: &[Row], base: usize, most: u64, on_queue: bool) -> bool
     requires { do ⌜ base + (at 14 w + at 15 w) ≤ (← ⟦rows.len()⟧) ⌝ }
-    ensures { λ r. ⌜ r ≡ ownSound (kindBy «on_queue») most (subAt (kindBy «on_queue») w (take (at 14 w) (drop base (now (rows .entry)))) (take (at 15 w) (drop (at 14 w) (drop base (now (rows .entry)))))) ⌝ }
+    ensures { λ r. ⌜ r ≡ ownOk (kindBy «on_queue») most w (take (at 14 w) (drop base (now (rows .entry)))) (take (at 15 w) (drop (at 14 w) (drop base (now (rows .entry))))) ⌝ }
 {
     if !words_ok(w, most, on_queue) {
         return false;
@@ -244,7 +260,7 @@ fn sub_ok(w: SubRow, rows: &[Row], base: usize, most: u64, on_queue: bool) -> bo
 fn subs_ok(subs: &[SubRow], n: usize, rows: &[Row], most: u64, on_queue: bool) -> bool
     requires { do ⌜ n ≤ (← ⟦subs.len()⟧) ⌝ }
     requires { do ⌜ subRows (take n (now subs)) ≤ (← ⟦rows.len()⟧) ⌝ }
-    ensures { λ r. ⌜ r ≡ all (ownSound (kindBy «on_queue») most) (subsAt (kindBy «on_queue») (take n (now (subs .entry))) (now (rows .entry))) ⌝ }
+    ensures { λ r. ⌜ r ≡ eachOk (kindBy «on_queue») most (take n (now (subs .entry))) (now (rows .entry)) ⌝ }
 {
     let mut base = 0;
     let mut i = 0;

@@ -1,9 +1,12 @@
 -- `sound::entry_ok` meets its contract. Assumes nothing.
+use mathlib.Core.Path.{ap, _∙_}
+use mathlib.Core.Bool.{Bool, _&&_}
 use Prim.Native.Nat.{_^_}
 use borrow.Author.Tests.{ltb-true}
 use lib.Dec.{leb, ltb}
 use Rattle.definition.specs.Words.{at}
-use Rattle.definition.proofs.Tests.{and-right}
+use Rattle.definition.specs.Layout.{isMark}
+use Rattle.definition.proofs.Tests.{and-left, and-right}
 use Rattle.sound.proofs.Rows.{row-tests, holder-fits}
 use borrow.Author.Needs.{needs}
 use Rattle.sound.proofs.entry_ok.Statement.{statement}
@@ -30,10 +33,22 @@ fits-requires-3 c κs = search needs
 array-read-seq : tie.Need-array-read-seq
 array-read-seq c = search needs
 
+array-read-result : tie.Need-array-read-result
+array-read-result c = search needs
+
+array-read-is-int : tie.Need-array-read-is-int
+array-read-is-int c = search needs
+
+is-int-requires : tie.Need-is-int-requires
+is-int-requires c κs = search needs
+
 returns : tie.Need-returns
 returns c =
-    let w = c .before .before .before .args .t1 in
-    (row-tests w (c .before .before .fits2 .ensures) (c .before .fits3 .ensures), (holder-fits w (c .fits4 .ensures), λ t. ltb-true (at 0 w) (2 ^ 63) (and-right (leb 1 (at 0 w)) (ltb (at 0 w) (2 ^ 63)) t)))
+    let w = c .before .before .before .before .args .t1 in
+    let seq : Bool = leb 1 (at 0 w) && ltb (at 0 w) (2 ^ 63) in (
+      ap (λ (t : Bool). seq && (isMark (at 2 w) && t)) (c .is-int .ensures) ∙ row-tests w (c .before .before .before .fits2 .ensures) (c .before .before .fits3 .ensures),
+      (holder-fits w (c .before .fits4 .ensures), λ t. ltb-true (at 0 w) (2 ^ 63) (and-right (leb 1 (at 0 w)) (ltb (at 0 w) (2 ^ 63)) (and-left seq (isMark (at 2 w) && c .is-int .result) t))),
+    )
 
 pub entry-ok-spec : {M : Type 1} → statement M
 entry-ok-spec =
@@ -46,4 +61,7 @@ entry-ok-spec =
     array-read-fits-3
     fits-requires-3
     array-read-seq
+    array-read-result
+    array-read-is-int
+    is-int-requires
     returns)

@@ -34,8 +34,8 @@ shared-slice-copy-out-row c = search needs
 array-read-dseq : tie.Need-array-read-dseq Inv-loop μ-loop
 array-read-dseq c = search needs
 
-entry-ok-requires : tie.Need-entry-ok-requires Inv-loop μ-loop
-entry-ok-requires c κs = search needs
+flight-ok-requires : tie.Need-flight-ok-requires Inv-loop μ-loop
+flight-ok-requires c κs = search needs
 
 returns : tie.Need-returns Inv-loop μ-loop
 returns c =
@@ -44,8 +44,8 @@ returns c =
     let rows = a .rows .now in
     let b = p .before .pre .1 in
     let h = c .before .before .before .loop-test .taken in
-    let e = c .before .entry-ok .ensures in
-    flying-bad rows (p .loop .i) (a .to) b (flyingOk 0 0 (a .next) (a .freed) (slice (a .from) (a .to) rows)) (p .loop .least) (p .loop .count) (a .next) (a .freed) (p .loop .inv .3) h (sym (e .0) ∙ not-true (c .before .entry-ok .result) (c .if1 .taken))
+    let e = c .before .flight-ok .ensures in
+    flying-bad rows (p .loop .i) (a .to) b (flyingOk 0 0 (a .next) (a .freed) (slice (a .from) (a .to) rows)) (p .loop .least) (p .loop .count) (a .next) (a .freed) (p .loop .inv .3) h (sym e ∙ not-true (c .before .flight-ok .result) (c .if1 .taken))
 
 returns-2 : tie.Need-returns-2 Inv-loop μ-loop
 returns-2 c =
@@ -54,7 +54,7 @@ returns-2 c =
     let rows = a .rows .now in
     let b = p .before .pre .1 in
     let h = c .before .before .before .before .loop-test .taken in
-    let e = c .before .before .entry-ok .ensures in
+    let e = c .before .before .flight-ok .ensures in
     flying-low rows (p .loop .i) (a .to) b (flyingOk 0 0 (a .next) (a .freed) (slice (a .from) (a .to) rows)) (p .loop .least) (p .loop .count) (a .next) (a .freed) (p .loop .inv .3) h (c .if2 .taken)
 
 returns-3 : tie.Need-returns-3 Inv-loop μ-loop
@@ -64,7 +64,7 @@ returns-3 c =
     let rows = a .rows .now in
     let b = p .before .pre .1 in
     let h = c .before .before .before .before .before .loop-test .taken in
-    let e = c .before .before .before .entry-ok .ensures in
+    let e = c .before .before .before .flight-ok .ensures in
     flying-high rows (p .loop .i) (a .to) b (flyingOk 0 0 (a .next) (a .freed) (slice (a .from) (a .to) rows)) (p .loop .least) (p .loop .count) (a .next) (a .freed) (p .loop .inv .3) h (c .if3 .taken)
 
 add-least : tie.Need-add-least Inv-loop μ-loop
@@ -94,8 +94,8 @@ loop-again c =
     let rows = a .rows .now in
     let b = p .before .pre .1 in
     let h = c .before .before .before .before .before .loop-test .taken in
-    let e = c .before .before .before .entry-ok .ensures in
-    (search needs, search needs, omega (arith, flag-small (flag (at 7 (getD rows (p .loop .i) [])))), flying-next rows (p .loop .i) (a .to) b (flyingOk 0 0 (a .next) (a .freed) (slice (a .from) (a .to) rows)) (p .loop .least) (p .loop .count) (a .next) (a .freed) (p .loop .inv .3) h (sym (e .0) ∙ not-false (c .before .before .before .entry-ok .result) (c .before .before .if1 .left)) (c .before .if2 .left))
+    let e = c .before .before .before .flight-ok .ensures in
+    (search needs, search needs, omega (arith, flag-small (flag (at 7 (getD rows (p .loop .i) [])))), flying-next rows (p .loop .i) (a .to) b (flyingOk 0 0 (a .next) (a .freed) (slice (a .from) (a .to) rows)) (p .loop .least) (p .loop .count) (a .next) (a .freed) (p .loop .inv .3) h (sym e ∙ not-false (c .before .before .before .flight-ok .result) (c .before .before .if1 .left)) (c .before .if2 .left))
 
 returns-4 : tie.Need-returns-4 Inv-loop μ-loop
 returns-4 c =
@@ -115,7 +115,7 @@ flying-ok-spec =
     mul-row
     shared-slice-copy-out-row
     array-read-dseq
-    entry-ok-requires
+    flight-ok-requires
     returns
     returns-2
     returns-3

@@ -18,8 +18,8 @@ returns c =
 counts-ok-requires : tie.Need-counts-ok-requires
 counts-ok-requires c κs = search needs
 
-idle-ok-requires : tie.Need-idle-ok-requires
-idle-ok-requires c κs = search needs
+marks-ok-requires : tie.Need-marks-ok-requires
+marks-ok-requires c κs = search needs
 
 shared-slice-read-counters-ok : tie.Need-shared-slice-read-counters-ok
 shared-slice-read-counters-ok c = search needs
@@ -41,7 +41,7 @@ returns-2 : tie.Need-returns-2
 returns-2 c =
     let h = c .before .before .before .before .before .before .before .args .head .now in
     let l = c .before .before .before .before .before .limits-ok in
-    rw (c .before .before .before .counts-ok .ensures, c .before .before .idle-ok .ensures, c .counters-ok .ensures) (head-rest h (sym (l .ensures) ∙ not-false (l .result) (c .before .before .before .before .if1 .left)))
+    rw (c .before .before .before .counts-ok .ensures, c .before .before .marks-ok .ensures, c .counters-ok .ensures) (head-rest h (sym (l .ensures) ∙ not-false (l .result) (c .before .before .before .before .if1 .left)))
 
 pub head-ok-spec : {M : Type 1} → statement M
 head-ok-spec =
@@ -50,7 +50,7 @@ head-ok-spec =
     limits-ok-requires
     returns
     counts-ok-requires
-    idle-ok-requires
+    marks-ok-requires
     shared-slice-read-counters-ok
     mul-counters-ok
     add-counters-ok

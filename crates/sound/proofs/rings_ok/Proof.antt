@@ -4,9 +4,8 @@ use Prim.Native.Nat.{_+_, _*_}
 use borrow.Author.Tests.{not-true, not-false}
 use lib.ListN.{drop}
 use Rattle.definition.specs.Base.{all}
-use Rattle.definition.specs.Words.{at}
 use Rattle.definition.specs.Layout.{ringsFormed}
-use Rattle.sound.proofs.Head.{ring-tests, rings-stop, rings-next, rings-end}
+use Rattle.sound.proofs.Head.{rings-stop, rings-next, rings-end}
 use native.Mathlib.Omega.{arith}
 use borrow.Author.Needs.{needs}
 use Rattle.sound.proofs.rings_ok.Statement.{statement}
@@ -21,35 +20,33 @@ abbrev μ-loop : tie.MeasureT-loop
 loop-holds : tie.Need-loop-holds Inv-loop μ-loop
 loop-holds c = search needs
 
-add-ring-ok : tie.Need-add-ring-ok Inv-loop μ-loop
-add-ring-ok c = search needs
+add-t7 : tie.Need-add-t7 Inv-loop μ-loop
+add-t7 c = search needs
 
-mul-ring-ok : tie.Need-mul-ring-ok Inv-loop μ-loop
-mul-ring-ok c = search needs
+mul-t8 : tie.Need-mul-t8 Inv-loop μ-loop
+mul-t8 c = search needs
 
-shared-slice-read-ring-ok : tie.Need-shared-slice-read-ring-ok Inv-loop μ-loop
-shared-slice-read-ring-ok c = search needs
+shared-slice-read-t10 : tie.Need-shared-slice-read-t10 Inv-loop μ-loop
+shared-slice-read-t10 c = search needs
 
-add-ring-ok-2 : tie.Need-add-ring-ok-2 Inv-loop μ-loop
-add-ring-ok-2 c = search needs
+add-t12 : tie.Need-add-t12 Inv-loop μ-loop
+add-t12 c = search needs
 
-mul-ring-ok-2 : tie.Need-mul-ring-ok-2 Inv-loop μ-loop
-mul-ring-ok-2 c = search needs
+mul-t13 : tie.Need-mul-t13 Inv-loop μ-loop
+mul-t13 c = search needs
 
-shared-slice-read-ring-ok-2 : tie.Need-shared-slice-read-ring-ok-2 Inv-loop μ-loop
-shared-slice-read-ring-ok-2 c = search needs
+shared-slice-read-t15 : tie.Need-shared-slice-read-t15 Inv-loop μ-loop
+shared-slice-read-t15 c = search needs
 
-ring-ok-requires : tie.Need-ring-ok-requires Inv-loop μ-loop
-ring-ok-requires c κs = search needs
+sound-requires : tie.Need-sound-requires Inv-loop μ-loop
+sound-requires c κs = search needs
 
 returns : tie.Need-returns Inv-loop μ-loop
 returns c =
     let p = c .before .before .before .before .before in
     let a = p .before .before .args in
-    let h = a .head .now in
-    let f = p .loop .from in
-    let r = c .before .ring-ok in
-    rings-stop (a .head .now) (p .loop .left) (p .loop .from) (ringsFormed (a .n) (drop 113 (a .head .now))) (p .loop .inv .1) (c .before .before .before .before .loop-test .taken) (sym (r .ensures ∙ ring-tests (at (f + 3) h) (at (f + 4) h)) ∙ not-true (r .result) (c .if1 .taken))
+    let r = c .before .sound in
+    rings-stop (a .head .now) (p .loop .left) (p .loop .from) (ringsFormed (a .n) (drop 113 (a .head .now))) (p .loop .inv .1) (c .before .before .before .before .loop-test .taken) (sym (r .ensures) ∙ not-true (r .result) (c .if1 .taken))
 
 sub-left : tie.Need-sub-left Inv-loop μ-loop
 sub-left c = search needs
@@ -64,10 +61,8 @@ loop-again : tie.Need-loop-again Inv-loop μ-loop
 loop-again c =
     let p = c .before .before .before .before .before in
     let a = p .before .before .args in
-    let h = a .head .now in
-    let f = p .loop .from in
-    let r = c .before .ring-ok in
-    (search needs, rings-next (a .head .now) (p .loop .left) (p .loop .from) (ringsFormed (a .n) (drop 113 (a .head .now))) (p .loop .inv .1) (c .before .before .before .before .loop-test .taken) (sym (r .ensures ∙ ring-tests (at (f + 3) h) (at (f + 4) h)) ∙ not-false (r .result) (c .if1 .left)))
+    let r = c .before .sound in
+    (search needs, rings-next (a .head .now) (p .loop .left) (p .loop .from) (ringsFormed (a .n) (drop 113 (a .head .now))) (p .loop .inv .1) (c .before .before .before .before .loop-test .taken) (sym (r .ensures) ∙ not-false (r .result) (c .if1 .left)))
 
 returns-2 : tie.Need-returns-2 Inv-loop μ-loop
 returns-2 c =
@@ -82,13 +77,13 @@ rings-ok-spec =
     Inv-loop
     μ-loop
     loop-holds
-    add-ring-ok
-    mul-ring-ok
-    shared-slice-read-ring-ok
-    add-ring-ok-2
-    mul-ring-ok-2
-    shared-slice-read-ring-ok-2
-    ring-ok-requires
+    add-t7
+    mul-t8
+    shared-slice-read-t10
+    add-t12
+    mul-t13
+    shared-slice-read-t15
+    sound-requires
     returns
     sub-left
     add-from

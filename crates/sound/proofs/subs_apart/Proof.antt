@@ -6,7 +6,7 @@ use borrow.Author.Tests.{not-true, not-false}
 use lib.ListN.{length, take, drop, getD}
 use lib.Seq.{slice}
 use Rattle.definition.specs.Base.{all}
-use Rattle.definition.specs.Layout.{subsAt, subRows}
+use Rattle.definition.specs.Layout.{subAt, subsAt, subRows}
 use Rattle.sound.specs.Sound.{kindBy, apartBy}
 use Rattle.sound.proofs.Subs.{rows-turn, walk-stop, walk-next, walk-end}
 use Rattle.sound.proofs.Gathered.{apart-here}
@@ -74,7 +74,7 @@ returns c =
     let subs = a .subs .now in
     let h = c .before .before .before .before .before .before .loop-test .taken in
     let r = c .before .before .before .rows-apart in
-    walk-stop subs (p .loop .i) (a .n) (s .pre .0) (apartBy (kindBy (a .on-queue))) (kindBy (a .on-queue)) (a .rows .now) (p .loop .base) (all (apartBy (kindBy (a .on-queue))) (subsAt (kindBy (a .on-queue)) (take (a .n) subs) (a .rows .now))) (p .loop .inv .3) h (sym (r .ensures ∙ apart-here (getD subs (p .loop .i) []) (a .rows .now) (p .loop .base) (a .on-queue)) ∙ not-true (r .result) (c .if1 .taken))
+    walk-stop subs (p .loop .i) (a .n) (s .pre .0) (apartBy (kindBy (a .on-queue))) (subAt (kindBy (a .on-queue))) (a .rows .now) (p .loop .base) (all (apartBy (kindBy (a .on-queue))) (subsAt (kindBy (a .on-queue)) (take (a .n) subs) (a .rows .now))) (p .loop .inv .3) h (sym (r .ensures ∙ apart-here (getD subs (p .loop .i) []) (a .rows .now) (p .loop .base) (a .on-queue)) ∙ not-true (r .result) (c .if1 .taken))
 
 add-base : tie.Need-add-base Inv-loop μ-loop
 add-base c =
@@ -99,7 +99,7 @@ loop-again c =
     let subs = a .subs .now in
     let h = c .before .before .before .before .before .before .loop-test .taken in
     let r = c .before .before .before .rows-apart in
-    (search needs, omega (arith, rows-turn subs (p .loop .i) (a .n) (s .pre .0) h), r .kept .1 .1 .1 .0 ∙ p .loop .inv .2, walk-next subs (p .loop .i) (a .n) (s .pre .0) (apartBy (kindBy (a .on-queue))) (kindBy (a .on-queue)) (a .rows .now) (p .loop .base) (all (apartBy (kindBy (a .on-queue))) (subsAt (kindBy (a .on-queue)) (take (a .n) subs) (a .rows .now))) (p .loop .inv .3) h (sym (r .ensures ∙ apart-here (getD subs (p .loop .i) []) (a .rows .now) (p .loop .base) (a .on-queue)) ∙ not-false (r .result) (c .if1 .left)))
+    (search needs, omega (arith, rows-turn subs (p .loop .i) (a .n) (s .pre .0) h), r .kept .1 .1 .1 .0 ∙ p .loop .inv .2, walk-next subs (p .loop .i) (a .n) (s .pre .0) (apartBy (kindBy (a .on-queue))) (subAt (kindBy (a .on-queue))) (a .rows .now) (p .loop .base) (all (apartBy (kindBy (a .on-queue))) (subsAt (kindBy (a .on-queue)) (take (a .n) subs) (a .rows .now))) (p .loop .inv .3) h (sym (r .ensures ∙ apart-here (getD subs (p .loop .i) []) (a .rows .now) (p .loop .base) (a .on-queue)) ∙ not-false (r .result) (c .if1 .left)))
 
 same-length-2 : tie.Need-same-length-2 Inv-loop μ-loop
 same-length-2 c = search needs
@@ -110,7 +110,7 @@ returns-2 c =
     let s = p .before .before in
     let a = s .args in
     let subs = a .subs .now in
-    walk-end subs (p .loop .i) (a .n) (s .pre .0) (apartBy (kindBy (a .on-queue))) (kindBy (a .on-queue)) (a .rows .now) (p .loop .base) (all (apartBy (kindBy (a .on-queue))) (subsAt (kindBy (a .on-queue)) (take (a .n) subs) (a .rows .now))) (p .loop .inv .3) (omega arith)
+    walk-end subs (p .loop .i) (a .n) (s .pre .0) (apartBy (kindBy (a .on-queue))) (subAt (kindBy (a .on-queue))) (a .rows .now) (p .loop .base) (all (apartBy (kindBy (a .on-queue))) (subsAt (kindBy (a .on-queue)) (take (a .n) subs) (a .rows .now))) (p .loop .inv .3) (omega arith)
 
 pub subs-apart-spec : {M : Type 1} → statement M
 subs-apart-spec =

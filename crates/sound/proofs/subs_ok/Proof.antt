@@ -4,9 +4,8 @@ use Prim.Native.Nat.{_+_, _-_, _≤_}
 use borrow.Author.Tests.{not-true, not-false}
 use lib.ListN.{take, drop}
 use lib.Seq.{slice}
-use Rattle.definition.specs.Base.{all}
-use Rattle.definition.specs.Layout.{subsAt, subRows}
-use Rattle.sound.specs.Sound.{ownSound, kindBy}
+use Rattle.definition.specs.Layout.{subRows}
+use Rattle.sound.specs.Sound.{ownOk, eachOk, kindBy}
 use Rattle.sound.proofs.Subs.{rows-turn, walk-stop, walk-next, walk-end}
 use native.Mathlib.Omega.{arith}
 use borrow.Author.Needs.{needs}
@@ -14,7 +13,7 @@ use Rattle.sound.proofs.subs_ok.Statement.{statement}
 use Rattle.sound.proofs.subs_ok.Tie as tie
 
 abbrev Inv-loop : tie.InvT-loop
-Inv-loop subs n rows most on-queue base₀ i₀ base i = (i ≤ n) × (base + subRows (slice i n subs) ≡ subRows (take n subs)) × (all (ownSound (kindBy on-queue) most) (subsAt (kindBy on-queue) (slice i n subs) (drop base rows)) ≡ all (ownSound (kindBy on-queue) most) (subsAt (kindBy on-queue) (take n subs) rows))
+Inv-loop subs n rows most on-queue base₀ i₀ base i = (i ≤ n) × (base + subRows (slice i n subs) ≡ subRows (take n subs)) × (eachOk (kindBy on-queue) most (slice i n subs) (drop base rows) ≡ eachOk (kindBy on-queue) most (take n subs) rows)
 
 abbrev μ-loop : tie.MeasureT-loop
 μ-loop subs n rows most on-queue base₀ i₀ base i = n - i
@@ -42,7 +41,7 @@ returns c =
     let a = p .before .args in
     let subs = a .subs .now in
     let h = c .before .before .before .loop-test .taken in
-    walk-stop subs (p .loop .i) (a .n) (p .before .pre .0) (ownSound (kindBy (a .on-queue)) (a .most)) (kindBy (a .on-queue)) (a .rows .now) (p .loop .base) (all (ownSound (kindBy (a .on-queue)) (a .most)) (subsAt (kindBy (a .on-queue)) (take (a .n) subs) (a .rows .now))) (p .loop .inv .2) h (sym (c .before .sub-ok .ensures) ∙ not-true (c .before .sub-ok .result) (c .if1 .taken))
+    walk-stop subs (p .loop .i) (a .n) (p .before .pre .0) (λ ok. ok) (ownOk (kindBy (a .on-queue)) (a .most)) (a .rows .now) (p .loop .base) (eachOk (kindBy (a .on-queue)) (a .most) (take (a .n) subs) (a .rows .now)) (p .loop .inv .2) h (sym (c .before .sub-ok .ensures) ∙ not-true (c .before .sub-ok .result) (c .if1 .taken))
 
 array-read-base : tie.Need-array-read-base Inv-loop μ-loop
 array-read-base c = search needs
@@ -78,14 +77,14 @@ loop-again c =
     let a = p .before .args in
     let subs = a .subs .now in
     let h = c .before .before .before .loop-test .taken in
-    (search needs, omega (arith, rows-turn subs (p .loop .i) (a .n) (p .before .pre .0) h), walk-next subs (p .loop .i) (a .n) (p .before .pre .0) (ownSound (kindBy (a .on-queue)) (a .most)) (kindBy (a .on-queue)) (a .rows .now) (p .loop .base) (all (ownSound (kindBy (a .on-queue)) (a .most)) (subsAt (kindBy (a .on-queue)) (take (a .n) subs) (a .rows .now))) (p .loop .inv .2) h (sym (c .before .sub-ok .ensures) ∙ not-false (c .before .sub-ok .result) (c .if1 .left)))
+    (search needs, omega (arith, rows-turn subs (p .loop .i) (a .n) (p .before .pre .0) h), walk-next subs (p .loop .i) (a .n) (p .before .pre .0) (λ ok. ok) (ownOk (kindBy (a .on-queue)) (a .most)) (a .rows .now) (p .loop .base) (eachOk (kindBy (a .on-queue)) (a .most) (take (a .n) subs) (a .rows .now)) (p .loop .inv .2) h (sym (c .before .sub-ok .ensures) ∙ not-false (c .before .sub-ok .result) (c .if1 .left)))
 
 returns-2 : tie.Need-returns-2 Inv-loop μ-loop
 returns-2 c =
     let p = c .before in
     let a = p .before .args in
     let subs = a .subs .now in
-    walk-end subs (p .loop .i) (a .n) (p .before .pre .0) (ownSound (kindBy (a .on-queue)) (a .most)) (kindBy (a .on-queue)) (a .rows .now) (p .loop .base) (all (ownSound (kindBy (a .on-queue)) (a .most)) (subsAt (kindBy (a .on-queue)) (take (a .n) subs) (a .rows .now))) (p .loop .inv .2) (omega arith)
+    walk-end subs (p .loop .i) (a .n) (p .before .pre .0) (λ ok. ok) (ownOk (kindBy (a .on-queue)) (a .most)) (a .rows .now) (p .loop .base) (eachOk (kindBy (a .on-queue)) (a .most) (take (a .n) subs) (a .rows .now)) (p .loop .inv .2) (omega arith)
 
 pub subs-ok-spec : {M : Type 1} → statement M
 subs-ok-spec =

@@ -1,5 +1,4 @@
 -- `sound::words_ok` meets its contract. Assumes nothing.
-use mathlib.Core.Path.{refl}
 use Rattle.sound.proofs.Rows.{id-fits}
 use borrow.Author.Needs.{needs}
 use Rattle.sound.proofs.words_ok.Statement.{statement}
@@ -23,6 +22,9 @@ array-read-place c = search needs
 array-read-place-2 : tie.Need-array-read-place-2
 array-read-place-2 c = search needs
 
+sub-marks-ok-requires : tie.Need-sub-marks-ok-requires
+sub-marks-ok-requires c κs = search needs
+
 array-read-result : tie.Need-array-read-result
 array-read-result c = search needs
 
@@ -39,7 +41,7 @@ array-read-result-5 : tie.Need-array-read-result-5
 array-read-result-5 c = search needs
 
 returns : tie.Need-returns
-returns c = (refl, id-fits (c .before .args .t1) (c .fits2 .ensures))
+returns c = (rw (c .sub-marks-ok .ensures), id-fits (c .before .before .args .t1) (c .before .fits2 .ensures))
 
 pub words-ok-spec : {M : Type 1} → statement M
 words-ok-spec =
@@ -51,6 +53,7 @@ words-ok-spec =
     array-read-pull-2
     array-read-place
     array-read-place-2
+    sub-marks-ok-requires
     array-read-result
     array-read-result-2
     array-read-result-3
