@@ -8,7 +8,7 @@ use lib.ListN.{take, drop, getD}
 use lib.Seq.{slice}
 use Rattle.definition.specs.Base.{all}
 use Rattle.definition.specs.Words.{kindBy}
-use Rattle.definition.specs.Layout.{subsAt, subRows}
+use Rattle.definition.specs.Layout.{subsAt, subRows, subAt}
 use Rattle.sound.proofs.Subs.{rows-turn, walk-stop, walk-next, walk-end}
 use Rattle.queries.specs.Answers.{subLasts}
 use Rattle.queries.proofs.Answered.{sub-placed}
@@ -84,7 +84,7 @@ returns c =
     let a = s .args in
     let h = c .before .before .before .loop-test .taken in
     let r = rows-turn (a .subs .now) (p .loop .i) (a .n) (s .pre .0) h in
-    walk-stop (a .subs .now) (p .loop .i) (a .n) (s .pre .0) subLasts (kindBy (a .on-queue)) (a .rows .now) (p .loop .base) (all subLasts (subsAt (kindBy (a .on-queue)) (take (a .n) (a .subs .now)) (a .rows .now))) (p .loop .inv .2) h (sub-placed (a .on-queue) (getD (a .subs .now) (p .loop .i) []) (a .rows .now) (p .loop .base) (omega (arith, r, p .loop .inv .1, s .pre .1)) ∙ sym (c .before .held-lasting .ensures) ∙ not-true _ (c .if1 .taken))
+    walk-stop (a .subs .now) (p .loop .i) (a .n) (s .pre .0) subLasts (subAt (kindBy (a .on-queue))) (a .rows .now) (p .loop .base) (all subLasts (subsAt (kindBy (a .on-queue)) (take (a .n) (a .subs .now)) (a .rows .now))) (p .loop .inv .2) h (sub-placed (a .on-queue) (getD (a .subs .now) (p .loop .i) []) (a .rows .now) (p .loop .base) (omega (arith, r, p .loop .inv .1, s .pre .1)) ∙ sym (c .before .held-lasting .ensures) ∙ not-true _ (c .if1 .taken))
 
 add-base : tie.Need-add-base Inv-loop μ-loop
 add-base c =
@@ -108,14 +108,14 @@ loop-again c =
     let a = s .args in
     let h = c .before .before .before .loop-test .taken in
     let r = rows-turn (a .subs .now) (p .loop .i) (a .n) (s .pre .0) h in
-    (search needs, omega (arith, r, p .loop .inv .1), walk-next (a .subs .now) (p .loop .i) (a .n) (s .pre .0) subLasts (kindBy (a .on-queue)) (a .rows .now) (p .loop .base) (all subLasts (subsAt (kindBy (a .on-queue)) (take (a .n) (a .subs .now)) (a .rows .now))) (p .loop .inv .2) h (sub-placed (a .on-queue) (getD (a .subs .now) (p .loop .i) []) (a .rows .now) (p .loop .base) (omega (arith, r, p .loop .inv .1, s .pre .1)) ∙ sym (c .before .held-lasting .ensures) ∙ not-false _ (c .if1 .left)))
+    (search needs, omega (arith, r, p .loop .inv .1), walk-next (a .subs .now) (p .loop .i) (a .n) (s .pre .0) subLasts (subAt (kindBy (a .on-queue))) (a .rows .now) (p .loop .base) (all subLasts (subsAt (kindBy (a .on-queue)) (take (a .n) (a .subs .now)) (a .rows .now))) (p .loop .inv .2) h (sub-placed (a .on-queue) (getD (a .subs .now) (p .loop .i) []) (a .rows .now) (p .loop .base) (omega (arith, r, p .loop .inv .1, s .pre .1)) ∙ sym (c .before .held-lasting .ensures) ∙ not-false _ (c .if1 .left)))
 
 returns-2 : tie.Need-returns-2 Inv-loop μ-loop
 returns-2 c =
     let p = c .before in
     let s = p .before in
     let a = s .args in
-    walk-end (a .subs .now) (p .loop .i) (a .n) (s .pre .0) subLasts (kindBy (a .on-queue)) (a .rows .now) (p .loop .base) (all subLasts (subsAt (kindBy (a .on-queue)) (take (a .n) (a .subs .now)) (a .rows .now))) (p .loop .inv .2) (omega arith)
+    walk-end (a .subs .now) (p .loop .i) (a .n) (s .pre .0) subLasts (subAt (kindBy (a .on-queue))) (a .rows .now) (p .loop .base) (all subLasts (subsAt (kindBy (a .on-queue)) (take (a .n) (a .subs .now)) (a .rows .now))) (p .loop .inv .2) (omega arith)
 
 pub subs-lasting-spec : {M : Type 1} → statement M
 subs-lasting-spec =
