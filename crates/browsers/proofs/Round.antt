@@ -194,9 +194,9 @@ module _ (now : ℕ) (subs₀ rows₀ events₀ : List Row) (d₀ : Head) (fits 
               past = g .past;
               later = g .later;
               strict = λ z.
-                let l = g .strict z in
-                line-step (d .reserved + d .waiting) ws subs i base rows here l subs w rows (subRows post) end end (d .reserved + d .waiting) front (g .ends) refl (line-words (d .reserved + d .waiting) ws subs i base rows here l)
-                (line-own (d .reserved + d .waiting) ws subs i base rows here l) refl (omega arith) refl (line-others (d .reserved + d .waiting) ws subs i base rows here l end refl);
+                  let l = g .strict z in
+                  line-step (d .reserved + d .waiting) ws subs i base rows here l subs w rows (subRows post) end end (d .reserved + d .waiting) front (g .ends) refl (line-words (d .reserved + d .waiting) ws subs i base rows here l)
+                  (line-own (d .reserved + d .waiting) ws subs i base rows here l) refl (omega arith) refl (line-others (d .reserved + d .waiting) ws subs i base rows here l end refl);
               said = whole-pass ∙ g .said;
             }
 

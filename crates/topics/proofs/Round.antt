@@ -211,7 +211,7 @@ module _ (now : ℕ) (subs₀ rows₀ events₀ : List Row) (d₀ : Head) (fits 
               used = omega (arith, r .used, fits .used);
               rows-used = rw m (omega arith);
               strict = λ h. ap₂ (λ (k : ℕ) (l : List Row). tablesStrict k l rows) (same (λ (x : Head). x .reserved + x .waiting)) m
-              ∙ line-end (d₀ .reserved + d₀ .waiting) ws subs i base rows all-done (g .ends) (g .strict h);
+                  ∙ line-end (d₀ .reserved + d₀ .waiting) ws subs i base rows all-done (g .ends) (g .strict h);
               subs-past = agree-later i 32 subs subs₀ (omega (arith, g .within, fits .consumers)) (g .rest);
               rows-past = agree-later (d₀ .used) 512 rows rows₀ (fits .used) (g .past);
               subs-length = g .same-subs;

@@ -241,7 +241,7 @@ module _ (now base : ℕ) (rows₀ events₀ : List Row) (s₀ : Sub) (d₀ : He
             kept = kept-sent;
             past = drop-set-lt (d₀ .used) rows (base + s .inflight) x (omega (arith, g .kept .used, f .rows)) ∙ g .past;
             strict = λ o.
-              let z = g .strict o in
-              let e = first-strict base (s .inflight) (s .held) (d .used) rows some (f .rows) (omega arith) z .0 in
-              strict-sent base (s .inflight) (s .held) (d .used) rows some (f .rows) (omega arith) z x (ap flyingStrict r ∙ flown-strict (s .«next_dseq») row e);
+                let z = g .strict o in
+                let e = first-strict base (s .inflight) (s .held) (d .used) rows some (f .rows) (omega arith) z .0 in
+                strict-sent base (s .inflight) (s .held) (d .used) rows some (f .rows) (omega arith) z x (ap flyingStrict r ∙ flown-strict (s .«next_dseq») row e);
           })
