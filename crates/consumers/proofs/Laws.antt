@@ -22,7 +22,7 @@ use Rattle.definition.specs.Queries.{isQueue}
 use Rattle.definition.specs.Words.{at}
 use Rattle.definition.specs.Layout.{Row, flag, inflightAt, inflightOf, heldOf, browserAt, tpendingAt, subAt, eachSub, subsAt, subRows}
 use Rattle.consumers.specs.declared.Sub.{Sub}
-use Rattle.consumers.specs.Consumers.{subOf, subView, creditOf, acceptsOf, heldBack, clearedOf}
+use Rattle.consumers.specs.Consumers.{subOf, subView, creditOf, acceptsOf}
 use Rattle.consumers.proofs.View.{sub-at, inflight-loaded}
 use Rattle.consumers.specs.Table.{takenOut, removed, onFirst, heldBackRow, clearedRow, takes, heldBy, keptRows, fitting}
 
@@ -55,10 +55,6 @@ pub browser-sub : (k : Kind) (s : Sub) (f h : List Row) → isBrowser (subView k
 unfolding isBrowser subView
 browser-sub k s f h = browsing k (s .browser) (map entryOf h)
 
-pub held-back-sub : (k : Kind) (seq : ℕ) (s : Sub) (f h : List Row) → subView k (heldBack seq s) f h ≡ holdBack seq (subView k s f h)
-unfolding subView
-held-back-sub k seq s f h = refl
-
 no-browser : (k : Kind) (b : Bool) (l : List Entry) → browserAt k b [] ≡ emptied (browserAt k b l)
 no-browser k false l = refl
 no-browser queue true l = refl
@@ -68,10 +64,6 @@ no-pending : (k : Kind) (b : Bool) → tpendingAt k b [] ≡ []
 no-pending queue true = refl
 no-pending queue false = refl
 no-pending topic b = refl
-
-pub cleared-sub : (k : Kind) (s : Sub) (f h : List Row) → subView k (clearedOf s) [] [] ≡ cleared (subView k s f h)
-unfolding subView
-cleared-sub k s f h = rw (no-browser k (s .browser) (map entryOf h), no-pending k (s .browser))
 
 -- ---- all consumers
 

@@ -7,7 +7,7 @@ ghost use Rattle.model.specs.Model.{idOf, sameId};
 ghost use Rattle.definition.specs.Base.{tally, all};
 ghost use Rattle.definition.specs.Words.{at};
 ghost use Rattle.definition.specs.Layout.{idAt, inflightOf, heldOf, subRows};
-ghost use Rattle.consumers.specs.Consumers.{subOf, subWords, creditOf, localOf, acceptsOf, heldBack, clearedOf};
+ghost use Rattle.consumers.specs.Consumers.{subOf, subWords, creditOf, localOf, acceptsOf};
 ghost use Rattle.consumers.specs.Table.{sixteen, positionFrom, takenOut, removed, heldBackRow, clearedRow, onFirst, takes, heldBy, keptBy, keptRows, fitting};
 use entry::Entry;
 use model::Id;
@@ -33,7 +33,7 @@ pub const INFLIGHT: usize = 14;
 pub const HELD: usize = 15;
 
 // No counter, delivery number or generation is above 65,536 * 2^40 + 1.
-pub const NUMBER_MOST: u64 = 72057594037927937;
+const NUMBER_MOST: u64 = 72057594037927937;
 
 // The identifier is kept as its three words. `pull` is read where `pulling` is set.
 pub struct Sub {
@@ -72,7 +72,7 @@ impl Sub {
     }
 
     // What counts against prefetch.
-    pub fn window(self) -> usize
+    fn window(self) -> usize
         ensures { λ r. ⌜ r ≡ self .inflight - self .freed ⌝ }
     {
         if self.freed <= self.inflight {
@@ -112,24 +112,6 @@ impl Sub {
         }
         entry::selects(e.match_word, self.selector)
     }
-
-    // cursor.min(seq - 1)
-    pub fn held_back(mut self, seq: u64) -> Sub
-        ensures { λ r. ⌜ r ≡ heldBack seq self ⌝ }
-    {
-        self.cursor = least(self.cursor, before(seq));
-        self
-    }
-
-    // Nothing in flight, pending or to be browsed.
-    pub fn cleared(mut self) -> Sub
-        ensures { λ r. ⌜ r ≡ clearedOf self ⌝ }
-    {
-        self.inflight = 0;
-        self.freed = 0;
-        self.held = 0;
-        self
-    }
 }
 
 fn least(a: u64, b: u64) -> u64
@@ -151,7 +133,7 @@ fn end_of(n: usize, len: usize) -> usize
     if n <= len { n } else { len }
 }
 
-pub fn sub_of(w: SubRow) -> Sub
+fn sub_of(w: SubRow) -> Sub
     ensures { λ r. ⌜ r ≡ subOf w ⌝ }
 {
     Sub {
@@ -174,7 +156,7 @@ pub fn sub_of(w: SubRow) -> Sub
     }
 }
 
-pub fn words_of(s: Sub) -> SubRow
+fn words_of(s: Sub) -> SubRow
     ensures { λ r. ⌜ r ≡ subWords s ⌝ }
 {
     [
@@ -264,7 +246,7 @@ fn sum_of(a: u64, b: u64) -> usize
 }
 
 // How many rows a consumer has, or 513 for more than 512.
-pub fn rows_of(w: SubRow) -> usize
+fn rows_of(w: SubRow) -> usize
     ensures { λ r. ⌜ r ≡ min 513 (inflightOf w + heldOf w) ⌝ }
 {
     sum_of(w[INFLIGHT], w[HELD])
@@ -282,13 +264,6 @@ pub fn base_of(subs: &[SubRow], n: usize) -> usize
         i += 1;
     }
     base
-}
-
-// Puts a consumer after the first n.
-pub fn append(subs: &mut [SubRow], n: usize, s: Sub)
-    ensures { λ _. ⌜ now (subs .exit) ≡ set (now (subs .entry)) n (subWords s) ⌝ }
-{
-    store(subs, n, s);
 }
 
 // Takes the consumer at a place out of the first n.

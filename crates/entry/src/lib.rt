@@ -82,7 +82,7 @@ pub fn entry_of(row: Row) -> Entry
 }
 
 // The row of an entry, with the three words of its place.
-pub fn row_of(e: Entry, a: u64, b: u64, c: u64) -> Row
+fn row_of(e: Entry, a: u64, b: u64, c: u64) -> Row
     ensures { λ r. ⌜ r ≡ rowOf e a b c ⌝ }
 {
     [

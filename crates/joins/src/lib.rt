@@ -172,7 +172,7 @@ fn admit(
     ensures { λ r. ⌜ (r ≡ joinedHead clock spec k d (now (rows .entry))) × (now (rows .exit) ≡ joinedRows clock spec k d (now (rows .entry))) ⌝ }
     ensures { λ _. ⌜ now (subs .exit) ≡ set (now (subs .entry)) (d .consumers) (subWords (newOf spec k)) ⌝ }
 {
-    consumers::append(subs, d.consumers, new_sub(spec, k));
+    consumers::store(subs, d.consumers, new_sub(spec, k));
     d.consumers = d.consumers + 1;
     d = d.not_idle();
     if spec.browser {

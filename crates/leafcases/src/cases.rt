@@ -15,12 +15,12 @@ use words::signed_of;
 use words::word_of;
 use words::word_of_int;
 
-pub struct Count {
+pub(crate) struct Count {
     pub cases: u64,
     pub differ: u64,
 }
 
-pub struct Counts {
+pub(crate) struct Counts {
     pub expired: Count,
     pub redelivered: Count,
     pub admit_memory: Count,
@@ -32,7 +32,7 @@ pub struct Counts {
 
 // Where the run stands: the audit of the cases, the lines so far, how many were named, the bytes of the line, whether it was
 // cut, and whether there is more to read.
-pub struct Run {
+pub(crate) struct Run {
     pub counts: Counts,
     pub audit: Audit,
     pub lines: u64,
@@ -43,12 +43,12 @@ pub struct Run {
 }
 
 // What a line showed, and the audit after it.
-pub struct Tested {
+pub(crate) struct Tested {
     pub audit: Audit,
     pub same: bool,
 }
 
-pub fn more(n: u64) -> u64
+pub(crate) fn more(n: u64) -> u64
     ensures { λ r. ⌜ r ≡ oneMore n ⌝ }
 {
     if n < 18446744073709551615 { n + 1 } else { n }
@@ -97,7 +97,7 @@ impl Counts {
         }
     }
 
-    pub fn with(mut self, kind: Kind, same: bool) -> Counts
+    pub(crate) fn with(mut self, kind: Kind, same: bool) -> Counts
         ensures { λ r. ⌜ r ≡ countedAs self kind same ⌝ }
     {
         match kind {
@@ -144,7 +144,7 @@ impl Counts {
 }
 
 impl Run {
-    pub fn new() -> Run
+    pub(crate) fn new() -> Run
         ensures { λ r. ⌜ r ≡ newRun ⌝ }
     {
         Run {
@@ -270,7 +270,7 @@ fn audit_compared(window: &mut [u64], audit: Audit, v: [u64; 9]) -> Tested
 }
 
 // A case against the function that it names.
-pub fn compared(window: &mut [u64], audit: Audit, kind: Kind, v: [u64; 9]) -> Tested
+pub(crate) fn compared(window: &mut [u64], audit: Audit, kind: Kind, v: [u64; 9]) -> Tested
     ensures { λ r. ⌜ _≡_ {A = Replayed} (record { tested = r; words = now (window .exit) }) (compared kind audit v (now (window .entry))) ⌝ }
 {
     match kind {

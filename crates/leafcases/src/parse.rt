@@ -5,19 +5,19 @@ ghost use lib.ListN.{drop};
 ghost use Rattle.leafcases.specs.Parse.{nextDigit, digitsOf, positive, negative, numberOf, wordLength, sameBytes, kindOf, wantedOf, noValues, zeros, wordsAfter, valuesOf, kindWith, lineOf, lineIn};
 use words::word_of;
 
-pub enum Number {
+pub(crate) enum Number {
     Value(i64),
     Bad,
 }
 
 // The digits of a number, without its sign.
-pub enum Digits {
+pub(crate) enum Digits {
     Value(u64),
     Bad,
 }
 
 // Functions, and what begins an audit.
-pub enum Kind {
+pub(crate) enum Kind {
     Expired,
     Redelivered,
     AdmitMemory,
@@ -33,13 +33,13 @@ const MOST: usize = 9;
 // The greatest number that one more digit may follow: ten times the next is past 2^63.
 const FULL: u64 = 922337203685477580;
 
-pub struct Line {
+pub(crate) struct Line {
     pub values: [u64; 9],
     pub kind: Kind,
 }
 
 // The numbers of a line, as words that hold them.
-pub struct Values {
+pub(crate) struct Values {
     pub values: [u64; 9],
     pub count: usize,
     pub good: bool,
@@ -109,7 +109,7 @@ fn negative(d: Digits) -> Number
 }
 
 // The i64 that the text spells.
-pub fn number_of(s: &[u8]) -> Number
+pub(crate) fn number_of(s: &[u8]) -> Number
     ensures { λ r. ⌜ r ≡ numberOf (now (s .entry)) ⌝ }
 {
     if s.len() == 0 {
@@ -122,7 +122,7 @@ pub fn number_of(s: &[u8]) -> Number
 }
 
 // Where the word that starts here ends: at a space, or at the end.
-pub fn word_end(s: &[u8], from: usize) -> usize
+pub(crate) fn word_end(s: &[u8], from: usize) -> usize
     ensures { λ r. ⌜ r ≡ from + wordLength (drop from (now (s .entry))) ⌝ }
 {
     let mut i = from;
@@ -141,7 +141,7 @@ fn same_bytes(a: &[u8], b: &[u8]) -> bool
     check::same(a, b)
 }
 
-pub fn kind_of(name: &[u8]) -> Kind
+pub(crate) fn kind_of(name: &[u8]) -> Kind
     ensures { λ r. ⌜ r ≡ kindOf (now (name .entry)) ⌝ }
 {
     if same_bytes(name, b"expired") {
@@ -166,7 +166,7 @@ pub fn kind_of(name: &[u8]) -> Kind
 }
 
 // How many numbers a line of this kind has.
-pub fn wanted(k: Kind) -> usize
+pub(crate) fn wanted(k: Kind) -> usize
     ensures { λ r. ⌜ r ≡ wantedOf k ⌝ }
 {
     match k {
@@ -230,7 +230,7 @@ fn kind_with(kind: Kind, v: Values) -> Kind
     }
 }
 
-pub fn parsed(s: &[u8]) -> Line
+pub(crate) fn parsed(s: &[u8]) -> Line
     ensures { λ r. ⌜ r ≡ lineOf (now (s .entry)) ⌝ }
 {
     let end = word_end(s, 0);
@@ -244,7 +244,7 @@ pub fn parsed(s: &[u8]) -> Line
 }
 
 // The line in the first n bytes; bad where it was cut.
-pub fn line_of(buffer: &[u8], n: usize, cut: bool) -> Line
+pub(crate) fn line_of(buffer: &[u8], n: usize, cut: bool) -> Line
     ensures { λ r. ⌜ r ≡ lineIn (now (buffer .entry)) n cut ⌝ }
 {
     if cut || buffer.len() < n {

@@ -1,12 +1,9 @@
 // Producers and their audits, in the head's words (`producers` and `audit` of destination.rs, `State`).
 ghost use mathlib.Core.Path.{_≡_};
-ghost use mathlib.Core.Bool.{_&&_};
 ghost use Prim.Native.Nat.{_+_, _*_, _≤_, _<_};
 ghost use lib.ListN.{length, drop};
 ghost use lib.Seq.{slice};
-ghost use Rattle.definition.specs.Destination.{isProducer};
 ghost use Rattle.definition.specs.Calls.{adding, removing, testing, forgetting};
-ghost use Rattle.definition.specs.Layout.{idsAt};
 ghost use Rattle.producers.specs.Groups.{hasId, goes, stays, firstOf, keptCount, over, packed, idWords, newWords};
 ghost use Rattle.producers.specs.Producers.{headFits, left, added, removed, checkedAt, tested, released, Promised};
 use audit::Audit;
@@ -15,18 +12,18 @@ use state::Answer;
 use state::Head;
 
 // The producers' identifiers, three words each.
-pub const PRODUCER_TABLE: usize = 17;
+const PRODUCER_TABLE: usize = 17;
 
-pub const PRODUCER_WORDS: usize = 3;
+const PRODUCER_WORDS: usize = 3;
 
-pub const PRODUCERS: usize = 32;
+const PRODUCERS: usize = 32;
 
 // The audits: identifier, start, count, window.
-pub const AUDIT_TABLE: usize = 113;
+const AUDIT_TABLE: usize = 113;
 
-pub const AUDIT_WORDS: usize = 1029;
+const AUDIT_WORDS: usize = 1029;
 
-pub const AUDITS: usize = 8;
+const AUDITS: usize = 8;
 
 // Whether a head of so many words has them all, and the counts are within their tables.
 fn fits(words: usize, d: Head) -> bool
@@ -130,17 +127,6 @@ fn put_id(head: &mut [u64], at: usize, id: Id)
 }
 
 // ---- producers
-
-// Whether a producer is registered; no where the numbers do not fit the head.
-pub fn is_producer(head: &[u64], d: Head, id: Id) -> bool
-    ensures { λ r. ⌜ r ≡ (headFits (length (now (head .entry))) d && isProducer id (idsAt (d .producers) (drop 17 (now (head .entry))))) ⌝ }
-{
-    if !fits(head.len(), d) {
-        return false;
-    }
-    let n = d.producers;
-    find(head, PRODUCER_TABLE, PRODUCER_WORDS, n, id) < n
-}
 
 // Registers a producer. Refused with 8; where the numbers do not fit the head, with 2.
 pub fn add_producer(head: &mut [u64], mut d: Head, id: Id) -> Answer

@@ -11,10 +11,8 @@ ghost use Rattle.state.specs.Fits.{tablesFit, numbersFit, countersFit, f
 use consumers::SubRow;
 use stats::Stats;
 
-// The head's words, and those of them that `Head` holds.
+// The head's words.
 pub const HEAD_WORDS: usize = 8345;
-
-pub const NUMBERS: usize = 17;
 
 // The tables: consumers, rows, events.
 pub const CONSUMERS: usize = 32;
@@ -24,16 +22,16 @@ pub const ROWS: usize = 512;
 pub const EVENTS: usize = 545;
 
 // No counter of a sound state is above 65,536 * 2^40 + 1; up to 2^62 they can be counted on.
-pub const COUNTER_MOST: u64 = 4611686018427387904;
+const COUNTER_MOST: u64 = 4611686018427387904;
 
 pub type Event = [u64; 6];
 
 // An event's kinds.
-pub const LETTER: u64 = 1;
+const LETTER: u64 = 1;
 
-pub const MESSAGE: u64 = 2;
+const MESSAGE: u64 = 2;
 
-pub const NULL: u64 = 3;
+const NULL: u64 = 3;
 
 // What a call carries: the head's first words, the rows in use, and the events sent so far.
 pub struct Head {
@@ -314,7 +312,7 @@ pub fn store(head: &mut [u64], d: Head)
 // ---- events
 
 // Appends an event; to a full list, nothing.
-pub fn push(events: &mut [Event], mut d: Head, e: Event) -> Head
+fn push(events: &mut [Event], mut d: Head, e: Event) -> Head
     ensures { λ r. ⌜ (r ≡ pushed d (length (now (events .entry)))) × (now (events .exit) ≡ set (now (events .entry)) (d .events) e) ⌝ }
 {
     let at = d.events;

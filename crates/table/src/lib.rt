@@ -176,25 +176,6 @@ pub fn flown(row: Row, dseq: u64) -> Row
     r
 }
 
-// How many of rows[from..to] are marked as freed.
-pub fn freed_rows(rows: &[Row], from: usize, to: usize) -> usize
-    ensures { λ r. ⌜ r ≡ countRows isFreed from to (now (rows .entry)) ⌝ }
-{
-    if rows.len() < to {
-        return 0;
-    }
-    if to < from {
-        return 0;
-    }
-    let mut count = 0;
-    let mut i = from;
-    while i < to {
-        count += counted(rows[i][FREED] != 0);
-        i += 1;
-    }
-    count
-}
-
 // How many of rows[from..to] have a delivery number from first to last.
 pub fn count_range(rows: &[Row], from: usize, to: usize, first: u64, last: u64) -> usize
     ensures { λ r. ⌜ r ≡ countRows (inRange first last) from to (now (rows .entry)) ⌝ }

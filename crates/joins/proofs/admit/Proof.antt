@@ -12,8 +12,8 @@ use Rattle.joins.proofs.admit.Tie as tie
 new-sub-requires : tie.Need-new-sub-requires
 new-sub-requires c κs = search needs
 
-append-requires : tie.Need-append-requires
-append-requires c κs = search needs
+store-requires : tie.Need-store-requires
+store-requires c κs = search needs
 
 add-d : tie.Need-add-d
 add-d c = search needs
@@ -40,7 +40,7 @@ returns c =
     let s = i .before .before .before in
     let a = s .before .before .before .args in
     let q = c .before .browse .ensures in
-    (admit-browser (a .clock) (a .spec) (a .k) (a .d) _ (now (a .rows)) (i .not-idle .ensures) (c .before .before .before .if1 .taken) _ _ (q .0) (q .1), s .append .ensures ∙ ap (λ (y : Sub). set (now (a .subs)) (a .d .consumers) (subWords y)) (s .before .new-sub .ensures))
+    (admit-browser (a .clock) (a .spec) (a .k) (a .d) _ (now (a .rows)) (i .not-idle .ensures) (c .before .before .before .if1 .taken) _ _ (q .0) (q .1), s .store .ensures ∙ ap (λ (y : Sub). set (now (a .subs)) (a .d .consumers) (subWords y)) (s .before .new-sub .ensures))
 
 same-length-3 : tie.Need-same-length-3
 same-length-3 c = search needs
@@ -50,14 +50,14 @@ returns-2 c =
     let i = c .before in
     let s = i .before .before .before in
     let a = s .before .before .before .args in
-    (admit-plain (a .clock) (a .spec) (a .k) (a .d) _ (now (a .rows)) (i .not-idle .ensures) (c .if1 .left), s .append .ensures ∙ ap (λ (y : Sub). set (now (a .subs)) (a .d .consumers) (subWords y)) (s .before .new-sub .ensures))
+    (admit-plain (a .clock) (a .spec) (a .k) (a .d) _ (now (a .rows)) (i .not-idle .ensures) (c .if1 .left), s .store .ensures ∙ ap (λ (y : Sub). set (now (a .subs)) (a .d .consumers) (subWords y)) (s .before .new-sub .ensures))
 
 pub admit-spec : {M : Type 1} → statement M
 admit-spec =
     tie.close
     (tie.spec
     new-sub-requires
-    append-requires
+    store-requires
     add-d
     not-idle-requires
     browse-requires
