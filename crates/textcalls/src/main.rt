@@ -1,4 +1,404 @@
-// Writes the call file of a text, a call a line; what is wrong with a line goes to standard error.
+// Writes the call file of a text, a call a line; what is wrong with a text goes to standard error.
+ghost use mathlib.Core.Path.{_≡_};
+ghost use Prim.Native.Nat.{_≤_};
+ghost use lib.ListN.{length};
+use libc::STDERR_FILENO;
+use libc::STDIN_FILENO;
+use libc::STDOUT_FILENO;
+
+// How a read ended: the buffer is full, the input has ended, or the read failed. AGAIN: it goes on.
+const FULL: u64 = 0;
+
+const END: u64 = 1;
+
+const FAILED: u64 = 2;
+
+const AGAIN: u64 = 3;
+
+// How many bytes stand in the buffer, and how the read ended.
+struct Got {
+    n: usize,
+    how: u64,
+}
+
+// What is carried from part to part: the bytes of the last line so far, the number of the next line, the calls in the block, whether a line was bad,
+// whether the output could not be written, and whether there is more to read.
+struct Work {
+    have: usize,
+    line: u64,
+    k: usize,
+    bad: bool,
+    gone: bool,
+    more: bool,
+}
+
+// ---- reading
+
+// One read, behind the bytes that stand in the buffer.
+fn read_once(fd: i32, buf: &mut [u8], at: usize) -> Got {
+    if buf.len() <= at {
+        return Got { n: at, how: FULL };
+    }
+    let got = libc::read(fd, &mut buf[at..]);
+    if got == 0 {
+        return Got { n: at, how: END };
+    }
+    if got < 0 {
+        if os::errno() == libc::EINTR {
+            return Got { n: at, how: AGAIN };
+        }
+        return Got { n: at, how: FAILED };
+    }
+    let n = io::count(got, buf);
+    if buf.len() - at < n {
+        return Got { n: at, how: FAILED };
+    }
+    Got {
+        n: at + n,
+        how: AGAIN,
+    }
+}
+
+// Reads until the buffer is full or the input ends.
+fn read_on(fd: i32, buf: &mut [u8], have: usize) -> Got {
+    let mut n = have;
+    let mut turns = 18446744073709551615u64;
+    while 0 < turns {
+        let g = read_once(fd, buf, n);
+        if g.how != AGAIN {
+            return g;
+        }
+        n = g.n;
+        turns -= 1;
+    }
+    Got { n, how: FAILED }
+}
+
+// The end of the last line that has one, or 0.
+fn last_end(buf: &[u8], n: usize) -> usize
+    ensures { λ r. ⌜ r ≤ n ⌝ }
+{
+    let mut i = n;
+    while 0 < i {
+        if i <= buf.len() {
+            if buf[i - 1] == b'\n' {
+                return i;
+            }
+        }
+        i -= 1;
+    }
+    0
+}
+
+// Moves the bytes from a place on to the front.
+fn keep(buf: &mut [u8], from: usize, n: usize) {
+    let mut i = from;
+    while i < n {
+        if buf.len() <= i {
+            return;
+        }
+        buf[i - from] = buf[i];
+        i += 1;
+    }
+}
+
+// ---- writing
+
+fn write_out(part: &[u8]) -> bool {
+    if io::write_all(STDOUT_FILENO, part) {
+        return true;
+    }
+    os::fail(b"textcalls: cannot write");
+    false
+}
+
+// In place of blocks; too short for one.
+fn spoil() {
+    write_out(b"bad text\n");
+}
+
+// The first bytes of a text, to standard error.
+fn say(text: &[u8], n: usize) {
+    if text.len() < n {
+        return;
+    }
+    let part = &text[0..n];
+    io::write_all(STDERR_FILENO, part);
+}
+
+fn complain(line: u64, kind: u64) {
+    let mut text = [0u8; 192];
+    let n = texting::put_message(&mut text, line, kind);
+    say(&text, n);
+}
+
+// ---- a part of a text
+
+// The messages of its bad lines.
+fn check(part: &[u8], w: Work) -> Work
+    requires { ⌜ w .k ≤ 6 ⌝ }
+    ensures { λ r. ⌜ r .k ≤ 6 ⌝ }
+{
+    let mut next = w;
+    let mut from = 0;
+    while from < part.len() {
+        let b = texting::first_bad(part, from, next.line);
+        next.line = b.line;
+        if b.kind == 0 {
+            return next;
+        }
+        complain(b.line, b.kind);
+        next.line = stats::more_of(b.line);
+        next.bad = true;
+        from = b.at;
+    }
+    next
+}
+
+// Its blocks, as far as they are full.
+fn write_full(part: &[u8], block: &mut [u8], w: Work) -> Work
+    requires { ⌜ w .k ≤ 6 ⌝ }
+    ensures { λ r. ⌜ r .k ≤ 6 ⌝ }
+{
+    let mut next = w;
+    let mut from = 0;
+    while from < part.len() {
+        let f = texting::fill(part, from, block, next.k);
+        if f.count < texting::FULL {
+            next.k = f.count;
+            return next;
+        }
+        next.k = 0;
+        if !write_out(block) {
+            next.gone = true;
+            return next;
+        }
+        from = f.at;
+    }
+    next
+}
+
+// The last block, with what is left.
+fn write_last(block: &mut [u8], w: Work) -> Work
+    requires { ⌜ w .k ≤ 6 ⌝ }
+    ensures { λ r. ⌜ r .k ≤ 6 ⌝ }
+{
+    let mut next = w;
+    let k = w.k;
+    if k == 0 {
+        return next;
+    }
+    callblocks::seal(block, k as u64);
+    if !write_out(block) {
+        next.gone = true;
+    }
+    next.k = 0;
+    next
+}
+
+// Whole lines of a text: their messages, and their blocks where no line was bad so far.
+fn take_part(buf: &[u8], end: usize, block: &mut [u8], w: Work, write: bool) -> Work
+    requires { ⌜ w .k ≤ 6 ⌝ }
+    ensures { λ r. ⌜ r .k ≤ 6 ⌝ }
+{
+    if buf.len() < end {
+        return w;
+    }
+    let part = &buf[0..end];
+    let c = check(part, w);
+    if c.bad {
+        return c;
+    }
+    if !write {
+        return c;
+    }
+    write_full(part, block, c)
+}
+
+// ---- the whole text
+
+fn stopped(w: Work) -> Work
+    ensures { λ r. ⌜ r .k ≡ w .k ⌝ }
+{
+    Work {
+        have: w.have,
+        line: w.line,
+        k: w.k,
+        bad: true,
+        gone: w.gone,
+        more: false,
+    }
+}
+
+fn too_long(line: u64) {
+    let mut text = [0u8; 128];
+    let n = callfile::put_word(&mut text, 0, line, false);
+    io::write_all(STDERR_FILENO, b"line");
+    say(&text, n);
+    io::write_all(STDERR_FILENO, b": longer than 1048576 bytes\n");
+}
+
+// The last part, which needs no end of a line.
+fn last_part(buf: &[u8], n: usize, block: &mut [u8], w: Work, write: bool) -> Work
+    requires { ⌜ w .k ≤ 6 ⌝ }
+    ensures { λ r. ⌜ r .k ≤ 6 ⌝ }
+{
+    let mut c = take_part(buf, n, block, w, write);
+    c.more = false;
+    if c.bad {
+        return c;
+    }
+    if c.gone {
+        return c;
+    }
+    write_last(block, c)
+}
+
+// Reads a part, and does what is to be done with it.
+fn turn(fd: i32, buf: &mut [u8], block: &mut [u8], w: Work, write: bool) -> Work
+    requires { ⌜ w .k ≤ 6 ⌝ }
+    ensures { λ r. ⌜ r .k ≤ 6 ⌝ }
+{
+    let g = read_on(fd, buf, w.have);
+    let n = g.n;
+    if g.how == FAILED {
+        os::fail(b"textcalls: cannot read");
+        return stopped(w);
+    }
+    if g.how == END {
+        return last_part(buf, n, block, w, write);
+    }
+    let end = last_end(buf, n);
+    if end == 0 {
+        too_long(w.line);
+        return stopped(w);
+    }
+    let mut c = take_part(buf, end, block, w, write);
+    keep(buf, end, n);
+    c.have = n - end;
+    c
+}
+
+fn buffer() -> [u8; 1048576]
+    ensures { λ r. ⌜ 1048576 ≡ length r ⌝ }
+{
+    [0; 1048576]
+}
+
+// Reads a text from part to part. Its blocks are written or not; from a bad line on, none.
+fn pass(fd: i32, write: bool) -> Work {
+    let mut buf = buffer();
+    let mut block = [0u8; 512];
+    let mut w = Work {
+        have: 0,
+        line: 1,
+        k: 0,
+        bad: false,
+        gone: false,
+        more: true,
+    };
+    let mut turns = 18446744073709551615u64;
+    while 0 < turns {
+        w = turn(fd, &mut buf, &mut block, w, write);
+        if w.gone {
+            return w;
+        }
+        if !w.more {
+            return w;
+        }
+        turns -= 1;
+    }
+    stopped(w)
+}
+
+// A text with a bad line ends in what is no block, and so does an output that could not be written whole.
+fn finish(w: Work) {
+    if w.gone {
+        io::write_all(STDOUT_FILENO, b"bad text\n");
+        return;
+    }
+    if w.bad {
+        spoil();
+    }
+}
+
+// Reads a text twice, where it can be read twice: so that no block is written where a line is bad.
+fn text_calls(fd: i32) {
+    let start = libc::lseek(fd, 0, libc::SEEK_CUR);
+    if start < 0 {
+        finish(pass(fd, true));
+        return;
+    }
+    let first = pass(fd, false);
+    if first.bad {
+        spoil();
+        return;
+    }
+    if libc::lseek(fd, start, libc::SEEK_SET) != start {
+        os::fail(b"textcalls: cannot read");
+        spoil();
+        return;
+    }
+    let again = pass(fd, true);
+    if again.gone | again.bad {
+        finish(again);
+        return;
+    }
+    if again.line != first.line {
+        io::write_all(STDERR_FILENO, b"textcalls: the text has changed\n");
+        spoil();
+    }
+}
+
+// ---- the arguments
+
+fn usage(fd: i32) {
+    io::write_all(fd, b"usage: textcalls [FILE]\n");
+}
+
+fn text_file(path: &[u8]) {
+    let fd = os::open_read(path);
+    if fd < 0 {
+        os::fail(path);
+        spoil();
+        return;
+    }
+    text_calls(fd);
+    libc::close(fd);
+}
+
+fn with_argument(word: &[u8]) {
+    if textwords::same(word, b"--help") {
+        usage(STDOUT_FILENO);
+        return;
+    }
+    if 0 < word.len() {
+        if word[0] == b'-' {
+            usage(STDERR_FILENO);
+            spoil();
+            return;
+        }
+    }
+    text_file(word);
+}
+
 fn main() {
-    texting::text_calls(libc::STDERR_FILENO);
+    let count = os::arg_count();
+    if count < 2 {
+        text_calls(STDIN_FILENO);
+        return;
+    }
+    let mut word = io::buffer();
+    let n = os::arg(1, &mut word);
+    if os::errno() != 0 {
+        os::fail(b"textcalls");
+        spoil();
+        return;
+    }
+    if 2 < count {
+        usage(STDERR_FILENO);
+        spoil();
+        return;
+    }
+    with_argument(&word[..n]);
 }

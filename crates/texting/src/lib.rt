@@ -1,68 +1,41 @@
-// Text to blocks of the call file and back, from standard input to standard output; for the programs that do so.
+// The text of a call file to blocks, and a block to text, in lent buffers.
 ghost use mathlib.Core.Path.{_≡_};
-ghost use Prim.Native.Nat.{_≤_, _<_};
-ghost use lib.ListN.{length};
+ghost use mathlib.Core.List.{[], _∷_};
+ghost use Prim.Native.Nat.{_+_, _<_, _≤_};
+ghost use lib.ListN.{length, drop, replicate};
+ghost use Rattle.callfile.specs.Placed.{Puts};
+ghost use Rattle.texting.specs.Lines.{linesOf, complaint, message};
+ghost use Rattle.texting.specs.Parts.{withParsed, countParsed, fillFrom, begun, ended, sealing, Fills, firstBad};
+ghost use Rattle.texting.specs.Shown.{callTexts, blockText, Front};
 use calltext::Parsed;
-use libc::STDIN_FILENO;
-use libc::STDOUT_FILENO;
 use textwords::Stop;
 
-// A longer text is refused.
-const MOST: usize = 1048576;
+// The calls of a full block.
+pub const FULL: usize = 7;
 
-// Writes the first bytes of a text.
-fn write(fd: i32, text: &[u8], n: usize) {
-    if text.len() < n {
-        return;
-    }
-    let part = &text[0..n];
-    io::write_all(fd, part);
+// Room for the text of a block, and for a message.
+pub const TEXT: usize = 3584;
+
+pub const MESSAGE: usize = 192;
+
+// How many calls a block has, and the place in the text after the lines that were taken.
+pub struct Filled {
+    pub count: usize,
+    pub at: usize,
+}
+
+// A bad line: its kind and number, and the place after it. Kind 0: no line is bad, and the number is that of the next line.
+pub struct Bad {
+    pub kind: u64,
+    pub line: u64,
+    pub at: usize,
 }
 
 // ---- from text to blocks
 
-// The end of the line that begins at a place.
-fn line_end(text: &[u8], from: usize) -> usize
-    requires { do ⌜ from < (← ⟦text.len()⟧) ⌝ }
-    ensures { λ r. do ⌜ (from ≤ r) × (r ≤ (← ⟦text.len()⟧ .entry)) ⌝ }
+fn wipe(block: &mut [u8])
+    ensures { λ _. ⌜ now (block .exit) ≡ replicate (length (now (block .entry))) 0 ⌝ }
 {
-    textwords::scan(text, from, Stop::LineEnd)
-}
-
-// What is wrong with a line.
-fn complain(fd: i32, line: u64, kind: u64) {
-    let mut text = [0u8; 128];
-    let n = callfile::put_word(&mut text, 0, line, false);
-    io::write_all(fd, b"line");
-    write(fd, &text, n);
-    match kind {
-        calltext::UNKNOWN => io::write_all(fd, b": unknown call\n"),
-        calltext::NO_NUMBER => io::write_all(fd, b": not a number of 64 bits\n"),
-        _ => io::write_all(fd, b": more than eight arguments\n"),
-    }
-    ;
-}
-
-// Whether all lines are good. What is wrong with the others goes to a file.
-fn good(text: &[u8], fd: i32) -> bool {
-    let mut all = true;
-    let mut line = 1;
-    let mut from = 0;
-    while from < text.len() {
-        let e = line_end(text, from);
-        let p = calltext::parse(&text[from..e]);
-        let kind = p.kind;
-        if calltext::EMPTY < kind {
-            complain(fd, line, kind);
-            all = false;
-        }
-        line = stats::more_of(line);
-        from = e + 1;
-    }
-    all
-}
-
-fn wipe(block: &mut [u8]) {
     let mut i = 0;
     while i < block.len() {
         block[i] = 0;
@@ -70,102 +43,171 @@ fn wipe(block: &mut [u8]) {
     }
 }
 
-fn write_block(block: &mut [u8], count: u64) {
-    callblocks::seal(block, count);
-    io::write_all(STDOUT_FILENO, block);
+fn begin(block: &mut [u8], k: usize)
+    ensures { λ _. ⌜ now (block .exit) ≡ begun k (now (block .entry)) ⌝ }
+{
+    if k == 0 {
+        wipe(block);
+    }
 }
 
-// Adds a line's call to a block as call k, and writes the block once it is full; the place of the next call.
-fn add_call(block: &mut [u8], k: usize, p: Parsed) -> usize {
-    if p.kind != calltext::CALL {
+// A line's call becomes call k.
+fn add_call(block: &mut [u8], k: usize, p: Parsed) -> usize
+    requires { ⌜ k ≤ 6 ⌝ }
+    ensures { λ r. ⌜ (r ≡ countParsed k p) × (now (block .exit) ≡ withParsed k p (now (block .entry))) × (r ≤ 7) ⌝ }
+{
+    let kind = p.kind;
+    let call = p.call;
+    if kind != calltext::CALL {
         return k;
     }
-    callblocks::put_call(block, k, p.call);
-    if k < 6 {
-        return k + 1;
-    }
-    write_block(block, 7);
-    wipe(block);
-    0
+    callblocks::put_call(block, k, call);
+    k + 1
 }
 
-// The blocks of good lines.
-fn write_calls(text: &[u8]) {
-    let mut block = [0u8; 512];
-    let mut k = 0;
-    let mut from = 0;
-    while from < text.len() {
-        let e = line_end(text, from);
-        let p = calltext::parse(&text[from..e]);
-        k = add_call(&mut block, k, p);
-        from = e + 1;
-    }
-    if 0 < k {
-        write_block(&mut block, k as u64);
-    }
-}
-
-// Room for the longest text, and one byte more.
-fn buffer() -> [u8; 1048577]
-    ensures { λ r. ⌜ 1048577 ≡ length r ⌝ }
+// The calls of lines go into a block, until it has seven.
+fn take_lines(text: &[u8], from: usize, block: &mut [u8], k: usize) -> Filled
+    ensures { λ r. ⌜ Fills (fillFrom (now (block .entry)) k from (linesOf (drop from (now (text .entry))))) r (now (block .exit)) ⌝ }
 {
-    [0; 1048577]
+    let mut count = k;
+    let mut at = from;
+    while at < text.len() {
+        if 6 < count {
+            return Filled { count, at };
+        }
+        let e = textwords::scan(text, at, Stop::LineEnd);
+        let p = calltext::parse(&text[at..e]);
+        count = add_call(block, count, p);
+        at = e + 1;
+    }
+    Filled { count, at }
 }
 
-// Reads a text and writes its blocks. Where a line is bad, each bad line's message goes to a file, and what is written is too short for a block.
-pub fn text_calls(fd: i32) {
-    let mut text = buffer();
-    let got = io::read_full(STDIN_FILENO, &mut text);
-    if MOST < got {
-        io::write_all(fd, b"the text is longer than 1048576 bytes\n");
-        io::write_all(STDOUT_FILENO, b"bad text\n");
-        return;
-    }
-    let all = &text[0..got];
-    if good(all, fd) {
-        write_calls(all);
-    } else {
-        io::write_all(STDOUT_FILENO, b"bad text\n");
+fn end(block: &mut [u8], k: usize)
+    ensures { λ _. ⌜ now (block .exit) ≡ ended k (now (block .entry)) ⌝ }
+{
+    if k == FULL {
+        callblocks::seal(block, 7);
     }
 }
 
-// ---- from blocks to text
+// Takes lines from a place of the text on, and puts their calls into a block that has k, until it has seven or the text ends. A block of no calls
+// begins with zeros; one of seven is sealed.
+pub fn fill(text: &[u8], from: usize, block: &mut [u8], k: usize) -> Filled
+    ensures { λ r. ⌜ Fills (sealing (fillFrom (begun k (now (block .entry))) k from (linesOf (drop from (now (text .entry)))))) r (now (block .exit)) ⌝ }
+{
+    begin(block, k);
+    let f = take_lines(text, from, block, k);
+    end(block, f.count);
+    f
+}
 
-fn show_block(block: &[u8], count: usize) {
-    let mut text = [0u8; 4096];
+// ---- bad lines
+
+// The first bad line from a place of the text on, where a line of the given number begins.
+pub fn first_bad(text: &[u8], from: usize, line: u64) -> Bad
+    ensures { λ r. ⌜ r ≡ firstBad line from (linesOf (drop from (now (text .entry)))) ⌝ }
+{
+    let mut n = line;
+    let mut at = from;
+    while at < text.len() {
+        let e = textwords::scan(text, at, Stop::LineEnd);
+        let p = calltext::parse(&text[at..e]);
+        let kind = p.kind;
+        at = e + 1;
+        if calltext::EMPTY < kind {
+            return Bad { kind, line: n, at };
+        }
+        n = stats::more_of(n);
+    }
+    Bad {
+        kind: 0,
+        line: n,
+        at,
+    }
+}
+
+fn put(out: &mut [u8], at: usize, b: u8) -> usize
+    requires { do ⌜ at < (← ⟦out.len()⟧) ⌝ }
+    ensures { λ r. ⌜ Puts (b ∷ []) at (now (out .entry)) r (now (out .exit)) ⌝ }
+{
+    out[at] = b;
+    at + 1
+}
+
+// Bytes, one after the other.
+fn put_all(out: &mut [u8], at: usize, part: &[u8]) -> usize
+    requires { ⌜ at + length (now part) ≤ length (now out) ⌝ }
+    ensures { λ r. ⌜ Puts (now (part .entry)) at (now (out .entry)) r (now (out .exit)) ⌝ }
+{
+    let mut next = at;
+    let mut i = 0;
+    while i < part.len() {
+        next = put(out, next, part[i]);
+        i += 1;
+    }
+    next
+}
+
+// What is wrong with a line.
+fn put_complaint(out: &mut [u8], at: usize, kind: u64) -> usize
+    requires { ⌜ at + 28 ≤ length (now out) ⌝ }
+    ensures { λ r. ⌜ Puts (complaint kind) at (now (out .entry)) r (now (out .exit)) × (r ≤ at + 28) ⌝ }
+{
+    match kind {
+        calltext::UNKNOWN => put_all(out, at, b": unknown call\n"),
+        calltext::NO_NUMBER => put_all(out, at, b": not a number of 64 bits\n"),
+        _ => put_all(out, at, b": more than eight arguments\n"),
+    }
+}
+
+fn message_text(out: &mut [u8], line: u64, kind: u64) -> usize
+    requires { ⌜ 192 ≤ length (now out) ⌝ }
+    ensures { λ r. ⌜ Puts (message line kind) 0 (now (out .entry)) r (now (out .exit)) × (r ≤ 192) ⌝ }
+{
+    let a = put_all(out, 0, b"line");
+    let b = callfile::put_word(out, a, line, false);
+    put_complaint(out, b, kind)
+}
+
+// The message of a bad line. Without room for 192 bytes, nothing is put.
+pub fn put_message(out: &mut [u8], line: u64, kind: u64) -> usize
+    ensures { λ r. ⌜ Front 192 (message line kind) (now (out .entry)) r (now (out .exit)) ⌝ }
+{
+    if out.len() < MESSAGE {
+        return 0;
+    }
+    message_text(out, line, kind)
+}
+
+// ---- from a block to text
+
+// The lines of the first calls of a block.
+fn put_calls(out: &mut [u8], block: &[u8], count: usize) -> usize
+    requires { ⌜ (3584 ≤ length (now out)) × (count ≤ 7) ⌝ }
+    ensures { λ r. ⌜ Puts (callTexts count (now (block .entry))) 0 (now (out .entry)) r (now (out .exit)) × (r ≤ 3584) ⌝ }
+{
     let mut at = 0;
     let mut k = 0;
     while k < count {
         let c = callfile::call_at(block, k);
-        at = calltext::put_text(&mut text, at, c);
+        at = calltext::put_text(out, at, c);
         k += 1;
     }
-    write(STDOUT_FILENO, &text, at);
+    at
 }
 
-fn show_bad(number: u64) {
-    let mut text = [0u8; 128];
-    let at = callfile::put_bad(&mut text, 0, number);
-    write(STDOUT_FILENO, &text, at);
-}
-
-// Reads blocks and writes their calls, to the end or to a block that cannot be read.
-pub fn show_calls() {
-    let mut number = 0;
-    let mut turns = 18446744073709551615u64;
-    while 0 < turns {
-        let mut block = [0u8; 512];
-        let got = io::read_full(STDIN_FILENO, &mut block);
-        if got == 0 {
-            return;
-        }
-        let count = callfile::calls_in(&block, got);
-        if count == 0 {
-            show_bad(number);
-            return;
-        }
-        show_block(&block, count);
-        number = stats::more_of(number);
-        turns -= 1;
+// The text of a block, of which so many bytes were read: the lines of its calls, or that of a bad block with its number. Without room for 3584
+// bytes, nothing is put.
+pub fn show(block: &[u8], got: usize, number: u64, out: &mut [u8]) -> usize
+    ensures { λ r. ⌜ Front 3584 (blockText number (now (block .entry)) got) (now (out .entry)) r (now (out .exit)) ⌝ }
+{
+    if out.len() < TEXT {
+        return 0;
     }
+    let count = callfile::calls_in(block, got);
+    if count == 0 {
+        return callfile::put_bad(out, 0, number);
+    }
+    put_calls(out, block, count)
 }
