@@ -1,49 +1,66 @@
-// Runs the calls of a call file from standard input, and prints a line for each, its events, and at the end the counters; for the
-// programs that do so.
+// What a run of a call file prints: a block's calls on a lent state, each with its line and those of its events, and at the end the counters.
+ghost use mathlib.Core.Path.{_≡_};
+ghost use mathlib.Core.List.{_++_};
+ghost use Prim.Native.Nat.{_+_, _*_, _≤_};
+ghost use lib.ListN.{length, take, getD};
+ghost use Rattle.definition.specs.Layout.{statsAt, lengthsOf, bufferStep};
+ghost use Rattle.sound.specs.Sound.{lent};
+ghost use Rattle.destination.specs.Called.{Called};
+ghost use Rattle.callfile.specs.Lines.{countersLine};
+ghost use Rattle.callfile.specs.Placed.{Puts, Line};
+ghost use Rattle.running.specs.Running.{rowsText, callText, outcomeOf, lentBy, blockCalls, runCalls, runBlock, Runs};
+use calls::Call;
 use consumers::SubRow;
 use entry::Row;
-use libc::STDIN_FILENO;
-use libc::STDOUT_FILENO;
 use state::Event;
+use stats::Stats;
 
-// Writes the first bytes of a text.
-fn write(out: &[u8], n: usize) {
-    if out.len() < n {
-        return;
-    }
-    let part = &out[0..n];
-    io::write_all(STDOUT_FILENO, part);
-}
+// The bytes that no block's lines exceed: 7 calls, each with its line and 545 of events, 128 bytes a line.
+pub const TEXT: usize = 489216;
 
-// Writes what stands in the text once it has less than a line's room left.
-fn flush(out: &[u8], at: usize) -> usize {
-    if out.len() < at {
-        return at;
-    }
-    if out.len() - at < callfile::LINE {
-        write(out, at);
-        return 0;
-    }
-    at
+// The index of the next call, how many bytes of lines were written, and whether reading goes on.
+pub struct Ran {
+    pub index: u64,
+    pub written: usize,
+    pub goes_on: bool,
 }
 
 // The lines of the first n events.
-fn print_events(out: &mut [u8], from: usize, events: &[Event], n: usize) -> usize {
+fn put_events(out: &mut [u8], from: usize, events: &[Event], n: usize) -> usize
+    requires { ⌜ (n ≤ length (now events)) × (from + 128 * n ≤ length (now out)) ⌝ }
+    ensures { λ r. ⌜ Puts (rowsText (take n (now (events .entry)))) from (now (out .entry)) r (now (out .exit)) ⌝ }
+{
     let mut at = from;
     let mut i = 0;
     while i < n {
-        if events.len() <= i {
-            return at;
-        }
-        at = flush(out, at);
         at = callfile::put_event(out, at, events[i]);
         i += 1;
     }
     at
 }
 
-// Runs the calls of one block, and prints them from an index on; the next index.
-fn run_block(
+// A call, and its lines from `at` on; the place after them.
+fn run_call(
+    head: &mut [u64],
+    subs: &mut [SubRow],
+    rows: &mut [Row],
+    events: &mut [Event],
+    c: Call,
+    index: u64,
+    out: &mut [u8],
+    at: usize,
+) -> usize
+    requires { ⌜ at + 69888 ≤ length (now out) ⌝ }
+    ensures { λ _. ⌜ Called (bufferStep (lent (now (head .entry)) (now (subs .entry)) (now (rows .entry))) (length (now (events .entry))) (c .code) (c .words)) (lent (now (head .entry)) (now (subs .entry)) (now (rows .entry))) (lent (now (head .exit)) (now (subs .exit)) (now (rows .exit))) (now (events .entry)) (now (events .exit)) (outcomeOf (bufferStep (lent (now (head .entry)) (now (subs .entry)) (now (rows .entry))) (length (now (events .entry))) (c .code) (c .words))) ⌝ }
+    ensures { λ r. ⌜ Puts (callText index (bufferStep (lent (now (head .entry)) (now (subs .entry)) (now (rows .entry))) (length (now (events .entry))) (c .code) (c .words))) at (now (out .entry)) r (now (out .exit)) ⌝ }
+{
+    let r = destination::call(head, subs, rows, events, c);
+    let next = callfile::put_call(out, at, index, r.refusal, r.answer);
+    put_events(out, next, events, r.events)
+}
+
+// The calls of a block, and their lines.
+fn run_calls(
     head: &mut [u64],
     subs: &mut [SubRow],
     rows: &mut [Row],
@@ -51,68 +68,92 @@ fn run_block(
     block: &[u8],
     count: usize,
     from: u64,
-) -> u64 {
-    let mut text = [0u8; 4096];
+    out: &mut [u8],
+) -> Ran
+    requires { ⌜ (count ≤ 7) × (489216 ≤ length (now out)) ⌝ }
+    ensures { λ r. ⌜ Runs (runCalls (lengthsOf (lent (now (head .entry)) (now (subs .entry)) (now (rows .entry))) (length (now (events .entry)))) (blockCalls 0 count (now (block .entry))) from (lentBy (lent (now (head .entry)) (now (subs .entry)) (now (rows .entry))) (now (events .entry)))) (lent (now (head .entry)) (now (subs .entry)) (now (rows .entry))) (lent (now (head .exit)) (now (subs .exit)) (now (rows .exit))) (now (events .entry)) (now (events .exit)) (now (out .entry)) (now (out .exit)) r ⌝ }
+{
     let mut index = from;
     let mut at = 0;
     let mut k = 0;
     while k < count {
         let c = callfile::call_at(block, k);
-        let r = destination::call(head, subs, rows, events, c);
-        at = flush(&text, at);
-        at = callfile::put_call(&mut text, at, index, r.refusal, r.answer);
-        at = print_events(&mut text, at, events, r.events);
+        at = run_call(head, subs, rows, events, c, index, out, at);
         index = stats::more_of(index);
         k += 1;
     }
-    write(&text, at);
-    index
-}
-
-// A block that cannot be read ends the reading.
-fn print_bad(block: u64) {
-    let mut text = [0u8; 128];
-    let at = callfile::put_bad(&mut text, 0, block);
-    write(&text, at);
-}
-
-// The last line: the counters.
-fn print_counters(head: &[u64], subs: &[SubRow]) {
-    let mut text = [0u8; 128];
-    let d = state::load(head, subs);
-    let s = d.stats;
-    let at = callfile::put_counters(&mut text, 0, s);
-    write(&text, at);
-}
-
-// Reads and runs blocks to the end, or to one that cannot be read.
-fn run_all(head: &mut [u64], subs: &mut [SubRow], rows: &mut [Row], events: &mut [Event]) {
-    let mut index = 0;
-    let mut number = 0;
-    let mut turns = 18446744073709551615u64;
-    while 0 < turns {
-        let mut block = [0u8; 512];
-        let got = io::read_full(STDIN_FILENO, &mut block);
-        if got == 0 {
-            return;
-        }
-        let count = callfile::calls_in(&block, got);
-        if count == 0 {
-            print_bad(number);
-            return;
-        }
-        index = run_block(head, subs, rows, events, &block, count, index);
-        number = stats::more_of(number);
-        turns -= 1;
+    Ran {
+        index,
+        written: at,
+        goes_on: true,
     }
 }
 
-// The whole run, from a state of zeros.
-pub fn run_calls() {
-    let mut head = [0u64; 8345];
-    let mut subs = [[0u64; 16]; 32];
-    let mut rows = [[0u64; 9]; 512];
-    let mut events = [[0u64; 6]; 545];
-    run_all(&mut head, &mut subs, &mut rows, &mut events);
-    print_counters(&head, &subs);
+// Runs the calls of a block, of which `got` bytes were read, and leaves their lines in `out`; `index` is the first call's, and `number` the
+// block's. A bad block has its line alone, and ends the reading. In a text shorter than `TEXT` nothing happens: then nothing is written.
+pub fn run_block(
+    head: &mut [u64],
+    subs: &mut [SubRow],
+    rows: &mut [Row],
+    events: &mut [Event],
+    block: &[u8],
+    got: usize,
+    index: u64,
+    number: u64,
+    out: &mut [u8],
+) -> Ran
+    ensures { λ r. ⌜ Runs (runBlock (lengthsOf (lent (now (head .entry)) (now (subs .entry)) (now (rows .entry))) (length (now (events .entry)))) (length (now (out .entry))) (now (block .entry)) got index number (lentBy (lent (now (head .entry)) (now (subs .entry)) (now (rows .entry))) (now (events .entry)))) (lent (now (head .entry)) (now (subs .entry)) (now (rows .entry))) (lent (now (head .exit)) (now (subs .exit)) (now (rows .exit))) (now (events .entry)) (now (events .exit)) (now (out .entry)) (now (out .exit)) r ⌝ }
+{
+    if out.len() < TEXT {
+        return Ran {
+            index,
+            written: 0,
+            goes_on: false,
+        };
+    }
+    let count = callfile::calls_in(block, got);
+    if count == 0 {
+        let written = callfile::put_bad(out, 0, number);
+        return Ran {
+            index,
+            written,
+            goes_on: false,
+        };
+    }
+    run_calls(head, subs, rows, events, block, count, index, out)
+}
+
+// A word of the head; 0 past its end.
+fn word(head: &[u64], k: usize) -> u64
+    ensures { λ r. ⌜ r ≡ getD (now (head .entry)) k 0 ⌝ }
+{
+    if head.len() <= k {
+        return 0;
+    }
+    head[k]
+}
+
+fn counters(head: &[u64]) -> Stats
+    ensures { λ r. ⌜ r ≡ statsAt (now (head .entry)) ⌝ }
+{
+    let enqueued = word(head, 7);
+    let dequeued = word(head, 8);
+    let expired = word(head, 9);
+    let discarded = word(head, 10);
+    let dispatched = word(head, 11);
+    Stats {
+        enqueued,
+        dequeued,
+        expired,
+        discarded,
+        dispatched,
+    }
+}
+
+// The last line: the state's counters. In a text shorter than a line nothing is written.
+pub fn last_line(head: &[u64], out: &mut [u8]) -> usize
+    ensures { λ r. ⌜ Line (countersLine (statsAt (now (head .entry)))) 0 (now (out .entry)) r (now (out .exit)) ⌝ }
+{
+    let s = counters(head);
+    callfile::put_counters(out, 0, s)
 }

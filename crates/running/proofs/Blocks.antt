@@ -1,0 +1,216 @@
+-- The calls of a block, one after another: what is printed so far and what is left make the whole. Assumes nothing.
+use Prim.Native.Nat.{ℕ, suc, _+_, _*_, _-_, _≤_, _<_}
+use native.Mathlib.Omega.{arith}
+use mathlib.Core.Path.{_≡_, refl, sym, ap, ap₂, _∙_, subst, subst⁻¹}
+use mathlib.Core.Bool.{Bool, true, false, _&&_, _||_, true≢false}
+use mathlib.Core.List.{List, [], _++_, append-assoc, append-nil}
+use borrow.Author.Tests.{eqb-true, eqb-false, eq-eqb, ne-eqb, lt-ltb, le-ltb, leb-true}
+use lib.Dec.{eqb, leb}
+use lib.ListN.{length}
+use Rattle.definition.specs.Calls.{Lengths, Result}
+use Rattle.definition.specs.Layout.{Row, Buffers, soundBuffers, lengthsOf, bufferStep}
+use Rattle.definition.proofs.Tests.{by-test, by-if, if-true, if-false, and-left, and-right, or-no-left, or-no-right}
+use Rattle.stats.specs.Counted.{more}
+use Rattle.calls.specs.declared.Call.{Call}
+use Rattle.destination.specs.Called.{Past, Called}
+use Rattle.callfile.specs.Blocks.{numberAt, check, good, callsIn, callAt}
+use Rattle.callfile.specs.Lines.{badLine}
+use Rattle.callfile.specs.Placed.{Puts, Line}
+use Rattle.callfile.proofs.Parts.{then}
+use Rattle.running.specs.declared.Ran.{Ran}
+use Rattle.running.specs.Running.{callText, Lent, lentBy, accepted, stepOn, leftBy, outcomeOf, Run, followed, runCalls, blockCalls, ends, runBlock, Runs}
+use Rattle.running.proofs.Texts.{bad-length, line-puts, first-next, first-text, none-put}
+use Rattle.running.proofs.Called.{step-by, sends, text-length, left}
+
+-- ---- the definition, a call at a time
+
+abbrev stopped : List ℕ → ℕ → Bool → Lent → Run
+stopped text index changed s = record { text = text; index = index; goesOn = true; changed = changed; lent = s }
+
+run-next : (l : Lengths) (block : List ℕ) (k n m index : ℕ) (s : Lent) → m ≡ suc n
+    → runCalls l (blockCalls k m block) index s ≡ followed (callText index (stepOn l (callAt k block) s)) (accepted (stepOn l (callAt k block) s)) (runCalls l (blockCalls (k + 1) n block) (more index) (leftBy (stepOn l (callAt k block) s) s))
+unfolding runCalls blockCalls
+run-next l block k n m index s e = ap (λ (x : ℕ). runCalls l (blockCalls k x block) index s) e
+
+run-over : (l : Lengths) (block : List ℕ) (k m index : ℕ) (s : Lent) → m ≡ 0 → runCalls l (blockCalls k m block) index s ≡ stopped [] index false s
+unfolding runCalls blockCalls
+run-over l block k m index s e = ap (λ (x : ℕ). runCalls l (blockCalls k x block) index s) e
+
+or-assoc : (a b c : Bool) → ((a || b) || c) ≡ (a || (b || c))
+or-assoc true b c = refl
+or-assoc false b c = refl
+
+or-false : (a : Bool) → (a || false) ≡ a
+or-false true = refl
+or-false false = refl
+
+or-other : (a b : Bool) → b ≡ false → (a || b) ≡ true → a ≡ true
+or-other a b e h = sym (or-false a) ∙ sym (ap (λ (x : Bool). a || x) e) ∙ h
+
+twice : (t u : List ℕ) (a b : Bool) (q : Run) → followed t a (followed u b q) ≡ followed (t ++ u) (a || b) q
+twice t u a b q = sym (λ j. record { text = append-assoc t u (q .text) j; index = q .index; goesOn = q .goesOn; changed = or-assoc a b (q .changed) j; lent = q .lent })
+
+-- ---- so far
+
+-- k calls are run, and their lines are put
+pub record Sofar (block : List ℕ) (count from : ℕ) (b₀ : Buffers) (events₀ : List Row) (out₀ : List ℕ) (b : Buffers) (events : List Row) (out : List ℕ) (index at k : ℕ) : Type 0 where
+  pub text : List ℕ
+  pub changed : Bool
+  pub passed : k ≤ count
+  pub put : Puts text 0 out₀ at out
+  pub small : at ≤ 69888 * k
+  pub rest : runCalls (lengthsOf b₀ (length events₀)) (blockCalls 0 count block) from (lentBy b₀ events₀) ≡ followed text changed (runCalls (lengthsOf b₀ (length events₀)) (blockCalls k (count - k) block) index (lentBy b events))
+  pub leaves-sound : changed ≡ true → soundBuffers b ≡ true
+  pub kept : changed ≡ false → b ≡ b₀
+  pub past : Past b₀ b events₀ events
+
+pub unchanged : (b : Buffers) (events : List Row) → Past b b events events
+unchanged b events = record { head-past = refl; subs-past = refl; rows-past = refl; head-length = refl; subs-length = refl; rows-length = refl; events-length = refl }
+
+pub none-yet : (block : List ℕ) (count from : ℕ) (b : Buffers) (events : List Row) (out : List ℕ) → Sofar block count from b events out b events out from 0 0
+none-yet block count from b events out = record {
+  text = [];
+  changed = false;
+  passed = omega arith;
+  put = none-put out 0;
+  small = omega arith;
+  rest = ap (λ (n : ℕ). runCalls (lengthsOf b (length events)) (blockCalls 0 n block) from (lentBy b events)) minus;
+  leaves-sound = λ e. absurd (true≢false (sym e));
+  kept = λ _. refl;
+  past = unchanged b events;
+}
+  where
+    minus : count ≡ count - 0
+    minus = omega arith
+
+module _ (block : List ℕ) (count from : ℕ) (b₀ : Buffers) (events₀ : List Row) (out₀ : List ℕ) (b : Buffers) (events : List Row) (out : List ℕ) (index at k : ℕ)
+    (s : Sofar block count from b₀ events₀ out₀ b events out index at k)
+  where
+    abbrev l : Lengths
+    l = lengthsOf b₀ (length events₀)
+
+    -- ---- one call more
+
+    module _ (more-left : k < count) (x : Call) (named : x ≡ callAt k block) (b′ : Buffers) (events′ : List Row) (out′ : List ℕ) (at′ : ℕ)
+        (called : Called (bufferStep b (length events) (x .code) (x .words)) b b′ events events′ (outcomeOf (bufferStep b (length events) (x .code) (x .words))))
+        (puts : Puts (callText index (bufferStep b (length events) (x .code) (x .words))) at out at′ out′)
+      where
+        abbrev q : Result
+        q = bufferStep b (length events) (x .code) (x .words)
+
+        same-lengths : lengthsOf b (length events) ≡ l
+        same-lengths = λ j. record { head = s .past .head-length j; subs = s .past .subs-length j; rows = s .past .rows-length j; events = s .past .events-length j }
+
+        by : stepOn l (callAt k block) (lentBy b events) ≡ q
+        by = sym (step-by b events x ∙ ap₂ (λ (m : Lengths) (y : Call). stepOn m y (lentBy b events)) same-lengths named)
+
+        next : runCalls l (blockCalls k (count - k) block) index (lentBy b events) ≡ followed (callText index q) (accepted q) (runCalls l (blockCalls (k + 1) (count - (k + 1)) block) (more index) (lentBy b′ events′))
+        next =
+            let e : count - k ≡ suc (count - (k + 1)) = omega arith in
+            run-next l block k (count - (k + 1)) (count - k) index (lentBy b events) e
+            ∙ ap (λ (r : Result). followed (callText index r) (accepted r) (runCalls l (blockCalls (k + 1) (count - (k + 1)) block) (more index) (leftBy r (lentBy b events)))) by
+            ∙ ap (λ (t : Lent). followed (callText index q) (accepted q) (runCalls l (blockCalls (k + 1) (count - (k + 1)) block) (more index) t)) (sym (left called))
+
+        sound-so : (s .changed || accepted q) ≡ true → soundBuffers b′ ≡ true
+        sound-so h = by-test (accepted q)
+            (λ e. called .leaves-sound (eqb-true (q .refusal) 0 e))
+            (λ e. ap soundBuffers (called .kept (eqb-false (q .refusal) 0 e) .0) ∙ s .leaves-sound (or-other (s .changed) (accepted q) e h))
+
+        kept-so : (s .changed || accepted q) ≡ false → b′ ≡ b₀
+        kept-so h = called .kept (eqb-false (q .refusal) 0 (or-no-right (s .changed) (accepted q) h)) .0 ∙ s .kept (or-no-left (s .changed) (accepted q) h)
+
+        pub one-more : Sofar block count from b₀ events₀ out₀ b′ events′ out′ (more index) at′ (k + 1)
+        one-more = record {
+          text = s .text ++ callText index q;
+          changed = s .changed || accepted q;
+          passed = omega arith;
+          put = then (s .put) puts;
+          small = omega (arith, s .small, puts .next, text-length index q (sends b (length events) (x .code) (x .words)));
+          rest = s .rest ∙ ap (followed (s .text) (s .changed)) next ∙ twice (s .text) (callText index q) (s .changed) (accepted q) (runCalls l (blockCalls (k + 1) (count - (k + 1)) block) (more index) (lentBy b′ events′));
+          leaves-sound = sound-so;
+          kept = kept-so;
+          past = record {
+            head-past = called .past .head-past ∙ s .past .head-past;
+            subs-past = called .past .subs-past ∙ s .past .subs-past;
+            rows-past = called .past .rows-past ∙ s .past .rows-past;
+            head-length = called .past .head-length ∙ s .past .head-length;
+            subs-length = called .past .subs-length ∙ s .past .subs-length;
+            rows-length = called .past .rows-length ∙ s .past .rows-length;
+            events-length = called .past .events-length ∙ s .past .events-length;
+          };
+        }
+
+    -- ---- the last is run
+
+    pub all-run : count ≤ k → count ≤ 7 → 489216 ≤ length out₀
+        → Runs (runCalls l (blockCalls 0 count block) from (lentBy b₀ events₀)) b₀ b events₀ events out₀ out (record { index = index; written = at; «goes_on» = true })
+    all-run over most room = subst⁻¹ (λ (q : Run). Runs q b₀ b events₀ events out₀ out (record { index = index; written = at; «goes_on» = true })) whole (record {
+      index = refl;
+      written = first-next (s .put);
+      goes-on = refl;
+      text = first-text (s .put) (omega (arith, room, s .small, s .passed, most, first-next (s .put)));
+      shows = refl;
+      leaves-sound = s .leaves-sound;
+      kept = s .kept;
+      past = s .past;
+    })
+      where
+        none-left : count - k ≡ 0
+        none-left = omega arith
+
+        whole : runCalls l (blockCalls 0 count block) from (lentBy b₀ events₀) ≡ stopped (s .text) index (s .changed) (lentBy b events)
+        whole =
+            s .rest
+            ∙ ap (followed (s .text) (s .changed)) (run-over l block k (count - k) index (lentBy b events) none-left)
+            ∙ (λ j. stopped (append-nil (s .text) j) index (or-false (s .changed) j) (lentBy b events))
+
+-- ---- a block, from its tests on
+
+abbrev wholeBlock : List ℕ → ℕ → Bool
+wholeBlock block got = leb 512 (length block) && eqb got 512
+
+abbrev checked : List ℕ → Bool
+checked block = eqb (numberAt 508 block) (check block)
+
+pub few-calls : (block : List ℕ) (got : ℕ) → callsIn block got ≤ 7
+unfolding callsIn good
+few-calls block got = by-if (λ (n : ℕ). n ≤ 7) (good block got) (numberAt 504 block) 0
+    (λ h. let few = leb (numberAt 504 block) 7 in
+    leb-true (numberAt 504 block) 7 (and-right (wholeBlock block got) few (and-left (wholeBlock block got && few) (checked block) (and-left (wholeBlock block got && few && checked block) (leb 1 (numberAt 504 block)) h))))
+    (λ _. omega arith)
+
+module _ (l : Lengths) (block : List ℕ) (got index number : ℕ) (b : Buffers) (events : List Row) (out : List ℕ) where
+  abbrev run : Run
+  run = runBlock l (length out) block got index number (lentBy b events)
+
+  ended : (text out′ : List ℕ) (r : ℕ) → run ≡ ends text index (lentBy b events) → Puts text 0 out r out′ → length text ≤ length out
+      → Runs run b b events events out out′ (record { index = index; written = r; «goes_on» = false })
+  ended text out′ r e p h = subst⁻¹ (λ (q : Run). Runs q b b events events out out′ (record { index = index; written = r; «goes_on» = false })) e (record {
+    index = refl;
+    written = first-next p;
+    goes-on = refl;
+    text = first-text p h;
+    shows = refl;
+    leaves-sound = λ f. absurd (true≢false (sym f));
+    kept = λ _. refl;
+    past = unchanged b events;
+  })
+
+  pub no-room : length out < 489216 → Runs run b b events events out out (record { index = index; written = 0; «goes_on» = false })
+  unfolding runBlock
+  no-room h = ended [] out 0 (if-true _ _ (lt-ltb (length out) 489216 h)) (none-put out 0) (omega arith)
+
+  module _ (room : 489216 ≤ length out) (count : ℕ) (counted : count ≡ callsIn block got) where
+    pub bad-block : count ≡ 0 → {out′ : List ℕ} {r : ℕ} → Line (badLine number) 0 out r out′ → Runs run b b events events out out′ (record { index = index; written = r; «goes_on» = false })
+    unfolding runBlock
+    bad-block z {out′} {r} p = ended (badLine number) out′ r
+        (if-false _ _ (le-ltb (length out) 489216 room) ∙ if-true _ _ (eq-eqb (callsIn block got) 0 (sym counted ∙ z)))
+        (line-puts (bad-length number) (omega (arith, room)) p)
+        (omega (arith, room, bad-length number))
+
+    pub good-block : (count ≡ 0 → ⊥) → {b′ : Buffers} {events′ : List Row} {out′ : List ℕ} {r : Ran}
+        → Runs (runCalls l (blockCalls 0 count block) index (lentBy b events)) b b′ events events′ out out′ r → Runs run b b′ events events′ out out′ r
+    unfolding runBlock
+    good-block z {b′} {events′} {out′} {r} p = subst (λ (q : Run). Runs q b b′ events events′ out out′ r)
+        (ap (λ (n : ℕ). runCalls l (blockCalls 0 n block) index (lentBy b events)) counted
+        ∙ sym (if-false _ _ (le-ltb (length out) 489216 room) ∙ if-false _ _ (ne-eqb (callsIn block got) 0 (λ e. z (counted ∙ e))))) p

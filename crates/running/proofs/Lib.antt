@@ -1,0 +1,5 @@
+pub mod Ranges
+pub mod Sending
+pub mod Texts
+pub mod Called
+pub mod Blocks

@@ -1,0 +1,114 @@
+-- What a run of a call file prints, a block at a time, and the state that it leaves. Assumes nothing.
+use mathlib.Core.Path.{_≡_}
+use mathlib.Core.Bool.{Bool, true, false, not, _&&_, _||_}
+use mathlib.Core.List.{List, [], _∷_, _++_, map}
+use Prim.Native.Nat.{ℕ, zero, suc, _+_}
+use lib.Dec.{eqb, ltb}
+use lib.ListN.{length, drop}
+use Rattle.definition.specs.Base.{if_then_else_}
+use Rattle.definition.specs.Types.{Dest, Event}
+use Rattle.definition.specs.Calls.{Lengths, short, Result, refused}
+use Rattle.definition.specs.Words.{step}
+use Rattle.definition.specs.Layout.{Row, Buffers, eventWords, view, formed, soundBuffers}
+use Rattle.stats.specs.Counted.{more}
+use Rattle.calls.specs.declared.Call.{Call}
+use Rattle.callfile.specs.Blocks.{callsIn, callAt}
+use Rattle.callfile.specs.Lines.{callLine, eventLine, wordsLine, badLine}
+use Rattle.destination.specs.declared.Outcome.{Outcome}
+use Rattle.destination.specs.Called.{outcome, Past}
+use Rattle.running.specs.declared.Ran.{Ran}
+
+-- ---- lines
+
+-- those of events, one after another
+unfoldable pub eventsText : List Event → List ℕ
+eventsText [] = []
+eventsText (e ∷ es) = eventLine e ++ eventsText es
+
+-- and of events in their six words
+unfoldable pub rowsText : List Row → List ℕ
+rowsText [] = []
+rowsText (w ∷ ws) = wordsLine w ++ rowsText ws
+
+-- a call's line and those of its events
+unfoldable pub callText : ℕ → Result → List ℕ
+callText index r = callLine index (r .refusal) (r .answer) ++ eventsText (r .events)
+
+-- ---- a call
+
+-- what a call finds: whether the state's counts fit its tables, what it holds, and the event list
+pub record Lent : Type 0 where
+  pub formed : Bool
+  pub dest : Dest
+  pub events : List Row
+
+abbrev pub lentBy : Buffers → List Row → Lent
+lentBy b events = record { formed = formed b; dest = view b; events = events }
+
+abbrev pub accepted : Result → Bool
+accepted r = eqb (r .refusal) 0
+
+-- what it gets: `bufferStep`, by what it finds
+unfoldable pub stepOn : Lengths → Call → Lent → Result
+stepOn l c s =
+    if not (short l) && (not (eqb (c .code) 0) && not (s .formed)) then refused 2 (s .dest)
+    else step l (c .code) (c .words) (s .dest)
+
+-- what it leaves: an accepted call leaves a state whose counts fit, and its events stand first in the list
+abbrev pub leftBy : Result → Lent → Lent
+leftBy r s = record { formed = accepted r || s .formed; dest = r .dest; events = map eventWords (r .events) ++ drop (length (r .events)) (s .events) }
+
+abbrev pub outcomeOf : Result → Outcome
+outcomeOf r = outcome (r .refusal) (r .answer) (length (r .events))
+
+-- ---- calls, one after another
+
+-- the bytes printed, the next call's index, whether reading goes on, whether a call was accepted, and what is left
+pub record Run : Type 0 where
+  pub text : List ℕ
+  pub index : ℕ
+  pub goesOn : Bool
+  pub changed : Bool
+  pub lent : Lent
+
+-- what was printed, and whether a call was accepted, before the rest
+abbrev pub followed : List ℕ → Bool → Run → Run
+followed text changed q = record { text = text ++ q .text; index = q .index; goesOn = q .goesOn; changed = changed || q .changed; lent = q .lent }
+
+-- the calls of a list, from an index on, which counts up to the largest word and stays there
+unfoldable pub runCalls : Lengths → List Call → ℕ → Lent → Run
+runCalls l [] index s = record { text = []; index = index; goesOn = true; changed = false; lent = s }
+runCalls l (c ∷ cs) index s = let r = stepOn l c s in followed (callText index r) (accepted r) (runCalls l cs (more index) (leftBy r s))
+
+-- ---- a block
+
+-- n calls from call k on
+unfoldable pub blockCalls : ℕ → ℕ → List ℕ → List Call
+blockCalls k zero block = []
+blockCalls k (suc n) block = callAt k block ∷ blockCalls (k + 1) n block
+
+-- reading ends, and no call was run
+abbrev pub ends : List ℕ → ℕ → Lent → Run
+ends text index s = record { text = text; index = index; goesOn = false; changed = false; lent = s }
+
+-- of which so many bytes were read, into a text with so many places: where a block's lines may lack room, nothing happens; a bad block has
+-- its line, and ends the reading
+unfoldable pub runBlock : Lengths → ℕ → List ℕ → ℕ → ℕ → ℕ → Lent → Run
+runBlock l places block got index number s =
+    if ltb places 489216 then ends [] index s
+    else if eqb (callsIn block got) 0 then ends (badLine number) index s
+    else runCalls l (blockCalls 0 (callsIn block got) block) index s
+
+-- ---- in lent buffers
+
+-- the lines stand first in the text, and the rest of it is as it was; the state and the event list are q's; once a call is accepted the
+-- state is sound, and until then the buffers are as they were
+pub record Runs (q : Run) (b b′ : Buffers) (events events′ : List Row) (out out′ : List ℕ) (r : Ran) : Type 0 where
+  pub index : r .index ≡ q .index
+  pub written : r .written ≡ length (q .text)
+  pub goes-on : r .«goes_on» ≡ q .goesOn
+  pub text : out′ ≡ q .text ++ drop (length (q .text)) out
+  pub shows : lentBy b′ events′ ≡ q .lent
+  pub leaves-sound : q .changed ≡ true → soundBuffers b′ ≡ true
+  pub kept : q .changed ≡ false → b′ ≡ b
+  pub past : Past b b′ events events′
