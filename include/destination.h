@@ -23,9 +23,15 @@
  * redelivery that is no 32-bit number (document 01: not sound), gets refusal 2. Words that are not in use may be any.
  *
  * Whose memory. All of it is the caller's. The library keeps no pointer after a call. Each array is passed as a pointer to its first
- * element and its number of elements (words of head; rows of the others). No pointer may be null. The four arrays must not
- * overlap, and nobody else may read or write them during the call; the queries only read, so several may run at once on one
- * state. A length above the array's true one is an error that cannot be seen here. A call takes about 10 kB of stack.
+ * element and its number of elements (words of head; rows of the others). No pointer may be null. Nobody else may read or write the
+ * arrays during the call; the queries only read the state, so several may run at once on one state. A length above the array's true
+ * one is an error that cannot be seen here. A call takes about 10 kB of stack.
+ *
+ * Alignment. Each array starts at an address that 8 divides. Arrays of uint64_t and the structs below do, and so does what malloc gives;
+ * a place among bytes, as in a buffer of char or a mapped file, need not. It is not tested.
+ *
+ * Overlap. No two arrays that are lent to one call may share a byte: head, subs, rows, the event list, the requests and outcomes of
+ * destination_calls, the lines of a page. The library takes it that what it writes to one changes no other, and it is not tested.
  *
  * A call answers with a refusal, 0 for none. A REFUSED CALL HAS CHANGED NOTHING: state and events are as they were, the answer
  * is 0 and the number of events is 0.
@@ -359,7 +365,7 @@ static inline struct destination_request destination_request_enqueue(struct dest
 static inline struct destination_request destination_request_join(struct destination_consumer c, uint64_t clock)
 {
     struct destination_request r = destination_request_id(DESTINATION_JOIN, c.id, (uint64_t)(int64_t)c.prefetch, c.selector);
-    r.words[5] = (c.no_local ? DESTINATION_NO_LOCAL : 0) + (c.browser ? DESTINATION_BROWSER : 0);
+    r.words[5] = (c.no_local ? DESTINATION_NO_LOCAL : 0u) + (c.browser ? DESTINATION_BROWSER : 0u);
     r.words[6] = clock;
     return r;
 }
@@ -373,8 +379,8 @@ static inline struct destination_request destination_request_leave(struct destin
 static inline struct destination_request destination_request_ack(struct destination_id id,
                                                                  struct destination_acknowledgement a, uint64_t clock)
 {
-    uint64_t flags = (a.transacted ? DESTINATION_TRANSACTED : 0) + (a.has_first ? DESTINATION_HAS_FIRST : 0) +
-                     (a.has_last ? DESTINATION_HAS_LAST : 0) + (a.cause ? DESTINATION_CAUSE : 0);
+    uint64_t flags = (a.transacted ? DESTINATION_TRANSACTED : 0u) + (a.has_first ? DESTINATION_HAS_FIRST : 0u) +
+                     (a.has_last ? DESTINATION_HAS_LAST : 0u) + (a.cause ? DESTINATION_CAUSE : 0u);
     struct destination_request r = destination_request_id(DESTINATION_ACK, id, a.type + flags, 0);
     r.words[4] = a.has_first ? (uint64_t)a.first : 0;
     r.words[5] = a.has_last ? (uint64_t)a.last : 0;

@@ -129,7 +129,7 @@ static void some_id(uint64_t *w)
 
 static void some_ack(uint64_t *w)
 {
-    w[3] = below(one_in(10) ? 256 : 8) + 256 * one_in(4) + 512 * one_in(3) + 1024 * !one_in(10) + 2048 * one_in(2);
+    w[3] = below(one_in(10) ? 256 : 8) + 256u * one_in(4) + 512u * one_in(3) + 1024u * !one_in(10) + 2048u * one_in(2);
     w[4] = w[3] & 512 ? some_sequence() : 0;
     w[5] = w[3] & 1024 ? some_sequence() : 0;
     if (w[5] != 0 && one_in(20))
@@ -561,7 +561,7 @@ static struct destination_asked answered(struct lent s, enum query q, uint64_t a
 
 static void ask_number(struct lent s, uint64_t barred)
 {
-    enum query q = below(6);
+    enum query q = (enum query)below(6);
     uint64_t a = q == IDLE_FOR && !one_in(4) ? world.clock + below(5000) : below(2) ? odd_number() : below(40);
     uint64_t b = below(6), refusal = barred == 0 && q == IDLE_FOR && a > DESTINATION_CLOCK_MOST ? 3 : barred;
     struct destination_asked r = answered(s, q, a, b);
