@@ -212,11 +212,11 @@ struct destination_paged {
     size_t count;   /* how many lines were written, from the first on; what stands after them is as it was */
 };
 
-/* A line of a page. 24 bytes. */
-struct destination_line {
+/* A line of a page. 24 bytes, the last 4 of them padding. */
+struct destination_page_line {
     uint64_t sequence;
     int64_t expiration;
-    int64_t redelivery;
+    int32_t redelivery;
 };
 
 /* A consumer or a producer: the host's numbers for its texts, one to one. */
@@ -335,7 +335,7 @@ struct destination_counted destination_counters(const uint64_t *head, size_t hea
 struct destination_paged destination_page(const uint64_t *head, size_t head_words,
                                           const uint64_t (*subs)[DESTINATION_SUB_WORDS], size_t subs_length,
                                           const uint64_t (*rows)[DESTINATION_ROW_WORDS], size_t rows_length,
-                                          struct destination_line *lines, size_t lines_length,
+                                          struct destination_page_line *lines, size_t lines_length,
                                           uint64_t offset, uint64_t limit);
 
 /* ---- requests: the words of each call, filled in */
@@ -614,7 +614,7 @@ static inline struct destination_counted destination_counters_of(const struct de
     return destination_counters(d->head, DESTINATION_HEAD_WORDS, d->subs, DESTINATION_CONSUMERS, d->rows, DESTINATION_ROWS);
 }
 
-static inline struct destination_paged destination_page_of(const struct destination *d, struct destination_line *lines,
+static inline struct destination_paged destination_page_of(const struct destination *d, struct destination_page_line *lines,
                                                           size_t lines_length, uint64_t offset, uint64_t limit)
 {
     return destination_page(d->head, DESTINATION_HEAD_WORDS, d->subs, DESTINATION_CONSUMERS, d->rows, DESTINATION_ROWS,

@@ -580,7 +580,7 @@ static void ask_counters(struct lent s, uint64_t barred)
     asked[barred]++;
 }
 
-static bool same_line(const struct destination_line *l, const uint64_t *row)
+static bool same_line(const struct destination_page_line *l, const uint64_t *row)
 {
     return l->sequence == row[0] && l->expiration == destination_signed(row[1]) &&
            l->redelivery == destination_signed(row[5]);
@@ -588,7 +588,7 @@ static bool same_line(const struct destination_line *l, const uint64_t *row)
 
 static void ask_page(struct lent s, uint64_t barred)
 {
-    static struct destination_line lines[60], was[60];
+    static struct destination_page_line lines[60], was[60];
     size_t length = one_in(8) ? below(50) : 50 + below(8);
     uint64_t offset = below(2) ? below(20) : odd_number(), limit = below(2) ? below(60) : odd_number();
     memset(lines, (int)below(256), sizeof lines);

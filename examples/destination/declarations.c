@@ -37,10 +37,11 @@ ALWAYS(sizeof(struct destination_paged) == 24);
 ALWAYS(offsetof(struct destination_paged, refusal) == 0);
 ALWAYS(offsetof(struct destination_paged, total) == 8);
 ALWAYS(offsetof(struct destination_paged, count) == 16);
-ALWAYS(sizeof(struct destination_line) == 24);
-ALWAYS(offsetof(struct destination_line, sequence) == 0);
-ALWAYS(offsetof(struct destination_line, expiration) == 8);
-ALWAYS(offsetof(struct destination_line, redelivery) == 16);
+ALWAYS(sizeof(struct destination_page_line) == 24);
+ALWAYS(offsetof(struct destination_page_line, sequence) == 0);
+ALWAYS(offsetof(struct destination_page_line, expiration) == 8);
+ALWAYS(offsetof(struct destination_page_line, redelivery) == 16);
+ALWAYS(sizeof(((struct destination_page_line *)0)->redelivery) == 4);
 ALWAYS(sizeof(((struct destination *)0)->subs[0]) == 128);
 ALWAYS(sizeof(((struct destination *)0)->rows[0]) == 72);
 ALWAYS(sizeof(((struct destination *)0)->events[0]) == 48);
@@ -232,7 +233,7 @@ static void counters(void)
 
 static struct {
     uint64_t g0[GUARD];
-    struct destination_line lines[DESTINATION_PAGE_LINES];
+    struct destination_page_line lines[DESTINATION_PAGE_LINES];
     uint64_t g1[GUARD];
 } page;
 
@@ -250,9 +251,9 @@ static bool asked(struct destination_asked a, uint64_t refusal, uint64_t answer)
     } while (0)
 #define AND ,
 
-static bool line(size_t i, uint64_t sequence, int64_t expiration, int64_t redelivery)
+static bool line(size_t i, uint64_t sequence, int64_t expiration, int32_t redelivery)
 {
-    const struct destination_line *l = &page.lines[i];
+    const struct destination_page_line *l = &page.lines[i];
     return l->sequence == sequence && l->expiration == expiration && l->redelivery == redelivery;
 }
 
@@ -391,7 +392,7 @@ static void on_struct(void)
     CHECK(asked(destination_seq_at_of(&one, 1), 0, 7) && asked(destination_idle_for_of(&one, 9000, 1), 0, 0));
     struct destination_counted c = destination_counters_of(&one), raw = destination_counters(TWO);
     CHECK(SAME(c, raw) && c.enqueued == 2 && c.expired == 1 && c.discarded == 1);
-    struct destination_line lines[DESTINATION_PAGE_LINES];
+    struct destination_page_line lines[DESTINATION_PAGE_LINES];
     struct destination_paged p = destination_page_of(&one, lines, DESTINATION_PAGE_LINES, 1, 9);
     CHECK(p.refusal == 0 && p.total == 2 && p.count == 1 && lines[0].sequence == 7 && lines[0].redelivery == -8);
     CHECK(destination_page_of(&one, lines, DESTINATION_PAGE_LINES - 1, 1, 9).refusal == 1);

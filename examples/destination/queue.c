@@ -60,11 +60,11 @@ static struct destination_outcome ack(struct destination_id id, uint8_t type, in
 
 static void show_waiting(void)
 {
-    struct destination_line lines[DESTINATION_PAGE_LINES];
+    struct destination_page_line lines[DESTINATION_PAGE_LINES];
     struct destination_paged p = destination_page_of(&queue, lines, DESTINATION_PAGE_LINES, 0, 10);
     printf("waiting %" PRIu64 ":", p.total);
     for (size_t i = 0; i < p.count; i++)
-        printf(" %" PRIu64 " (expiration %" PRId64 ", redelivery %" PRId64 ")", lines[i].sequence, lines[i].expiration,
+        printf(" %" PRIu64 " (expiration %" PRId64 ", redelivery %" PRId32 ")", lines[i].sequence, lines[i].expiration,
                lines[i].redelivery);
     printf("\n");
 }

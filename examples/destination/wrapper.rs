@@ -2,7 +2,7 @@
 //! the calls do. Each `unsafe` lends the library the vectors of one destination, with their true lengths.
 
 mod library {
-    use super::{Counters, Request};
+    use super::{Counters, Line, Request};
 
     #[repr(C)]
     #[derive(Clone, Copy, Default)]
@@ -42,7 +42,7 @@ mod library {
     }
 
     const _: () = assert!(size_of::<Request>() == 72 && size_of::<Outcome>() == 24 && size_of::<Asked>() == 16);
-    const _: () = assert!(size_of::<Counted>() == 48 && size_of::<Paged>() == 24 && size_of::<Done>() == 16);
+    const _: () = assert!(size_of::<Counted>() == 48 && size_of::<Paged>() == 24 && size_of::<Done>() == 16 && size_of::<Line>() == 24);
 
     type Head = *const u64;
     type Subs = *const [u64; 16];
@@ -113,7 +113,7 @@ mod library {
             sn: usize,
             r: Rows,
             rn: usize,
-            lines: *mut [u64; 3],
+            lines: *mut Line,
             lines_length: usize,
             offset: u64,
             limit: u64,
@@ -340,11 +340,12 @@ impl Done<'_> {
 }
 
 /// A waiting entry, as a page lists it.
-#[derive(Clone, Copy, Debug, PartialEq, Eq)]
+#[repr(C)]
+#[derive(Clone, Copy, Debug, Default, PartialEq, Eq)]
 pub struct Line {
     pub sequence: u64,
     pub expiration: i64,
-    pub redelivery: i64,
+    pub redelivery: i32,
 }
 
 #[repr(C)]
@@ -586,15 +587,11 @@ impl Destination {
 
     /// How many entries wait, and at most 50 of them from a place on.
     pub fn page(&self, offset: u64, limit: u64) -> Result<(u64, Vec<Line>), Refusal> {
-        let mut words = vec![[0; 3]; library::destination_page_lines()];
+        let mut lines = vec![Line::default(); library::destination_page_lines()];
         // Safety: as in `is_queue`, and a list of its own.
-        let p = unsafe { query!(self, destination_page, words.as_mut_ptr(), words.len(), offset, limit) };
-        let line = |w: &[u64; 3]| Line {
-            sequence: w[0],
-            expiration: w[1] as i64,
-            redelivery: w[2] as i64,
-        };
-        Refusal::of(p.refusal).map_or(Ok((p.total, words[..p.count].iter().map(line).collect())), Err)
+        let p = unsafe { query!(self, destination_page, lines.as_mut_ptr(), lines.len(), offset, limit) };
+        lines.truncate(p.count);
+        Refusal::of(p.refusal).map_or(Ok((p.total, lines)), Err)
     }
 }
 

@@ -14,3 +14,4 @@ pub mod Headed
 pub mod Ran
 pub mod Bare
 pub mod Batched
+pub mod Sources

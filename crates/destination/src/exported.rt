@@ -16,7 +16,7 @@ use calls::Call;
 use consumers::SubRow;
 use entry::Row;
 use queries::Asked;
-use queries::LineWords;
+use queries::PageLine;
 use queries::Paged;
 use state::Event;
 
@@ -202,18 +202,30 @@ pub extern "C" fn destination_counters(head: &[u64], subs: &[SubRow], rows: &[Ro
     }
 }
 
-// A page of the entries that wait, into a lent list: how many wait, and how many lines were written.
+// A page of the entries that wait, into a lent list: how many wait, and how many lines were written. The lines past them stay, and beside a refusal
+// nothing is written. `queries::plan` says which rows are listed, `queries::line_at` makes a line of a row: both are covered. The list is a slice of
+// structs, so this is a walk by hand.
 #[no_mangle]
 pub extern "C" fn destination_page(
     head: &[u64],
     subs: &[SubRow],
     rows: &[Row],
-    lines: &mut [LineWords],
+    lines: &mut [PageLine],
     offset: u64,
     limit: u64,
 ) -> Paged
-    ensures { λ r. ⌜ r ≡ asPaged (bufferPage (lent (now (head .entry)) (now (subs .entry)) (now (rows .entry))) (length (now (lines .entry))) offset limit) ⌝ }
-    ensures { λ _. ⌜ now (lines .exit) ≡ written (bufferPage (lent (now (head .entry)) (now (subs .entry)) (now (rows .entry))) (length (now (lines .entry))) offset limit .lines) (now (lines .entry)) ⌝ }
+    ensures { λ r. ⌜ (r ≡ asPaged (bufferPage (lent (now (head .entry)) (now (subs .entry)) (now (rows .entry))) (length (now (lines .entry))) offset limit))
+        × (now (lines .exit) ≡ written (bufferPage (lent (now (head .entry)) (now (subs .entry)) (now (rows .entry))) (length (now (lines .entry))) offset limit .lines) (now (lines .entry))) ⌝ }
 {
-    queries::page(head, subs, rows, lines, offset, limit)
+    let p = queries::plan(head, subs, rows, lines.len(), offset, limit);
+    let mut i = 0;
+    while i < p.count {
+        lines[i] = queries::line_at(rows, p.from, i);
+        i += 1;
+    }
+    Paged {
+        refusal: p.refusal,
+        total: p.total,
+        count: p.count,
+    }
 }

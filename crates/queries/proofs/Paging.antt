@@ -1,14 +1,13 @@
--- A page by the numbers of a destination: which rows its lines are of; and the loop that writes them. Assumes nothing.
+-- A page by the numbers of a destination: which rows its lines are of. Assumes nothing.
 use mathlib.Core.Path.{_≡_, refl, sym, ap, ap₂, _∙_}
 use mathlib.Core.Bool.{Bool, false}
-use mathlib.Core.List.{List, [], _∷_, _++_, map}
-use Prim.Native.Nat.{ℕ, suc, _+_, _-_, _≤_, _<_, min}
-use native.Mathlib.Numerals.{add-one}
+use mathlib.Core.List.{List, [], map}
+use Prim.Native.Nat.{ℕ, _+_, _-_, _≤_, _<_, min}
 use native.Mathlib.Omega.{arith}
 use borrow.Author.Tests.{lt-ltb, le-ltb, ne-eqb}
 use lib.Dec.{eqb}
-use lib.ListN.{length, take, drop, getD, set, length-map, length-drop, length-append}
-use lib.Seq.{drop-drop, length-take-le, take-suc, drop-cons, getD-drop, append-snoc, set-at}
+use lib.ListN.{length, take, drop, length-map, length-drop}
+use lib.Seq.{drop-drop, length-take-le}
 use Rattle.entry.specs.Entry.{entryOf}
 use Rattle.definition.specs.Base.{if_then_else_}
 use Rattle.definition.specs.Types.{Entry, Dest}
@@ -16,14 +15,13 @@ use Rattle.definition.specs.Calls.{stateShort}
 use Rattle.definition.specs.Queries.{Line, lineOf, pageEntries, queryRefusal, Page, page}
 use Rattle.definition.specs.Layout.{Row, Buffers, usedRows, view, lengthsOf, bufferPage}
 use Rattle.definition.proofs.Tests.{by-test}
-use Rattle.definition.proofs.Thin.{map-append}
 use Rattle.sound.specs.Sound.{lent}
 use Rattle.state.specs.declared.Head.{Head}
 use Rattle.state.specs.State.{headOf, loaded}
 use Rattle.state.specs.State as State
 use Rattle.queries.specs.declared.PagePlan.{PagePlan}
 use Rattle.queries.specs.Answers.{barred}
-use Rattle.queries.specs.Pages.{rowLine, lineWords, firstWaiting, asPlan, Planned, written}
+use Rattle.queries.specs.Pages.{rowLine, firstWaiting, asPlan, Planned}
 use Rattle.queries.proofs.Lists.{take-part, map-take, map-drop, map-map}
 use Rattle.queries.proofs.Opened.{barred-cases, d-is, shown}
 use Rattle.queries.proofs.Answered.{in-rows, waits, waiting-count}
@@ -130,33 +128,3 @@ module _ (h : List ℕ) (subs rows : List Row) (room offset limit : ℕ) where
             λ j. record { refusal = 0; total = d .waiting; from = ap (λ (x : Bool). if x then 0 else start-is j) (sym k ∙ ap (λ (m : ℕ). eqb m 0) (sym n)) j; count = sym n j },
             record { lines = refl; in-rows = fits-rows l; in-room = omega (arith, roomy) },
           )
-
--- ---- the loop that writes lines
-
-abbrev pub linesUpTo : ℕ → ℕ → List Row → List Line
-linesUpTo from i rows = map rowLine (take i (drop from rows))
-
-module _ (rows : List Row) (was : List (List ℕ)) (from i : ℕ) (in-row : from + i < length rows) (in-list : i < length was) where
-  front : List (List ℕ)
-  front = map lineWords (linesUpTo from i rows)
-
-  count-is : length (linesUpTo from i rows) ≡ i
-  count-is = length-map (take i (drop from rows)) rowLine ∙ length-take-le i (drop from rows) (omega (arith, length-drop from rows))
-
-  one-more : linesUpTo from (i + 1) rows ≡ linesUpTo from i rows ++ rowLine (getD rows (from + i) []) ∷ []
-  one-more =
-      ap (λ (n : ℕ). linesUpTo from n rows) (add-one i)
-      ∙ ap (map rowLine) (take-suc (drop from rows) i [] (omega (arith, length-drop from rows)) ∙ ap (λ (w : Row). take i (drop from rows) ++ w ∷ []) (getD-drop from rows i []))
-      ∙ map-append rowLine (take i (drop from rows)) (getD rows (from + i) [] ∷ [])
-
-  pub line-written : set (written (linesUpTo from i rows) was) i (lineWords (rowLine (getD rows (from + i) []))) ≡ written (linesUpTo from (i + 1) rows) was
-  unfolding front
-  line-written =
-      let w = lineWords (rowLine (getD rows (from + i) [])) in
-      let c : length (linesUpTo from (i + 1) rows) ≡ suc i =
-      ap length one-more ∙ length-append (linesUpTo from i rows) (rowLine (getD rows (from + i) []) ∷ []) ∙ ap (λ (n : ℕ). n + 1) count-is ∙ add-one i in
-      ap (λ (n : ℕ). set (front ++ drop n was) i w) count-is
-      ∙ ap (λ (l : List (List ℕ)). set (front ++ l) i w) (drop-cons was i [] in-list)
-      ∙ set-at front (getD was i []) (drop (suc i) was) w i (length-map (linesUpTo from i rows) lineWords ∙ count-is)
-      ∙ sym (append-snoc front w (drop (suc i) was))
-      ∙ sym (ap₂ (λ (l : List (List ℕ)) (n : ℕ). l ++ drop n was) (ap (map lineWords) one-more ∙ map-append lineWords (linesUpTo from i rows) (rowLine (getD rows (from + i) []) ∷ [])) c)

@@ -1,10 +1,9 @@
--- A page of the definitions as a list of words, and where its lines stand among the rows. Assumes nothing.
+-- A page of the definitions as a lent list of structs holds it, and where its lines stand among the rows. Assumes nothing.
 use mathlib.Core.Path.{_≡_}
-use mathlib.Core.List.{List, [], _∷_, _++_, map}
+use mathlib.Core.List.{List, [], _++_, map}
 use Prim.Native.Nat.{ℕ, _+_, _≤_}
 use lib.Dec.{eqb}
-use lib.ListN.{length, take, drop}
-use Rattle.words.specs.Words.{unsigned}
+use lib.ListN.{length, take, drop, getD}
 use Rattle.entry.specs.Entry.{entryOf}
 use Rattle.definition.specs.Base.{if_then_else_}
 use Rattle.definition.specs.Queries.{Line, lineOf, Page}
@@ -12,14 +11,19 @@ use Rattle.definition.specs.Words.{at}
 use Rattle.definition.specs.Layout.{Row, Buffers, usedSubs, subRows}
 use Rattle.queries.specs.declared.PagePlan.{PagePlan}
 use Rattle.queries.specs.declared.Paged.{Paged}
+use Rattle.queries.specs.declared.PageLine.{PageLine}
 
 -- the line of a row
 abbrev pub rowLine : Row → Line
 rowLine w = lineOf (entryOf w)
 
--- a line's three words
-abbrev pub lineWords : Line → List ℕ
-lineWords l = l .seq ∷ unsigned (l .expiration) ∷ unsigned (l .redelivery) ∷ []
+-- a line as the struct holds it: the same three numbers
+abbrev pub pageLine : Line → PageLine
+pageLine l = record { seq = l .seq; expiration = l .expiration; redelivery = l .redelivery }
+
+-- the line of the row at place i after `from`; past the rows, zeros
+unfoldable pub lineAt : List Row → ℕ → ℕ → PageLine
+lineAt rows from i = pageLine (rowLine (getD rows (from + i) []))
 
 -- the first of the rows that wait on the queue
 abbrev pub firstWaiting : Buffers → ℕ
@@ -44,5 +48,5 @@ abbrev pub asPaged : Page → Paged
 asPaged p = record { refusal = p .refusal; total = p .total; count = length (p .lines) }
 
 -- the lines in the first places of a lent list, and after them what was there
-abbrev pub written : List Line → List (List ℕ) → List (List ℕ)
-written lines was = map lineWords lines ++ drop (length lines) was
+abbrev pub written : List Line → List PageLine → List PageLine
+written lines was = map pageLine lines ++ drop (length lines) was

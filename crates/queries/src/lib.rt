@@ -1,22 +1,20 @@
 // The queries of a destination on lent buffers: they use no call and change nothing.
 ghost use mathlib.Core.Path.{_≡_};
 ghost use mathlib.Core.Bool.{_||_};
-ghost use mathlib.Core.List.{map};
 ghost use Prim.Native.Nat.{_+_, _-_, _/_, _≤_, min};
-ghost use lib.ListN.{length, take, drop};
+ghost use lib.ListN.{take};
 ghost use lib.Seq.{slice};
 ghost use Rattle.definition.specs.Base.{all};
 ghost use Rattle.definition.specs.Words.{kindBy};
-ghost use Rattle.definition.specs.Queries.{ofKind, consumers, expirations, messages, idle, sequence, lineOf};
+ghost use Rattle.definition.specs.Queries.{ofKind, consumers, expirations, messages, idle, sequence};
 ghost use Rattle.definition.specs.Layout.{subsAt, subRows, bufferQuery, bufferCounters, bufferPage};
 ghost use Rattle.sound.specs.Sound.{lent};
 ghost use Rattle.queries.specs.Answers.{asAsked, asCounted, barred, lasts, subLasts, isIdle};
-ghost use Rattle.queries.specs.Pages.{rowLine, lineWords, firstWaiting, asPlan, Planned, asPaged, written};
+ghost use Rattle.queries.specs.Pages.{firstWaiting, asPlan, Planned, lineAt};
 use consumers::BROWSER;
 use consumers::HELD;
 use consumers::INFLIGHT;
 use consumers::SubRow;
-use entry::Entry;
 use entry::Row;
 use state::Head;
 use stats::Stats;
@@ -55,8 +53,13 @@ pub struct Paged {
     pub count: usize,
 }
 
-// A page's line: sequence number, expiration, redelivery.
-pub type LineWords = [u64; 3];
+// A line of a page.
+#[repr(C)]
+pub struct PageLine {
+    pub seq: u64,
+    pub expiration: i64,
+    pub redelivery: i32,
+}
 
 // What a query meets first: 1 where a buffer is short, 2 where the state is not sound, else 0.
 fn barred(head: &[u64], subs: &[SubRow], rows: &[Row]) -> u64
@@ -359,48 +362,23 @@ pub fn plan(
     }
 }
 
-fn line_words(e: Entry) -> LineWords
-    ensures { λ r. ⌜ r ≡ lineWords (lineOf e) ⌝ }
+// The line of the row at `i` after `from`; past the rows, zeros.
+pub fn line_at(rows: &[Row], from: usize, i: usize) -> PageLine
+    ensures { λ r. ⌜ r ≡ lineAt (now (rows .entry)) from i ⌝ }
 {
-    [
-        e.seq,
-        words::word_of(e.expiration),
-        words::word_of_int(e.redelivery),
-    ]
-}
-
-// The lines of rows[from..from+n] in the first n places.
-fn fill(rows: &[Row], lines: &mut [LineWords], from: usize, n: usize)
-    requires { ⌜ (from + n ≤ length (now rows)) × (n ≤ length (now lines)) ⌝ }
-    ensures { λ _. ⌜ now (lines .exit) ≡ written (map rowLine (take n (drop from (now (rows .entry))))) (now (lines .entry)) ⌝ }
-{
-    let mut i = 0;
-    while i < n {
-        let e = entry::entry_of(rows[from + i]);
-        lines[i] = line_words(e);
-        i += 1;
+    if from < rows.len() {
+        if i < rows.len() - from {
+            let e = entry::entry_of(rows[from + i]);
+            return PageLine {
+                seq: e.seq,
+                expiration: e.expiration,
+                redelivery: e.redelivery,
+            };
+        }
     }
-}
-
-// A page of the entries that wait, into a lent list: how many wait, and how many lines were written. Later lines stay as they were.
-pub fn page(
-    head: &[u64],
-    subs: &[SubRow],
-    rows: &[Row],
-    lines: &mut [LineWords],
-    offset: u64,
-    limit: u64,
-) -> Paged
-    ensures { λ r. ⌜ r ≡ asPaged (bufferPage (lent (now (head .entry)) (now (subs .entry)) (now (rows .entry))) (length (now (lines .entry))) offset limit) ⌝ }
-    ensures { λ _. ⌜ now (lines .exit) ≡ written (bufferPage (lent (now (head .entry)) (now (subs .entry)) (now (rows .entry))) (length (now (lines .entry))) offset limit .lines) (now (lines .entry)) ⌝ }
-{
-    let p = plan(head, subs, rows, lines.len(), offset, limit);
-    let from = p.from;
-    let count = p.count;
-    fill(rows, lines, from, count);
-    Paged {
-        refusal: p.refusal,
-        total: p.total,
-        count,
+    PageLine {
+        seq: 0,
+        expiration: 0,
+        redelivery: 0,
     }
 }

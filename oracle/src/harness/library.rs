@@ -77,8 +77,14 @@ pub struct Paged {
     pub count: usize,
 }
 
-/// A page's line: sequence number, expiration, redelivery.
-pub type Line = [u64; 3];
+/// A page's line.
+#[repr(C)]
+#[derive(Clone, Copy, Debug, PartialEq)]
+pub struct Line {
+    pub sequence: u64,
+    pub expiration: i64,
+    pub redelivery: i32,
+}
 
 pub const PAGE_LINES: usize = 50;
 

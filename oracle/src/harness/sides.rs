@@ -6,7 +6,7 @@
 use super::callfile::Call;
 use super::dump::{self, Audits};
 use super::engine::{refusal, Engine, Opened, Reply, Uncoded};
-use super::library::{self, CallWords, Counters, EventRow, Lent, Outcome, EVENTS, PAGE_LINES};
+use super::library::{self, CallWords, Counters, EventRow, Lent, Line, Outcome, EVENTS, PAGE_LINES};
 use super::random::Random;
 use super::text;
 use super::whole::Whole;
@@ -155,7 +155,11 @@ fn queries_differ(opened: &Opened, lent: &Lent, clock: u64) -> Option<&'static s
 }
 
 fn pages_differ(opened: &Opened, lent: &Lent, total: u64) -> Option<&'static str> {
-    const FREE: [u64; 3] = [u64::MAX; 3];
+    const FREE: Line = Line {
+        sequence: u64::MAX,
+        expiration: -1,
+        redelivery: -1,
+    };
     for offset in [
         0,
         1,
@@ -167,9 +171,13 @@ fn pages_differ(opened: &Opened, lent: &Lent, total: u64) -> Option<&'static str
     ] {
         for limit in [0, 1, 2, 49, 50, 51, u64::MAX] {
             let (all, entries) = opened.dest.page(offset as usize, limit as usize);
-            let mut wanted: Vec<[u64; 3]> = entries
+            let mut wanted: Vec<Line> = entries
                 .iter()
-                .map(|e| [e.seq, e.msg.expiration as u64, i64::from(e.redelivery) as u64])
+                .map(|e| Line {
+                    sequence: e.seq,
+                    expiration: e.msg.expiration,
+                    redelivery: e.redelivery,
+                })
                 .collect();
             let count = wanted.len();
             wanted.resize(PAGE_LINES + 1, FREE);

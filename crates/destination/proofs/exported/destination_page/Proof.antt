@@ -1,4 +1,4 @@
--- `page::page` meets its contract: a walk of its MIR, by hand, with a call, a loop and a call in each turn.
+-- `destination::exported::destination_page` meets its contract: a walk of its MIR, by hand, with a call, a loop and a call in each turn.
 -- `queries::plan` says which rows are listed. The borrow of the list is opened once, before the loop, and closed once, after it. Between the two the row of lines is the function's own. A turn calls the covered `line_at`, which is passed a copy of the `&` slice of rows, and stores what it returns: one element is taken out of the row, stored to and put back.
 --     Own          what the three `&` slices own (`Sources.antt`)
 --     Upto, Nearer     the loop's state, a place up to the count, and the order by which it ends
@@ -56,11 +56,10 @@ use Rattle.definition.specs.Layout.{Buffers, bufferPage}
 use Rattle.sound.specs.Sound.{lent}
 use Rattle.queries.specs.declared.PagePlan.{PagePlan}
 use Rattle.queries.specs.declared.Paged.{Paged}
-use Rattle.queries.specs.Pages.{firstWaiting, asPlan, Planned}
-use Rattle.page.specs.declared.PageLine.{PageLine}
-use Rattle.page.specs.Page.{lineAt}
-use Rattle.page.proofs.Filled.{filled, filled-none, filled-more, length-filled, filled-is}
-use Rattle.page.proofs.Sources.{val, Words9, Words16, RowsOwn, Own as OwnOf, again}
+use Rattle.queries.specs.declared.PageLine.{PageLine}
+use Rattle.queries.specs.Pages.{firstWaiting, asPlan, Planned, lineAt}
+use Rattle.queries.proofs.Filled.{filled, filled-none, filled-more, length-filled, filled-is}
+use Rattle.destination.proofs.Sources.{val, Words9, Words16, RowsOwn, Own as OwnOf, again}
 use Rattle.queries.proofs.PagePlan as P
 use Rattle.queries.proofs.PagePlan.Laws as P′
 use Rattle.queries.proofs.Paged as Q
@@ -69,16 +68,16 @@ use Rattle.queries.proofs.plan as plan
 use Rattle.queries.proofs.plan.Symbol as plan-def
 use Rattle.queries.proofs.plan.Symbol.{name as #queries·plan}
 use Rattle.queries.proofs.plan.Met as plan-thm
-use Rattle.page.proofs.PageLine as T
-use Rattle.page.proofs.PageLine.Laws as T′
-use Rattle.page.proofs.line_at as line-at
-use Rattle.page.proofs.line_at.Symbol as line-at-def
-use Rattle.page.proofs.line_at.Symbol.{name as #page·line-at}
-use Rattle.page.proofs.line_at.Met as line-at-thm
-use Rattle.page.proofs.page.Key.{name as #page·page}
-use Rattle.page.proofs.page as f
-use Rattle.page.proofs.page.Statement as stated
-use Rattle.page.proofs.page.Code as code
+use Rattle.queries.proofs.PageLine as T
+use Rattle.queries.proofs.PageLine.Laws as T′
+use Rattle.queries.proofs.line_at as line-at
+use Rattle.queries.proofs.line_at.Symbol as line-at-def
+use Rattle.queries.proofs.line_at.Symbol.{name as #queries·line-at}
+use Rattle.queries.proofs.line_at.Met as line-at-thm
+use Rattle.destination.proofs.exported.destination_page.Key.{name as #destination·page}
+use Rattle.destination.proofs.exported.destination_page as f
+use Rattle.destination.proofs.exported.destination_page.Statement as stated
+use Rattle.destination.proofs.exported.destination_page.Code as code
 
 abbrev stayed : Stays (f.ended .signature .params) (f.ended .kept)
 stayed = (
@@ -94,7 +93,7 @@ stayed = (
 
 -- ---- the MIR of a turn, and of what follows the loop. The locals: the result, head, subs, rows, lines, offset, limit, the plan, i, the list's length, the test, the line, and the bytes before and the place of `lines[i]`
 abbrev more : Body
-more = seq (call #page·line-at (copy (place 3 []) ∷ copy (place 7 (field 2 ∷ [])) ∷ copy (place 8 []) ∷ []) (place 11 []))
+more = seq (call #queries·line-at (copy (place 3 []) ∷ copy (place 7 (field 2 ∷ [])) ∷ copy (place 8 []) ∷ []) (place 11 []))
     (seq (assign (place 12 []) (op2 (mul unsigned) (copy (place 8 [])) (int w64 24)))
     (seq (assign (place 13 []) (op2 offset (copy (place 4 (field 0 ∷ []))) (copy (place 12 []))))
     (seq (assign (place 13 (deref T′.mir ∷ [])) (rvOpd (copy (place 11 []))))
@@ -276,7 +275,7 @@ module _ {M : Type 1} (𝓤 : URA M) (H : Heap 𝓤) (A : Atoms 𝓤) (W : Given
   Nearer-wf : (m : ℕ) → WellFounded (Nearer m)
   Nearer-wf m = InvImage·wf (λ (i : Upto m). m - i .0) (Nat·lt-wfRel .wf)
 
-  module _ (𝓣 : Tables 𝓤 H) (known : Triple 𝓤 (𝓣 .C #page·line-at) (LineAt 𝓤 H A mem run)) (room : Room T.the-row (length ys)) (p : PagePlan) (is-plan : Is-plan p) (lists : Lists p) (wt : Holds (hasTy P′.mir (P′.lowered p)) × WT (P′.lowered p))
+  module _ (𝓣 : Tables 𝓤 H) (known : Triple 𝓤 (𝓣 .C #queries·line-at) (LineAt 𝓤 H A mem run)) (room : Room T.the-row (length ys)) (p : PagePlan) (is-plan : Is-plan p) (lists : Lists p) (wt : Holds (hasTy P′.mir (P′.lowered p)) × WT (P′.lowered p))
       (is-answer : Is Q.the-row (answered p) (Q′.lowered (answered p) ∷ [])) (l₀ l₁ l₂ l₃ l₄ l₅ l₆ l₇ l₈ l₉ l₁₀ l₁₁ l₁₂ l₁₃ : ℕ) where
     abbrev C : Calls 𝓤 H
     C = 𝓣 .C
@@ -365,7 +364,7 @@ module _ {M : Type 1} (𝓤 : URA M) (H : Heap 𝓤) (A : Atoms 𝓤) (W : Given
   plan-typed : (p : PagePlan) (v : Val) → Is P.the-row p (v ∷ []) → Holds (hasTy P′.mir (P′.lowered p)) × WT (P′.lowered p)
   plan-typed p v is = subst (λ (u : Val). Holds (hasTy P′.mir u) × WT u) (ap only (LL.tells P.the-type P′.the-laws p (v ∷ []) is)) (LL.lawful P.the-type P′.the-laws 𝓤 H A W .typed p _ is .0)
 
-  walk : (𝓣 : Tables 𝓤 H) → Triple 𝓤 (𝓣 .C #page·line-at) (LineAt 𝓤 H A mem run) → Triple 𝓤 (𝓣 .C #queries·plan) (Plan 𝓤 H A mem run) → Room u64 (length (now hd)) → Room Words16 (length (now sb)) → Room Words9 (length (now rs)) → Room T.the-row (length ys)
+  walk : (𝓣 : Tables 𝓤 H) → Triple 𝓤 (𝓣 .C #queries·line-at) (LineAt 𝓤 H A mem run) → Triple 𝓤 (𝓣 .C #queries·plan) (Plan 𝓤 H A mem run) → Room u64 (length (now hd)) → Room Words16 (length (now sb)) → Room Words9 (length (now rs)) → Room T.the-row (length ys)
       → ent 𝓤 (onEntry 𝓤 H A f.signature (κ₁, (κ₂, (κ, (κ′, tt)))) (q₁, (q₂, (q, (q′, tt)))) args arg-vals) (WpFn 𝓤 H (𝓣 .C) (𝓣 .Λ) code.function (val hd ∷ val sb ∷ val rs ∷ s ∷ vint w64 off ∷ vint w64 lim ∷ []) Post)
   walk 𝓣 known known-plan room₁ room₂ room₃ room =
       qed W ((‵ (flft κ₁ q₁) ⊛ (‵ (flft κ₂ q₂) ⊛ (‵ (flft κ q) ⊛ (‵ (flft κ′ q′) ⊛ ‵ ftrue)))) ∷ ‵ (owns (ShrSlice (named 0) κ₁ u64 ∷ ShrSlice (named 1) κ₂ Words16 ∷ ShrSlice (named 2) κ Words9 ∷ MutSlice (named 3) κ′ T.the-row ∷ u64 ∷ u64 ∷ []) args arg-vals) ∷ []) ∵
@@ -397,7 +396,7 @@ module _ {M : Type 1} (𝓤 : URA M) (H : Heap 𝓤) (A : Atoms 𝓤) (W : Given
       move ! (2 ∷ 0 ∷ []) $ join ! $ move ! (2 ∷ 0 ∷ []) $ join ! $ move ! (3 ∷ 4 ∷ 2 ∷ 1 ∷ []) $
       runs-on 𝓣 known room p is-plan lists (plan-typed p v is) (answer-is p v is) l₀ l₁ l₂ l₃ l₄ l₅ l₆ l₇ l₈ l₉ l₁₀ l₁₁ l₁₂ l₁₃)))))))))))))))))))
 
-module _ {M : Type 1} (𝓤 : URA M) (H : Heap 𝓤) (A : Atoms 𝓤) (W : Given 𝓤 H A) (mem : Memory → SProp 𝓤) (run : Routine → Fun 𝓤) (𝓣 : Tables 𝓤 H) (known : Triple 𝓤 (𝓣 .C #page·line-at) (LineAt 𝓤 H A mem run)) (known-plan : Triple 𝓤 (𝓣 .C #queries·plan) (Plan 𝓤 H A mem run)) where
+module _ {M : Type 1} (𝓤 : URA M) (H : Heap 𝓤) (A : Atoms 𝓤) (W : Given 𝓤 H A) (mem : Memory → SProp 𝓤) (run : Routine → Fun 𝓤) (𝓣 : Tables 𝓤 H) (known : Triple 𝓤 (𝓣 .C #queries·line-at) (LineAt 𝓤 H A mem run)) (known-plan : Triple 𝓤 (𝓣 .C #queries·plan) (Plan 𝓤 H A mem run)) where
   page-walks : Walks 𝓤 H A f.ended stayed (WpFn 𝓤 H (𝓣 .C) (𝓣 .Λ) code.function) (f.clauses 𝓤 H A mem run)
   page-walks = walked 𝓤 H A f.ended stayed (f.clauses 𝓤 H A mem run) (WpFn 𝓤 H (𝓣 .C) (𝓣 .Λ) code.function)
       (λ κs. (slice-vals, (slice-vals, (slice-vals, (slice-vals, (uint-vals w64, (uint-vals w64, tt)))))))
@@ -419,11 +418,11 @@ module _ {M : Type 1} (𝓤 : URA M) (H : Heap 𝓤) (A : Atoms 𝓤) (W : Given
   )
       (f.clauses 𝓤 H A mem run) (WpFn 𝓤 H (𝓣 .C) (𝓣 .Λ) code.function) (WpFn-mono 𝓤 H (W .laws) 𝓣 code.function) page-walks
 
-pub page-spec : {M : Type 1} → stated.statement M
+pub destination-page-spec : {M : Type 1} → stated.statement M
 unfolding code.routine tablesOf
-page-spec 𝓤 H 𝓜 𝓖 𝓡 =
+destination-page-spec 𝓤 H 𝓜 𝓖 𝓡 =
     entered 𝓤 H (tripleOf 𝓤 H (𝓖 .A) f.signature (f.spec 𝓤 H (𝓖 .A) (𝓜 .mem) (𝓡 .run)))
-    (tables 𝓤 H 𝓜 𝓡 code.env .C) (tables 𝓤 H 𝓜 𝓡 code.env .Λ) #page·page code.function (code.unfolded 𝓤 H 𝓜 𝓡)
+    (tables 𝓤 H 𝓜 𝓡 code.env .C) (tables 𝓤 H 𝓜 𝓡 code.env .Λ) #destination·page code.function (code.unfolded 𝓤 H 𝓜 𝓡)
     (page-meets 𝓤 H (𝓖 .A) (givenOf 𝓤 H 𝓜 𝓖) (𝓜 .mem) (𝓡 .run) (tablesOf 𝓤 H 𝓜 (tables 𝓤 H 𝓜 𝓡 code.env))
-    (cited 𝓤 H (LineAt 𝓤 H (𝓖 .A) (𝓜 .mem) (𝓡 .run)) 𝓜 𝓡 code.env #page·line-at line-at-def.routine code.calls-page·line-at (line-at-thm.met 𝓤 H 𝓜 𝓖 𝓡))
+    (cited 𝓤 H (LineAt 𝓤 H (𝓖 .A) (𝓜 .mem) (𝓡 .run)) 𝓜 𝓡 code.env #queries·line-at line-at-def.routine code.calls-queries·line-at (line-at-thm.met 𝓤 H 𝓜 𝓖 𝓡))
     (cited 𝓤 H (Plan 𝓤 H (𝓖 .A) (𝓜 .mem) (𝓡 .run)) 𝓜 𝓡 code.env #queries·plan plan-def.routine code.calls-queries·plan (plan-thm.met 𝓤 H 𝓜 𝓖 𝓡)))

@@ -1,4 +1,4 @@
--- The three `&` slices of the state that `page` and `page_of` are lent: what they own, as one formula, and that it can be had once more.
+-- The three `&` slices of the state that `destination_page` is lent: what they own, as one formula, and that it can be had once more.
 --     val      a slice's machine value
 --     Own      what the three own. `again` has it twice: a `&` slice is Copy
 -- Assumes `Given`.

@@ -1,4 +1,4 @@
--- `page::line_at` meets its contract. Assumes nothing.
+-- `queries::line_at` meets its contract. Assumes nothing.
 use mathlib.Core.Path.{_≡_, refl, sym, _∙_, ap}
 use Prim.Native.Nat.{ℕ, _+_, _≤_}
 use native.Mathlib.Omega.{arith}
@@ -13,10 +13,9 @@ use borrow.Author.Needs.{needs}
 use Rattle.entry.specs.Entry.{entryOf}
 use Rattle.entry.specs.declared.Entry.{Entry}
 use Rattle.definition.specs.Queries.{lineOf}
-use Rattle.queries.specs.Pages.{rowLine}
-use Rattle.page.specs.Page.{pageLine, lineAt}
-use Rattle.page.proofs.line_at.Statement.{statement}
-use Rattle.page.proofs.line_at.Tie as tie
+use Rattle.queries.specs.Pages.{rowLine, pageLine, lineAt}
+use Rattle.queries.proofs.line_at.Statement.{statement}
+use Rattle.queries.proofs.line_at.Tie as tie
 
 sub-if2 : tie.Need-sub-if2
 sub-if2 c = search needs

@@ -1,4 +1,4 @@
--- The list that `page`'s loop leaves turn by turn: its first lines are given, and the others stay.
+-- The list that the loop of a page leaves turn by turn: its first lines are given, and the others stay.
 --     given, filled    the first n lines, of a line for each place; the list with them
 --     filled-none      with no line given the list is as it was
 --     filled-more      a line that is put after i given lines is one more given line
@@ -15,9 +15,8 @@ use lib.ListN.{length, set, take, drop, getD, length-append, length-drop}
 use lib.Seq.{take-suc, getD-drop}
 use Rattle.definition.specs.Queries.{Line}
 use Rattle.definition.specs.Layout.{Row}
-use Rattle.queries.specs.Pages.{rowLine}
-use Rattle.page.specs.declared.PageLine.{PageLine}
-use Rattle.page.specs.Page.{pageLine, lineAt, written}
+use Rattle.queries.specs.declared.PageLine.{PageLine}
+use Rattle.queries.specs.Pages.{rowLine, pageLine, lineAt, written}
 
 -- the first n lines, of a line for each place
 unfoldable pub given : (ℕ → PageLine) → ℕ → List PageLine
