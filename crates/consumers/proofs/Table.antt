@@ -25,15 +25,11 @@ module _ (i n : ℕ) (l : List Row) (h : i < min n (length l)) where
   unfolding positionFrom
   position-next id t = rw (first-next i n l [] h, t) (ap (λ (m : ℕ). positionFrom m id (slice (i + 1) n l)) (sym (add-one i)))
 
-  -- sums with a bound, the one so far being a
-  pub rows-next : (a : ℕ) → min 513 (min 513 (a + min 513 (inflightOf (getD l i []) + heldOf (getD l i []))) + subRows (slice (i + 1) n l)) ≡ min 513 (a + subRows (slice i n l))
+  pub rows-next : subRows (slice i n l) ≡ inflightOf (getD l i []) + (heldOf (getD l i []) + subRows (slice (i + 1) n l))
   unfolding subRows
-  rows-next a =
-      let w = getD l i [] in
-      let r : ℕ = subRows (slice (i + 1) n l) in
-      let e : inflightOf w + heldOf w + r ≡ inflightOf w + (heldOf w + r) = omega arith in
-      capped a (inflightOf w + heldOf w) r ∙ rw (first-next i n l [] h) (ap (λ (m : ℕ). min 513 (a + m)) e)
+  rows-next = rw (first-next i n l [] h)
 
+  -- sums with a bound, the one so far being a
   pub kept-next : (queue : Bool) (a : ℕ) → min 513 (min 513 (a + min 513 (keptBy queue (getD l i []))) + keptRows queue (slice (i + 1) n l)) ≡ min 513 (a + keptRows queue (slice i n l))
   unfolding keptRows
   kept-next queue a = capped a (keptBy queue (getD l i [])) (keptRows queue (slice (i + 1) n l)) ∙ rw (first-next i n l [] h)

@@ -260,7 +260,19 @@ pub fn base_of(subs: &[SubRow], n: usize) -> usize
     let mut base = 0;
     let mut i = 0;
     while i < end {
-        base = sum_of(base as u64, rows_of(subs[i]) as u64);
+        let w = subs[i];
+        let inflight = w[INFLIGHT];
+        let held = w[HELD];
+        if 512 < inflight {
+            return ROWS + 1;
+        }
+        if 512 < held {
+            return ROWS + 1;
+        }
+        base += (inflight + held) as usize;
+        if 512 < base {
+            return ROWS + 1;
+        }
         i += 1;
     }
     base

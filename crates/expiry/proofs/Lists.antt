@@ -1,16 +1,16 @@
 -- One list swept: nothing to do, a turn, and the rows that a turn takes out. Assumes nothing.
-use mathlib.Core.Path.{_≡_, refl, sym, ap, ap₂, _∙_}
-use mathlib.Core.Bool.{Bool, true, false, not}
+use mathlib.Core.Path.{_≡_, refl, sym, ap, _∙_}
+use mathlib.Core.Bool.{Bool, true, false, not, _&&_}
 use mathlib.Core.List.{List, [], _∷_, _++_, append-assoc, map}
 use mathlib.Core.Option.{Option, none, some}
 use Prim.Native.Nat.{ℕ, zero, suc, _+_, _-_, _≤_, _<_, _^_}
 use native.Mathlib.Omega.{arith}
-use lib.Dec.{eqb}
-use lib.IntN.{ℤ, pos}
+use borrow.Author.Tests.{eq-eqb, ne-eqb}
+use lib.Dec.{eqb, leb, ltb}
+use lib.IntN.{pos}
 use lib.ListN.{length, take, drop, getD, length-append}
 use lib.Seq.{slice, slice-cons, slice-empty, length-slice, length-take-le, take-at, drop-at}
-use Rattle.words.specs.Words.{signed}
-use Rattle.words.proofs.Words.{signed-pos}
+use Rattle.words.proofs.Words.{expired-word}
 use Rattle.words.proofs.Tests.{by-test}
 use Rattle.entry.specs.Entry.{entryOf}
 use Rattle.definition.specs.Base.{if_then_else_, keep, tally, all}
@@ -30,41 +30,75 @@ use Rattle.expiry.specs.Sweep.{isSooner, nextOf, Listed, listed, swept, 
 
 -- ---- the soonest
 
--- what was found, after one more entry
-module _ (now : ℕ) (e : Entry) (n : Next) where
-  abbrev next : Option Entry
-  next = if expired (pos now) e then sooner e (nextOf n) else nextOf n
+-- what stands at a place; at the end, nothing
+abbrev pub foundAt : ℕ → ℕ → List Row → Option Entry
+foundAt at to rows = if eqb at to then none else some (entryOf (getD rows at []))
 
-  pub met-not : expired (pos now) e ≡ false → nextOf n ≡ next
+module _ (at to : ℕ) (rows : List Row) where
+  pub found-none : at ≡ to → foundAt at to rows ≡ none
+  found-none h = rw (eq-eqb at to h)
+
+  pub found-some : (at ≡ to → ⊥) → foundAt at to rows ≡ some (entryOf (getD rows at []))
+  found-some h = rw (ne-eqb at to h)
+
+-- by the word that holds the expiration
+pub by-word : (now : ℕ) (row : Row) (b : Bool) → now ≤ 2 ^ 62 → (ltb 0 (getD row 1 0) && leb (getD row 1 0) now) ≡ b → expired (pos now) (entryOf row) ≡ b
+unfolding expired entryOf
+by-word now row b h t = expired-word now (getD row 1 0) (omega arith) ∙ t
+
+-- what was found, after one more entry
+module _ (now : ℕ) (e : Entry) (n : Option Entry) where
+  abbrev next : Option Entry
+  next = if expired (pos now) e then sooner e n else n
+
+  pub met-not : expired (pos now) e ≡ false → n ≡ next
   met-not h = rw h
 
-  pub met-first : expired (pos now) e ≡ true → n .found ≡ false → some e ≡ next
+  pub met-first : expired (pos now) e ≡ true → n ≡ none → some e ≡ next
   met-first h f = rw (h, f)
 
-  pub met-sooner : expired (pos now) e ≡ true → n .found ≡ true → isSooner e (n .entry) ≡ true → some e ≡ next
-  met-sooner h f s = rw (h, f, s)
+  pub met-sooner : (f : Entry) → expired (pos now) e ≡ true → n ≡ some f → isSooner e f ≡ true → some e ≡ next
+  met-sooner f h q s = rw (h, q, s)
 
-  pub met-later : expired (pos now) e ≡ true → n .found ≡ true → isSooner e (n .entry) ≡ false → nextOf n ≡ next
-  met-later h f s = rw (h, f, s)
-
--- by the clock that a word holds
-pub by-word : (clock : ℕ) (e : Entry) (r b : Bool) → clock ≤ 2 ^ 62 → r ≡ expired (signed clock) e → r ≡ b → expired (pos clock) e ≡ b
-by-word clock e r b h q t = ap (λ (z : ℤ). expired z e) (sym (signed-pos clock (omega arith))) ∙ sym q ∙ t
+  pub met-later : (f : Entry) → expired (pos now) e ≡ true → n ≡ some f → isSooner e f ≡ false → n ≡ next
+  met-later f h q s = rw (h, q, s)
 
 -- none of no rows
-pub soonest-start : (now i : ℕ) (rows : List Row) → none ≡ soonest now (map entryOf (slice i i rows))
-soonest-start now i rows = sym (ap (λ (l : List Row). soonest now (map entryOf l)) (slice-empty i rows))
+pub soonest-start : (now i : ℕ) (rows : List Row) → foundAt i i rows ≡ soonest now (map entryOf (slice i i rows))
+soonest-start now i rows = found-none i i rows refl ∙ sym (ap (λ (l : List Row). soonest now (map entryOf l)) (slice-empty i rows))
 
 -- one row more at the front
-pub soonest-turn : (now i j to : ℕ) (rows : List Row) (row : Row) (e : Entry) (n m : Option Entry) → i + 1 ≡ j → j ≤ to → to ≤ length rows → row ≡ getD rows i [] → e ≡ entryOf row
-    → n ≡ soonest now (map entryOf (slice j to rows)) → m ≡ (if expired (pos now) e then sooner e n else n) → m ≡ soonest now (map entryOf (slice i to rows))
-soonest-turn now i j to rows row e n m h b l is made q s =
-    let k : suc i ≡ j = omega arith in
-    let c : slice i to rows ≡ row ∷ slice j to rows =
-    slice-cons i to rows [] (omega arith) l ∙ ap₂ (λ (x : Row) (y : ℕ). x ∷ slice y to rows) (sym is) k in
-    s
-    ∙ ap₂ (λ (x : Entry) (y : Option Entry). if expired (pos now) x then sooner x y else y) made q
-    ∙ sym (ap (λ (y : List Row). soonest now (map entryOf y)) c)
+module _ (now i j to at : ℕ) (rows : List Row) (h : i + 1 ≡ j) (b : j ≤ to) (l : to ≤ length rows) (c : now ≤ 2 ^ 62) (q : foundAt at to rows ≡ soonest now (map entryOf (slice j to rows))) where
+  abbrev row : Row
+  row = getD rows i []
+
+  abbrev best : Row
+  best = getD rows at []
+
+  abbrev isLate : Bool
+  isLate = ltb 0 (getD row 1 0) && leb (getD row 1 0) now
+
+  soonest-turn : (m : Option Entry) → m ≡ next now (entryOf row) (foundAt at to rows) → m ≡ soonest now (map entryOf (slice i to rows))
+  soonest-turn m s =
+      let k : suc i ≡ j = omega arith in
+      let cut : slice i to rows ≡ row ∷ slice j to rows = slice-cons i to rows [] (omega arith) l ∙ ap (λ (y : ℕ). row ∷ slice y to rows) k in
+      s ∙ ap (next now (entryOf row)) q ∙ sym (ap (λ (y : List Row). soonest now (map entryOf y)) cut)
+
+  here : foundAt i to rows ≡ some (entryOf row)
+  here = found-some i to rows (λ e. omega (arith, e))
+
+  pub soonest-not : isLate ≡ false → foundAt at to rows ≡ soonest now (map entryOf (slice i to rows))
+  soonest-not t = soonest-turn (foundAt at to rows) (met-not now (entryOf row) (foundAt at to rows) (by-word now row false c t))
+
+  pub soonest-first : isLate ≡ true → at ≡ to → foundAt i to rows ≡ soonest now (map entryOf (slice i to rows))
+  soonest-first t e = soonest-turn (foundAt i to rows) (here ∙ met-first now (entryOf row) (foundAt at to rows) (by-word now row true c t) (found-none at to rows e))
+
+  module _ (t : isLate ≡ true) (e : at ≡ to → ⊥) where
+    pub soonest-sooner : isSooner (entryOf row) (entryOf best) ≡ true → foundAt i to rows ≡ soonest now (map entryOf (slice i to rows))
+    soonest-sooner s = soonest-turn (foundAt i to rows) (here ∙ met-sooner now (entryOf row) (foundAt at to rows) (entryOf best) (by-word now row true c t) (found-some at to rows e) s)
+
+    pub soonest-later : isSooner (entryOf row) (entryOf best) ≡ false → foundAt at to rows ≡ soonest now (map entryOf (slice i to rows))
+    soonest-later s = soonest-turn (foundAt at to rows) (met-later now (entryOf row) (foundAt at to rows) (entryOf best) (by-word now row true c t) (found-some at to rows e) s)
 
 -- ---- what the definition says
 

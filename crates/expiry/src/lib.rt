@@ -6,11 +6,8 @@ ghost use Prim.Native.Nat.{_≤_, _^_};
 ghost use lib.Dec.{leb};
 ghost use lib.ListN.{length, drop};
 ghost use lib.Seq.{slice};
-ghost use lib.IntN.{pos};
 ghost use Rattle.entry.specs.Entry.{entryOf};
-ghost use Rattle.definition.specs.Base.{if_then_else_};
-ghost use Rattle.definition.specs.Consumer.{expired};
-ghost use Rattle.definition.specs.Destination.{sooner, soonest, sweepExpired, clear};
+ghost use Rattle.definition.specs.Destination.{soonest, sweepExpired, clear};
 ghost use Rattle.state.specs.State.{withWaiting, withUsed};
 ghost use Rattle.state.specs.Fits.{fits};
 ghost use Rattle.state.specs.Leaves.{LeavesIf};
@@ -46,44 +43,35 @@ fn is_sooner(e: Entry, f: Entry) -> bool
     (a < b) | ((a <= b) & (e.seq < f.seq))
 }
 
-// One more entry is met.
-fn met(n: Next, e: Entry, clock: u64) -> Next
-    requires { ⌜ clock ≤ 2 ^ 62 ⌝ }
-    ensures { λ r. ⌜ nextOf r ≡ (if expired (pos clock) e then sooner e (nextOf n) else nextOf n) ⌝ }
-{
-    if !entry::expired_by(e, clock) {
-        return n;
-    }
-    if !n.found {
-        return Next {
-            found: true,
-            entry: e,
-        };
-    }
-    if is_sooner(e, n.entry) {
-        return Next {
-            found: true,
-            entry: e,
-        };
-    }
-    n
-}
-
-// The soonest of the expired rows of from..to, from the last row on.
+// The soonest of the expired rows of from..to, looked for from the last row on; at is where it stands, to for nowhere.
 fn soonest(rows: &[Row], from: usize, to: usize, clock: u64) -> Next
     requires { ⌜ (from ≤ to) × (to ≤ length (now rows)) × (clock ≤ 2 ^ 62) ⌝ }
     ensures { λ r. ⌜ nextOf r ≡ soonest clock (map entryOf (slice from to (now (rows .entry)))) ⌝ }
 {
-    let mut n = Next {
-        found: false,
-        entry: entry::entry_of([0; 9]),
-    };
+    let mut at = to;
     let mut i = to;
     while from < i {
         i = i - 1;
-        n = met(n, entry::entry_of(rows[i]), clock);
+        let row = rows[i];
+        let until = row[1];
+        if (0 < until) & (until <= clock) {
+            if at == to {
+                at = i;
+            } else if is_sooner(entry::entry_of(row), entry::entry_of(rows[at])) {
+                at = i;
+            }
+        }
     }
-    n
+    if at == to {
+        return Next {
+            found: false,
+            entry: entry::entry_of([0; 9]),
+        };
+    }
+    Next {
+        found: true,
+        entry: entry::entry_of(rows[at]),
+    }
 }
 
 // Of the list at from at most so many expired rows go, soonest first.

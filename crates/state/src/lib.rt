@@ -319,7 +319,6 @@ fn push(events: &mut [Event], mut d: Head, e: Event) -> Head
     if at < events.len() {
         events[at] = e;
         d.events = at + 1;
-        return d;
     }
     d
 }

@@ -1,16 +1,16 @@
 -- The loops of the table, a turn at a time: rows that move down or up, and a search.
 -- Assumes nothing.
-use mathlib.Core.Path.{_≡_, refl, sym, ap, _∙_}
-use mathlib.Core.List.{List, [], _∷_, _++_}
+use mathlib.Core.Path.{_≡_, refl, sym, ap, ap₂, _∙_}
+use mathlib.Core.List.{List, [], _∷_, _++_, append-assoc}
 use Prim.Native.Nat.{ℕ, suc, _+_, _-_, _≤_, _<_}
 use native.Mathlib.Numerals.{add-one}
 use native.Mathlib.Omega.{arith}
 use borrow.Author.Tests.{eq-eqb, ne-eqb, le-leb, lt-leb}
-use lib.ListN.{length, take, drop, getD, set, take-append-drop, List·getD-append}
-use lib.Seq.{slice, slice-empty, slice-cons, length-take-le, length-slice, getD-take}
+use lib.ListN.{length, take, drop, getD, set, length-drop, take-append-drop, List·getD-append}
+use lib.Seq.{slice, slice-empty, slice-cons, length-take-le, length-slice, getD-take, take-length, take-take, take-add, drop-append-le, drop-drop}
 use Rattle.table.specs.declared.Found.the-variants.{At, Nothing}
 use Rattle.table.specs.Table.{Row, closed, lifted, opened, findFrom, placeFrom}
-use Rattle.table.proofs.Lists.{slice-snoc, set-front, written, written-none, written-at, written-more}
+use Rattle.table.proofs.Lists.{parts, slice-take, slice-snoc, set-front, written, written-none, written-at, written-more}
 
 -- ---- rows move down by k: i is where the next row stands, and j where it goes
 
@@ -21,6 +21,14 @@ closed-none rs at k =
     written-none at rs
     ∙ ap (λ (l : List Row). take at rs ++ (l ++ drop at rs)) (sym (slice-empty (at + k) rs))
     ∙ ap (λ (n : ℕ). take at rs ++ (slice (at + k) (at + k) rs ++ drop n rs)) e
+
+-- no row is removed
+pub closed-still : (rs : List Row) (at n : ℕ) → at ≤ n → closed at 0 n rs ≡ rs
+unfolding closed
+closed-still rs at n h =
+    let u : at + 0 ≡ at = omega arith in
+    let v : n - 0 ≡ n = omega arith in
+    ap₂ (λ (x y : ℕ). take at rs ++ (slice x n rs ++ drop y rs)) u v ∙ sym (parts at n rs h)
 
 pub closed-turn : (rs now : List Row) (at k i j : ℕ) (z : Row) → i ≡ j + k → at ≤ j → i < length rs → now ≡ closed at k i rs
     → set now j (getD now i z) ≡ closed at k (i + 1) rs
@@ -36,6 +44,51 @@ closed-turn rs now at k i j z e h b q =
     ∙ written-more at j m rs w (getD rs i z) (omega arith)
     ∙ ap (λ (l : List Row). written at l (j + 1) rs) (sym (slice-snoc (at + k) i rs z (omega arith) b))
     ∙ ap (λ (n : ℕ). written at (slice (at + k) (i + 1) rs) n rs) v
+
+-- ---- a part of the rows that is lent: from place at on, so many
+
+-- what is left of the part, and what stands past it
+part-rest : (rs : List Row) (at m j : ℕ) → at + m ≤ length rs → j ≤ m → drop j (take m (drop at rs)) ++ drop m (drop at rs) ≡ drop (at + j) rs
+part-rest rs at m j h b =
+    let x : List Row = drop at rs in
+    let l : length (take m x) ≡ m = length-take-le m x (omega (arith, length-drop at rs)) in
+    sym (drop-append-le j (take m x) (drop m x) (omega arith)) ∙ ap (drop j) (take-append-drop m x) ∙ drop-drop j at rs
+
+pub closed-part : (rs : List Row) (at k n : ℕ) → at + k ≤ n → n ≤ length rs
+    → take at rs ++ (closed 0 k (length (take (n - at) (drop at rs))) (take (n - at) (drop at rs)) ++ drop (n - at) (drop at rs)) ≡ closed at k n rs
+unfolding closed
+closed-part rs at k n h b =
+    let m : ℕ = n - at in
+    let x : List Row = drop at rs in
+    let s : List Row = take m x in
+    let l : length s ≡ m = length-take-le m x (omega (arith, length-drop at rs)) in
+    let u : at + (0 + k) ≡ at + k = omega arith in
+    let v : at + (length s - k) ≡ n - k = omega arith in
+    let moved : slice (0 + k) (length s) s ≡ slice (at + k) n rs =
+    ap (drop (0 + k)) (take-length s ∙ sym (slice-take at n rs (omega arith))) ∙ drop-drop (0 + k) at (take n rs) ∙ ap (λ (p : ℕ). drop p (take n rs)) u in
+    let rest : drop (length s - k) s ++ drop m x ≡ drop (n - k) rs = part-rest rs at m (length s - k) (omega arith) (omega arith) ∙ ap (λ (p : ℕ). drop p rs) v in
+    ap (λ (y : List Row). take at rs ++ y) (append-assoc (slice (0 + k) (length s) s) (drop (length s - k) s) (drop m x) ∙ ap₂ (λ (y z : List Row). y ++ z) moved rest)
+
+pub lifted-part : (rs : List Row) (at k n : ℕ) → at ≤ n → n + k ≤ length rs
+    → take at rs ++ (lifted 0 k (length (take (n + k - at) (drop at rs)) - k) (take (n + k - at) (drop at rs)) ++ drop (n + k - at) (drop at rs)) ≡ lifted at k n rs
+unfolding lifted
+lifted-part rs at k n h b =
+    let m : ℕ = n + k - at in
+    let x : List Row = drop at rs in
+    let s : List Row = take m x in
+    let l : length s ≡ m = length-take-le m x (omega (arith, length-drop at rs)) in
+    let j : ℕ = length s - k in
+    let u : 0 + k ≡ k = omega arith in
+    let v : at + (j + k) ≡ n + k = omega arith in
+    let w : j ≡ n - at = omega arith in
+    let first : take (0 + k) s ≡ take k x = ap (λ (p : ℕ). take p s) u ∙ take-take k m x (omega arith) in
+    let moved : slice 0 j s ≡ slice at n rs = take-take j m x (omega arith) ∙ ap (λ (p : ℕ). take p x) w ∙ sym (slice-take at n rs h) in
+    let rest : drop (j + k) s ++ drop m x ≡ drop (n + k) rs = part-rest rs at m (j + k) (omega arith) (omega arith) ∙ ap (λ (p : ℕ). drop p rs) v in
+    ap (λ (y : List Row). take at rs ++ y)
+    (append-assoc (take (0 + k) s) (slice 0 j s ++ drop (j + k) s) (drop m x)
+    ∙ ap₂ (λ (y z : List Row). y ++ z) first (append-assoc (slice 0 j s) (drop (j + k) s) (drop m x) ∙ ap₂ (λ (y z : List Row). y ++ z) moved rest))
+    ∙ sym (append-assoc (take at rs) (take k x) (slice at n rs ++ drop (n + k) rs))
+    ∙ ap (λ (y : List Row). y ++ (slice at n rs ++ drop (n + k) rs)) (sym (take-add at k rs))
 
 -- ---- rows move up by k: those from place i on have been moved
 

@@ -1,12 +1,12 @@
 // The table of rows: the used rows stand at the front, in one order. Rows are removed and put in by moving the later ones.
 ghost use mathlib.Core.Path.{_≡_};
 ghost use mathlib.Core.Bool.{not, _&&_};
-ghost use Prim.Native.Nat.{_≤_};
+ghost use Prim.Native.Nat.{_-_, _≤_};
 ghost use lib.Dec.{leb, eqb};
 ghost use lib.ListN.{length, getD};
 ghost use lib.Seq.{slice};
 ghost use Rattle.definition.specs.Base.{if_then_else_, tally};
-ghost use Rattle.table.specs.Table.{closeGap, insertRow, openGap, findSeq, placeOf};
+ghost use Rattle.table.specs.Table.{closed, closeGap, insertRow, lifted, openGap, findSeq, placeOf};
 ghost use Rattle.table.specs.Table.{inRange, isFreed, hasSeq, countRows, mapRows, freedRow, markRow, raisedRow, redeliverRow, unmarkRow, flownRow};
 ghost use Rattle.table.specs.Table.{compacted, removeRows, removedRows, removedRange};
 use entry::DSEQ;
@@ -32,6 +32,13 @@ pub fn close_gap(rows: &mut [Row], at: usize, k: usize, n: usize)
     if n - k < at {
         return;
     }
+    if k == 0 {
+        return;
+    }
+    if k == 1 {
+        close_one(&mut rows[at..n]);
+        return;
+    }
     let mut i = at + k;
     let mut j = at;
     while i < n {
@@ -39,6 +46,28 @@ pub fn close_gap(rows: &mut [Row], at: usize, k: usize, n: usize)
         rows[j] = row;
         i += 1;
         j += 1;
+    }
+}
+
+// The first row is removed. The compiler turns the loop of `shift_down` into one move of the memory.
+fn close_one(rows: &mut [Row])
+    requires { ⌜ 1 ≤ length (now rows) ⌝ }
+    ensures { λ _. ⌜ now (rows .exit) ≡ closed 0 1 (length (now (rows .entry))) (now (rows .entry)) ⌝ }
+{
+    shift_down(rows);
+}
+
+// Each row moves down by one, onto the one before it.
+fn shift_down(rows: &mut [Row])
+    requires { ⌜ 1 ≤ length (now rows) ⌝ }
+    ensures { λ _. ⌜ now (rows .exit) ≡ closed 0 1 (length (now (rows .entry))) (now (rows .entry)) ⌝ }
+{
+    let n = rows.len();
+    let mut i = 1;
+    while i < n {
+        let row = rows[i];
+        rows[i - 1] = row;
+        i += 1;
     }
 }
 
@@ -55,11 +84,36 @@ pub fn open_gap(rows: &mut [Row], at: usize, k: usize, n: usize)
     if n < at {
         return;
     }
+    if k == 1 {
+        open_one(&mut rows[at..n + 1]);
+        return;
+    }
     let mut i = n;
     while at < i {
         i -= 1;
         let row = rows[i];
         rows[i + k] = row;
+    }
+}
+
+// A gap of one row before all but the last, which goes. The compiler turns the loop of `shift_up` into one move of the memory.
+fn open_one(rows: &mut [Row])
+    requires { ⌜ 1 ≤ length (now rows) ⌝ }
+    ensures { λ _. ⌜ now (rows .exit) ≡ lifted 0 1 (length (now (rows .entry)) - 1) (now (rows .entry)) ⌝ }
+{
+    shift_up(rows);
+}
+
+// Each row moves up by one, onto the one after it.
+fn shift_up(rows: &mut [Row])
+    requires { ⌜ 1 ≤ length (now rows) ⌝ }
+    ensures { λ _. ⌜ now (rows .exit) ≡ lifted 0 1 (length (now (rows .entry)) - 1) (now (rows .entry)) ⌝ }
+{
+    let mut i = rows.len() - 1;
+    while 0 < i {
+        let row = rows[i - 1];
+        rows[i] = row;
+        i -= 1;
     }
 }
 

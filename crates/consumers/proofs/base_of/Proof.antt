@@ -1,6 +1,6 @@
 -- `consumers::base_of` meets its contract. Assumes nothing.
-use mathlib.Core.Path.{_≡_, ap, _∙_}
-use Prim.Native.Nat.{_+_, _-_, _≤_, min}
+use mathlib.Core.Path.{_≡_}
+use Prim.Native.Nat.{_+_, _-_, _≤_}
 use denote.Ref.{now}
 use lib.ListN.{take}
 use lib.Seq.{slice}
@@ -13,7 +13,7 @@ use Rattle.consumers.proofs.base_of.Statement.{statement}
 use Rattle.consumers.proofs.base_of.Tie as tie
 
 abbrev Inv-loop : tie.InvT-loop
-Inv-loop subs n end base₀ i₀ base i = (i ≤ end) × (base ≤ 513) × (min 513 (base + subRows (slice i n subs)) ≡ min 513 (subRows (take n subs)))
+Inv-loop subs n end base₀ i₀ base i = (i ≤ end) × (base ≤ 512) × (base + subRows (slice i n subs) ≡ subRows (take n subs))
 
 abbrev μ-loop : tie.MeasureT-loop
 μ-loop subs n end base₀ i₀ base i = end - i
@@ -22,19 +22,49 @@ end-of-requires : tie.Need-end-of-requires Inv-loop μ-loop
 end-of-requires c κs = search needs
 
 loop-holds : tie.Need-loop-holds Inv-loop μ-loop
-loop-holds c = (search needs, search needs, ap (min 513) (zero-add _))
+loop-holds c = (search needs, search needs, zero-add _)
 
-mul-rows-of : tie.Need-mul-rows-of Inv-loop μ-loop
-mul-rows-of c = search needs
+mul-w : tie.Need-mul-w Inv-loop μ-loop
+mul-w c = search needs
 
-shared-slice-copy-out-rows-of : tie.Need-shared-slice-copy-out-rows-of Inv-loop μ-loop
-shared-slice-copy-out-rows-of c = search needs
+shared-slice-copy-out-w : tie.Need-shared-slice-copy-out-w Inv-loop μ-loop
+shared-slice-copy-out-w c = search needs
 
-rows-of-requires : tie.Need-rows-of-requires Inv-loop μ-loop
-rows-of-requires c κs = search needs
+array-read-inflight : tie.Need-array-read-inflight Inv-loop μ-loop
+array-read-inflight c = search needs
 
-sum-of-requires : tie.Need-sum-of-requires Inv-loop μ-loop
-sum-of-requires c κs = search needs
+array-read-held : tie.Need-array-read-held Inv-loop μ-loop
+array-read-held c = search needs
+
+add-result : tie.Need-add-result Inv-loop μ-loop
+add-result c = search needs
+
+returns : tie.Need-returns Inv-loop μ-loop
+returns c = let l = c .before .before .before .loop in
+    let a = c .before .before .before .before .before .args in
+    omega (arith, l .inv .2, rows-next (l .i) (a .n) (now (a .subs)) (omega arith))
+
+add-result-2 : tie.Need-add-result-2 Inv-loop μ-loop
+add-result-2 c = search needs
+
+returns-2 : tie.Need-returns-2 Inv-loop μ-loop
+returns-2 c = let l = c .before .before .before .before .loop in
+    let a = c .before .before .before .before .before .before .args in
+    omega (arith, l .inv .2, rows-next (l .i) (a .n) (now (a .subs)) (omega arith))
+
+add-base : tie.Need-add-base Inv-loop μ-loop
+add-base c = search needs
+
+add-base-2 : tie.Need-add-base-2 Inv-loop μ-loop
+add-base-2 c = search needs
+
+add-result-3 : tie.Need-add-result-3 Inv-loop μ-loop
+add-result-3 c = search needs
+
+returns-3 : tie.Need-returns-3 Inv-loop μ-loop
+returns-3 c = let l = c .before .before .before .before .before .loop in
+    let a = c .before .before .before .before .before .before .before .args in
+    omega (arith, l .inv .2, rows-next (l .i) (a .n) (now (a .subs)) (omega arith))
 
 add-i : tie.Need-add-i Inv-loop μ-loop
 add-i c = search needs
@@ -43,15 +73,14 @@ loop-less : tie.Need-loop-less Inv-loop μ-loop
 loop-less c = search needs
 
 loop-again : tie.Need-loop-again Inv-loop μ-loop
-loop-again c = let l = c .before .before .before .before .loop in
-    let a = c .before .before .before .before .before .before .args in
-    (search needs, omega (arith, c .sum-of .ensures), rw (c .sum-of .ensures, c .before .rows-of .ensures) (rows-next (l .i) (a .n) (now (a .subs)) (omega arith) (l .base) ∙ l .inv .2))
+loop-again c = let l = c .before .before .before .before .before .loop in
+    let a = c .before .before .before .before .before .before .before .args in
+    (search needs, search needs, omega (arith, l .inv .2, rows-next (l .i) (a .n) (now (a .subs)) (omega arith)))
 
-returns : tie.Need-returns Inv-loop μ-loop
-returns c = let l = c .before .loop in
+returns-4 : tie.Need-returns-4 Inv-loop μ-loop
+returns-4 c = let l = c .before .loop in
     let a = c .before .before .before .args in
-    let b = l .inv .1 in
-    omega (arith, rows-none (l .i) (a .n) (now (a .subs)) (omega arith), l .inv .2)
+    omega (arith, l .inv .1, l .inv .2, rows-none (l .i) (a .n) (now (a .subs)) (omega arith))
 
 pub base-of-spec : {M : Type 1} → statement M
 base-of-spec =
@@ -61,11 +90,19 @@ base-of-spec =
     μ-loop
     end-of-requires
     loop-holds
-    mul-rows-of
-    shared-slice-copy-out-rows-of
-    rows-of-requires
-    sum-of-requires
+    mul-w
+    shared-slice-copy-out-w
+    array-read-inflight
+    array-read-held
+    add-result
+    returns
+    add-result-2
+    returns-2
+    add-base
+    add-base-2
+    add-result-3
+    returns-3
     add-i
     loop-less
     loop-again
-    returns)
+    returns-4)
