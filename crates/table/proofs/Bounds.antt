@@ -1,14 +1,14 @@
 -- What each definition says within its bounds, and outside them.
 -- Assumes nothing.
 use mathlib.Core.Path.{_≡_}
-use mathlib.Core.Bool.{Bool}
+use mathlib.Core.Bool.{Bool, false}
 use mathlib.Core.List.{List}
 use Prim.Native.Nat.{ℕ, _+_, _≤_, _<_}
 use lib.ListN.{length}
 use lib.Seq.{slice}
 use Rattle.definition.specs.Base.{tally}
 use Rattle.table.specs.declared.Found.the-variants.{Nothing}
-use Rattle.table.specs.Table.{Row, closed, closeGap, opened, insertRow, lifted, openGap, findFrom, findSeq, placeFrom, placeOf, countRows, mapped, mapRows, removed, removeRows, removedRows}
+use Rattle.table.specs.Table.{Row, closed, closeGap, opened, insertRow, lifted, openGap, findFrom, findSeq, holdsSeq, hasSeqIn, placeFrom, placeOf, countRows, mapped, mapRows, removed, removeRows, removedRows}
 use Rattle.table.proofs.Lists.{both-hold, first-fails, second-fails, three-hold, one-fails, two-fails, three-fails}
 
 module _ (at k n : ℕ) (rs : List Row) where
@@ -61,6 +61,18 @@ module _ (from to seq : ℕ) (rs : List Row) where
   pub find-high : length rs < to → findSeq from to seq rs ≡ Nothing
   unfolding findSeq
   find-high h = second-fails from to to (length rs) (findFrom from seq (slice from to rs)) Nothing h
+
+  pub has-in : from ≤ to → to ≤ length rs → hasSeqIn from to seq rs ≡ holdsSeq seq (slice from to rs)
+  unfolding hasSeqIn
+  has-in h b = both-hold from to to (length rs) (holdsSeq seq (slice from to rs)) false h b
+
+  pub has-low : to < from → hasSeqIn from to seq rs ≡ false
+  unfolding hasSeqIn
+  has-low h = first-fails from to to (length rs) (holdsSeq seq (slice from to rs)) false h
+
+  pub has-high : length rs < to → hasSeqIn from to seq rs ≡ false
+  unfolding hasSeqIn
+  has-high h = second-fails from to to (length rs) (holdsSeq seq (slice from to rs)) false h
 
   pub place-in : from ≤ to → to ≤ length rs → placeOf from to seq rs ≡ placeFrom from seq (slice from to rs)
   unfolding placeOf

@@ -1,15 +1,18 @@
 -- The loops of the table, a turn at a time: rows that move down or up, and a search.
 -- Assumes nothing.
 use mathlib.Core.Path.{_≡_, refl, sym, ap, ap₂, _∙_}
+use mathlib.Core.Bool.{Bool, true, false, _||_}
 use mathlib.Core.List.{List, [], _∷_, _++_, append-assoc}
 use Prim.Native.Nat.{ℕ, suc, _+_, _-_, _≤_, _<_}
 use native.Mathlib.Numerals.{add-one}
 use native.Mathlib.Omega.{arith}
-use borrow.Author.Tests.{eq-eqb, ne-eqb, le-leb, lt-leb}
+use borrow.Author.Tests.{eq-eqb, ne-eqb, le-leb, lt-leb, leb-false}
+use lib.Dec.{eqb, leb}
 use lib.ListN.{length, take, drop, getD, set, length-drop, take-append-drop, List·getD-append}
 use lib.Seq.{slice, slice-empty, slice-cons, length-take-le, length-slice, getD-take, take-length, take-take, take-add, drop-append-le, drop-drop}
+use Rattle.definition.proofs.Tests.{or-no-left, or-no-right}
 use Rattle.table.specs.declared.Found.the-variants.{At, Nothing}
-use Rattle.table.specs.Table.{Row, closed, lifted, opened, findFrom, placeFrom}
+use Rattle.table.specs.Table.{Row, closed, lifted, opened, findFrom, holdsSeq, placeFrom}
 use Rattle.table.proofs.Lists.{parts, slice-take, slice-snoc, set-front, written, written-none, written-at, written-more}
 
 -- ---- rows move down by k: i is where the next row stands, and j where it goes
@@ -144,9 +147,54 @@ module _ (rows : List Row) (i to seq : ℕ) (h : i < to) (k : to ≤ length rows
   unfolding placeFrom
   place-next e = rw (slice-cons i to rows [] h k, lt-leb _ _ e, add-one i) refl
 
+  -- the next place is j
+  module _ (j : ℕ) (q : j ≡ i + 1) where
+    pub holds-first : holdsSeq seq (slice i to rows) ≡ (eqb seq (getD (getD rows i []) 0 0) || holdsSeq seq (slice j to rows))
+    holds-first = rw (slice-cons i to rows [] h k, q, add-one i) refl
+
+    place-past : leb seq (getD (getD rows i []) 0 0) ≡ false → placeFrom i seq (slice i to rows) ≡ placeFrom j seq (slice j to rows)
+    place-past e = place-next (leb-false _ _ e) ∙ ap (λ (n : ℕ). placeFrom n seq (slice n to rows)) (sym q)
+
+-- four rows a turn
+module _ (rows : List Row) (i to seq : ℕ) (h : 4 ≤ to - i) (k : to ≤ length rows) where
+  abbrev number : ℕ → ℕ
+  number n = getD (getD rows n []) 0 0
+
+  regroup : (a b c d r : Bool) → (a || (b || (c || (d || r)))) ≡ ((a || (b || (c || d))) || r)
+  regroup true b c d r = refl
+  regroup false true c d r = refl
+  regroup false false true d r = refl
+  regroup false false false d r = refl
+
+  pub holds-four : (b : Bool) → (eqb seq (number i) || (eqb seq (number (i + 1)) || (eqb seq (number (i + 2)) || eqb seq (number (i + 3))))) ≡ b
+      → holdsSeq seq (slice i to rows) ≡ (b || holdsSeq seq (slice (i + 4) to rows))
+  holds-four b t =
+      holds-first rows i to seq (omega arith) k (i + 1) refl
+      ∙ ap (λ (y : Bool). eqb seq (number i) || y)
+      (holds-first rows (i + 1) to seq (omega arith) k (i + 2) (omega arith)
+      ∙ ap (λ (y : Bool). eqb seq (number (i + 1)) || y)
+      (holds-first rows (i + 2) to seq (omega arith) k (i + 3) (omega arith)
+      ∙ ap (λ (y : Bool). eqb seq (number (i + 2)) || y) (holds-first rows (i + 3) to seq (omega arith) k (i + 4) (omega arith))))
+      ∙ regroup (eqb seq (number i)) (eqb seq (number (i + 1))) (eqb seq (number (i + 2))) (eqb seq (number (i + 3))) (holdsSeq seq (slice (i + 4) to rows))
+      ∙ ap (λ (y : Bool). y || holdsSeq seq (slice (i + 4) to rows)) t
+
+  pub place-four : (leb seq (number i) || (leb seq (number (i + 1)) || (leb seq (number (i + 2)) || leb seq (number (i + 3))))) ≡ false
+      → placeFrom i seq (slice i to rows) ≡ placeFrom (i + 4) seq (slice (i + 4) to rows)
+  place-four t =
+      let p : ℕ → Bool = λ n. leb seq (number n) in
+      let u : (p (i + 1) || (p (i + 2) || p (i + 3))) ≡ false = or-no-right (p i) (p (i + 1) || (p (i + 2) || p (i + 3))) t in
+      let v : (p (i + 2) || p (i + 3)) ≡ false = or-no-right (p (i + 1)) (p (i + 2) || p (i + 3)) u in
+      place-past rows i to seq (omega arith) k (i + 1) refl (or-no-left (p i) (p (i + 1) || (p (i + 2) || p (i + 3))) t)
+      ∙ place-past rows (i + 1) to seq (omega arith) k (i + 2) (omega arith) (or-no-left (p (i + 1)) (p (i + 2) || p (i + 3)) u)
+      ∙ place-past rows (i + 2) to seq (omega arith) k (i + 3) (omega arith) (or-no-left (p (i + 2)) (p (i + 3)) v)
+      ∙ place-past rows (i + 3) to seq (omega arith) k (i + 4) (omega arith) (or-no-right (p (i + 2)) (p (i + 3)) v)
+
 pub find-none : (rows : List Row) (to seq : ℕ) → findFrom to seq (slice to to rows) ≡ Nothing
 unfolding findFrom
 find-none rows to seq = rw (slice-empty to rows) refl
+
+pub holds-none : (rows : List Row) (to seq : ℕ) → holdsSeq seq (slice to to rows) ≡ false
+holds-none rows to seq = rw (slice-empty to rows) refl
 
 pub place-none : (rows : List Row) (to seq : ℕ) → placeFrom to seq (slice to to rows) ≡ to
 unfolding placeFrom

@@ -1,6 +1,6 @@
 -- The table of rows: the used rows stand at the front, in one order. What each function of the table leaves, as lists of rows.
 -- Outside its bounds a function changes nothing. Assumes nothing.
-use mathlib.Core.Bool.{Bool, not, _&&_}
+use mathlib.Core.Bool.{Bool, false, not, _&&_}
 use mathlib.Core.List.{List, [], _∷_, _++_, map}
 use Prim.Native.Nat.{ℕ, suc, _+_, _-_}
 use lib.Dec.{leb, eqb}
@@ -8,7 +8,7 @@ use lib.ListN.{length, take, drop, getD, set}
 use lib.Seq.{slice}
 use Rattle.words.specs.Words.{unsigned, int}
 use Rattle.entry.specs.Entry.{oneMore}
-use Rattle.definition.specs.Base.{if_then_else_, keep, tally}
+use Rattle.definition.specs.Base.{if_then_else_, keep, tally, member}
 use Rattle.table.specs.declared.Found.{Found}
 use Rattle.table.specs.declared.Found.the-variants.{At, Nothing}
 use Rattle.table.specs.declared.Removed.{Removed}
@@ -53,6 +53,13 @@ findFrom i seq (r ∷ rs) = if eqb (getD r 0 0) seq then At i else findFrom (suc
 
 unfoldable pub findSeq : ℕ → ℕ → ℕ → List Row → Found
 findSeq from to seq rs = if inside from to (length rs) then findFrom from seq (slice from to rs) else Nothing
+
+-- whether one of the rows has that sequence number
+abbrev pub holdsSeq : ℕ → List Row → Bool
+holdsSeq seq rs = member seq (map (λ r. getD r 0 0) rs)
+
+unfoldable pub hasSeqIn : ℕ → ℕ → ℕ → List Row → Bool
+hasSeqIn from to seq rs = if inside from to (length rs) then holdsSeq seq (slice from to rs) else false
 
 -- the first of the rows whose sequence number is not below that one, or the end
 unfoldable pub placeFrom : ℕ → ℕ → List Row → ℕ

@@ -6,7 +6,7 @@ ghost use lib.Dec.{leb, eqb};
 ghost use lib.ListN.{length, getD};
 ghost use lib.Seq.{slice};
 ghost use Rattle.definition.specs.Base.{if_then_else_, tally};
-ghost use Rattle.table.specs.Table.{closed, closeGap, insertRow, lifted, openGap, findSeq, placeOf};
+ghost use Rattle.table.specs.Table.{closed, closeGap, insertRow, lifted, openGap, findSeq, hasSeqIn, placeFrom, placeOf};
 ghost use Rattle.table.specs.Table.{inRange, isFreed, hasSeq, countRows, mapRows, freedRow, markRow, raisedRow, redeliverRow, unmarkRow, flownRow};
 ghost use Rattle.table.specs.Table.{compacted, removeRows, removedRows, removedRange};
 use entry::DSEQ;
@@ -162,6 +162,25 @@ pub fn place_of(rows: &[Row], from: usize, to: usize, seq: u64) -> usize
         return to;
     }
     let mut i = from;
+    while 4 <= to - i {
+        let a = rows[i][0];
+        let b = rows[i + 1][0];
+        let c = rows[i + 2][0];
+        let d = rows[i + 3][0];
+        if (seq <= a) | ((seq <= b) | ((seq <= c) | (seq <= d))) {
+            return first_from(rows, i, to, seq);
+        }
+        i += 4;
+    }
+    first_from(rows, i, to, seq)
+}
+
+// The same, row by row.
+fn first_from(rows: &[Row], from: usize, to: usize, seq: u64) -> usize
+    requires { ⌜ (from ≤ to) × (to ≤ length (now rows)) ⌝ }
+    ensures { λ r. ⌜ r ≡ placeFrom from seq (slice from to (now (rows .entry))) ⌝ }
+{
+    let mut i = from;
     while i < to {
         if seq <= rows[i][0] {
             return i;
@@ -169,6 +188,36 @@ pub fn place_of(rows: &[Row], from: usize, to: usize, seq: u64) -> usize
         i += 1;
     }
     to
+}
+
+// Whether one of rows[from..to] has that sequence number.
+pub fn has_seq(rows: &[Row], from: usize, to: usize, seq: u64) -> bool
+    ensures { λ r. ⌜ r ≡ hasSeqIn from to seq (now (rows .entry)) ⌝ }
+{
+    if rows.len() < to {
+        return false;
+    }
+    if to < from {
+        return false;
+    }
+    let mut i = from;
+    while 4 <= to - i {
+        let a = rows[i][0];
+        let b = rows[i + 1][0];
+        let c = rows[i + 2][0];
+        let d = rows[i + 3][0];
+        if (seq == a) | ((seq == b) | ((seq == c) | (seq == d))) {
+            return true;
+        }
+        i += 4;
+    }
+    while i < to {
+        if seq == rows[i][0] {
+            return true;
+        }
+        i += 1;
+    }
+    false
 }
 
 // How many rows were removed, and how many of these were freed.
