@@ -132,7 +132,7 @@ distinct-next xs i n h k e m = distinct-turn xs i (omega arith) e ∙ ap not m
 -- ---- numbers that rise
 
 -- those above k do not meet what is not above it
-rising-new : (k x : ℕ) (l : List ℕ) → rising k l ≡ true → x ≤ k → member x l ≡ false
+pub rising-new : (k x : ℕ) (l : List ℕ) → rising k l ≡ true → x ≤ k → member x l ≡ false
 rising-new k x [] e h = refl
 rising-new k x (y ∷ l) e h =
     let t : k < y = ltb-true k y (and-left (ltb k y) (rising y l) e) in
@@ -160,35 +160,35 @@ module _ (xs : List ℕ) (i n k : ℕ) (h : n ≤ length xs) (total : Bool) (e :
 -- ---- the table of remainders
 
 -- the remainder of each number met is set
-pub Marked : List Bool → List ℕ → Type 0
-Marked slots l = (x : ℕ) → member x l ≡ true → getD slots (x % 1024) false ≡ true
+pub Marked : ℕ → List Bool → List ℕ → Type 0
+Marked m slots l = (x : ℕ) → member x l ≡ true → getD slots (x % m) false ≡ true
 
 -- the table where nothing was met
-pub marked-none : (slots : List Bool) (xs : List ℕ) → Marked slots (take 0 xs)
+pub marked-none : (m : ℕ) (slots : List Bool) (xs : List ℕ) → Marked m slots (take 0 xs)
 unfolding Marked
-marked-none slots xs x h = absurd (let z : _≡_ {A = ℕ} 0 1 = cc in omega arith)
+marked-none m slots xs x h = absurd (let z : _≡_ {A = ℕ} 0 1 = cc in omega arith)
 
 -- a number whose remainder is not set was not met
-pub marked-new : (slots : List Bool) (l : List ℕ) (x : ℕ) → Marked slots l → getD slots (x % 1024) false ≡ false → member x l ≡ false
+pub marked-new : (m : ℕ) (slots : List Bool) (l : List ℕ) (x : ℕ) → Marked m slots l → getD slots (x % m) false ≡ false → member x l ≡ false
 unfolding Marked
-marked-new slots l x m e = by-test (member x l)
-    (λ t. let u : getD slots (x % 1024) false ≡ true = m x t in absurd (let z : _≡_ {A = ℕ} 0 1 = cc in omega arith))
+marked-new m slots l x k e = by-test (member x l)
+    (λ t. let u : getD slots (x % m) false ≡ true = k x t in absurd (let z : _≡_ {A = ℕ} 0 1 = cc in omega arith))
     (λ t. t)
 
 -- one more number is met
-pub marked-more : (slots : List Bool) (xs : List ℕ) (i : ℕ) → length slots ≡ 1024 → i < length xs → Marked slots (take i xs)
-    → Marked (set slots (getD xs i 0 % 1024) true) (take (i + 1) xs)
+pub marked-more : (m : ℕ) → ((x : ℕ) → x % m < m) → (slots : List Bool) (xs : List ℕ) (i : ℕ) → length slots ≡ m → i < length xs → Marked m slots (take i xs)
+    → Marked m (set slots (getD xs i 0 % m) true) (take (i + 1) xs)
 unfolding Marked
-marked-more slots xs i n h m x t = by-test (eqb x (getD xs i 0))
+marked-more m below slots xs i n h k x t = by-test (eqb x (getD xs i 0))
     (λ e.
-    let f : x % 1024 ≡ getD xs i 0 % 1024 = ap (λ (k : ℕ). k % 1024) (eqb-true x (getD xs i 0) e) in
-    ap (λ (k : ℕ). getD (set slots (getD xs i 0 % 1024) true) k false) f
-    ∙ getD-set-same slots (getD xs i 0 % 1024) true false (rw n (omega arith)))
+    let f : x % m ≡ getD xs i 0 % m = ap (λ (j : ℕ). j % m) (eqb-true x (getD xs i 0) e) in
+    ap (λ (j : ℕ). getD (set slots (getD xs i 0 % m) true) j false) f
+    ∙ getD-set-same slots (getD xs i 0 % m) true false (rw n (below (getD xs i 0))))
     (λ e.
     let u : member x (take i xs) ≡ true =
     sym (ap (λ (j : ℕ). member x (take j xs)) (add-one i) ∙ ap (member x) (take-suc xs i 0 h) ∙ member-append x (take i xs) (getD xs i 0 ∷ [])
     ∙ ap (λ (b : Bool). member x (take i xs) || (b || false)) e ∙ or-false (member x (take i xs))) ∙ t in
-    kept slots (getD xs i 0 % 1024) (x % 1024) (m x u))
+    kept slots (getD xs i 0 % m) (x % m) (k x u))
   where
     kept : (l : List Bool) (j k : ℕ) → getD l k false ≡ true → getD (set l j true) k false ≡ true
     kept [] j k e = e

@@ -7,6 +7,9 @@ ghost use Rattle.definition.specs.Base.{member, distinct, rising};
 // Up to so many numbers are compared pair by pair: clearing the table would cost more.
 const FEW: usize = 8;
 
+// And up to so many with a smaller table.
+const SOME: usize = 64;
+
 // Whether x stands among the first n.
 fn met(xs: &[u64], n: usize, x: u64) -> bool
     requires { do ⌜ n ≤ (← ⟦xs.len()⟧) ⌝ }
@@ -58,6 +61,27 @@ fn many_distinct(xs: &[u64], n: usize) -> bool
     true
 }
 
+// The same for fewer numbers, with a smaller table.
+fn some_distinct(xs: &[u64], n: usize) -> bool
+    requires { do ⌜ n ≤ (← ⟦xs.len()⟧) ⌝ }
+    ensures { λ r. ⌜ r ≡ distinct (take n (now (xs .entry))) ⌝ }
+{
+    let mut marks = [false; 256];
+    let mut i = 0;
+    while i < n {
+        let x = xs[i];
+        let mark = (x % 256) as usize;
+        if marks[mark] {
+            if met(xs, i, x) {
+                return false;
+            }
+        }
+        marks[mark] = true;
+        i += 1;
+    }
+    true
+}
+
 // Whether each of the first n is above the one before, and the first above 0.
 fn rising(xs: &[u64], n: usize) -> bool
     requires { do ⌜ n ≤ (← ⟦xs.len()⟧) ⌝ }
@@ -89,6 +113,9 @@ pub fn distinct(xs: &[u64], n: usize) -> bool
     }
     if n <= FEW {
         return few_distinct(xs, n);
+    }
+    if n <= SOME {
+        return some_distinct(xs, n);
     }
     many_distinct(xs, n)
 }

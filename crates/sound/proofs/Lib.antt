@@ -1,5 +1,6 @@
 pub mod Tests
 pub mod Rows
+pub mod Rising
 pub mod Head
 pub mod Subs
 pub mod Gathered

@@ -1,12 +1,12 @@
 -- Rows: which tests of an entry hold by themselves for words, and the turns of the loops over rows. Assumes nothing.
 use mathlib.Core.Path.{_≡_, refl, sym, ap, ap₂, _∙_}
-use mathlib.Core.Bool.{Bool, true, false, _&&_, and-true, and-false}
+use mathlib.Core.Bool.{Bool, true, false, _&&_, and-true, and-false, false≢true}
 use mathlib.Core.List.{List, [], _∷_, _++_, map}
 use Prim.Native.Nat.{ℕ, suc, _+_, _-_, _%_, _≤_, _<_, _^_}
 use native.Mathlib.Nat.{add-assoc, add-zero}
 use native.Mathlib.Numerals.{add-one}
 use native.Mathlib.Omega.{arith}
-use borrow.Author.Tests.{ltb-false, leb-true, lt-ltb, le-leb, lt-leb}
+use borrow.Author.Tests.{ltb-true, ltb-false, leb-true, lt-ltb, le-leb, lt-leb}
 use lib.Dec.{leb, ltb, eqb}
 use lib.ListN.{length, getD, drop}
 use lib.Seq.{slice, getD-drop}
@@ -44,6 +44,10 @@ unfolding entryOf entryStrict
 row-tests w h k =
     rw (signed-within (at 1 w), lt-ltb (at 3 w) (2 ^ 64) h, lt-ltb (at 4 w) (2 ^ 64) k, int-within (at 5 w), and-true (ltb (at 0 w) (2 ^ 63)))
 
+seq-above : (w : Row) → rowOk w ≡ true → 0 + 1 ≤ at 0 w
+unfolding entryOf
+seq-above w e = by-test (leb 1 (at 0 w)) (λ t. leb-true 1 (at 0 w) t) (λ t. absurd (false≢true (rw t at e)))
+
 -- ---- one row more
 
 upward-le : (k : ℕ) (l : List ℕ) (n : ℕ) → upward k (l ++ n ∷ []) ≡ true → k ≤ n
@@ -55,6 +59,52 @@ sorted-cons : (least : ℕ) (w : Row) (l : List Row) → sortedOk least (w ∷ l
 unfolding sortedOk
 sorted-cons least w l =
     rw add-one (swap-inner (rowOk w) (all rowOk l) (leb least (at 0 w)) (upward (suc (at 0 w)) (map (at 0) l)))
+
+-- what is left of rows that rise, after one with the number last: the last of all is in range
+abbrev pub climbs : ℕ → List Row → Bool
+climbs last l = sortedOk (last + 1) l && ltb last (2 ^ 63)
+
+abbrev pub follows : ℕ → Row → Bool
+follows last w = ltb last (at 0 w) && entryStrict w
+
+abbrev pub RowForm : Row → Type 0
+RowForm w = rowOk w ≡ ((leb 1 (at 0 w) && ltb (at 0 w) (2 ^ 63)) && entryStrict w)
+
+pub climb-first : (l : List Row) → climbs 0 l ≡ sortedOk 0 l
+unfolding sortedOk
+climb-first l = ap (λ (t : Bool). sortedOk (0 + 1) l && t) (lt-ltb 0 (2 ^ 63) (omega arith)) ∙ and-true (sortedOk (0 + 1) l) ∙ above-zero l
+  where
+    above-zero : (m : List Row) → sortedOk (0 + 1) m ≡ sortedOk 0 m
+    above-zero [] = refl
+    above-zero (w ∷ m) =
+        sorted-cons (0 + 1) w m
+        ∙ ap (λ (t : Bool). t && sortedOk (at 0 w + 1) m) (by-test (rowOk w) (λ t. ap (λ (u : Bool). rowOk w && u) (le-leb (0 + 1) (at 0 w) (seq-above w t) ∙ sym (le-leb 0 (at 0 w) (omega arith)))) (λ t. rw t))
+        ∙ sym (sorted-cons 0 w m)
+
+pub climb-cons : (last : ℕ) (w : Row) (l : List Row) → RowForm w → climbs last (w ∷ l) ≡ (follows last w && climbs (at 0 w) l)
+climb-cons last w l f =
+    let s : ℕ = at 0 w in
+    let r : Bool = sortedOk (s + 1) l in
+    ap (λ (t : Bool). t && ltb last (2 ^ 63)) (sorted-cons (last + 1) w l ∙ ap (λ (t : Bool). (t && leb (last + 1) s) && r) f)
+    ∙ by-test (ltb last s)
+    (λ t.
+    let h : last < s = ltb-true last s t in
+    ap₂ (λ (x y : Bool). ((((x && ltb s (2 ^ 63)) && entryStrict w) && y) && r) && ltb last (2 ^ 63)) (le-leb 1 s (omega arith)) (le-leb (last + 1) s (omega arith))
+    ∙ mix (entryStrict w) r (ltb s (2 ^ 63)) (ltb last (2 ^ 63)) (λ u. lt-ltb last (2 ^ 63) (omega (arith, ltb-true s (2 ^ 63) u)))
+    ∙ sym (ap (λ (x : Bool). (x && entryStrict w) && (r && ltb s (2 ^ 63))) t))
+    (λ t.
+    let h : s ≤ last = ltb-false last s t in
+    ap (λ (y : Bool). ((((leb 1 s && ltb s (2 ^ 63)) && entryStrict w) && y) && r) && ltb last (2 ^ 63)) (lt-leb (last + 1) s (omega arith))
+    ∙ ap (λ (y : Bool). (y && r) && ltb last (2 ^ 63)) (and-false ((leb 1 s && ltb s (2 ^ 63)) && entryStrict w))
+    ∙ sym (ap (λ (x : Bool). (x && entryStrict w) && (r && ltb s (2 ^ 63))) t))
+  where
+    mix : (e r b c : Bool) → (b ≡ true → c ≡ true) → ((((b && e) && true) && r) && c) ≡ (e && (r && b))
+    mix true true true c g = g refl
+    mix true false true c g = refl
+    mix false r true c g = refl
+    mix true true false c g = refl
+    mix true false false c g = refl
+    mix false r false c g = refl
 
 flying-cons : (least count next freed : ℕ) (w : Row) (l : List Row)
     → flyingOk least count next freed (w ∷ l) ≡ ((flightOk w && leb least (at 6 w)) && flyingOk (at 6 w + 1) (count + boolByte (flag (at 7 w))) next freed l)
@@ -87,22 +137,19 @@ flying-le least count next freed l t =
 -- ---- the loops
 
 module _ (rows : List Row) (i to : ℕ) (k : to ≤ length rows) (total : Bool) where
-  module _ (least : ℕ) (e : sortedOk least (slice i to rows) ≡ total) where
-    sorted-turn : i < to → ((rowOk (getD rows i []) && leb least (at 0 (getD rows i []))) && sortedOk (at 0 (getD rows i []) + 1) (slice (i + 1) to rows)) ≡ total
-    sorted-turn h = sym (ap (sortedOk least) (part-turn rows i to [] h k) ∙ sorted-cons least (getD rows i []) (slice (i + 1) to rows)) ∙ e
+  module _ (last : ℕ) (e : climbs last (slice i to rows) ≡ total) where
+    climb-turn : i < to → RowForm (getD rows i []) → (follows last (getD rows i []) && climbs (at 0 (getD rows i [])) (slice (i + 1) to rows)) ≡ total
+    climb-turn h f = sym (ap (climbs last) (part-turn rows i to [] h k) ∙ climb-cons last (getD rows i []) (slice (i + 1) to rows) f) ∙ e
 
-    pub sorted-bad : i < to → rowOk (getD rows i []) ≡ false → false ≡ total
-    sorted-bad h q = rw q at (sorted-turn h)
+    pub climb-stop : i < to → RowForm (getD rows i []) → follows last (getD rows i []) ≡ false → false ≡ total
+    climb-stop h f q = sym (ap (λ (t : Bool). t && climbs (at 0 (getD rows i [])) (slice (i + 1) to rows)) q) ∙ climb-turn h f
 
-    pub sorted-low : i < to → at 0 (getD rows i []) < least → false ≡ total
-    sorted-low h q = rw (lt-leb least (at 0 (getD rows i [])) q, and-false (rowOk (getD rows i []))) at (sorted-turn h)
+    pub climb-next : i < to → RowForm (getD rows i []) → follows last (getD rows i []) ≡ true → climbs (at 0 (getD rows i [])) (slice (i + 1) to rows) ≡ total
+    climb-next h f q = sym (ap (λ (t : Bool). t && climbs (at 0 (getD rows i [])) (slice (i + 1) to rows)) q) ∙ climb-turn h f
 
-    pub sorted-next : i < to → rowOk (getD rows i []) ≡ true → least ≤ at 0 (getD rows i []) → sortedOk (at 0 (getD rows i []) + 1) (slice (i + 1) to rows) ≡ total
-    sorted-next h q b = rw (q, le-leb least (at 0 (getD rows i [])) b) at (sorted-turn h)
-
-    pub sorted-end : i ≡ to → true ≡ total
+    pub climb-end : i ≡ to → ltb last (2 ^ 63) ≡ total
     unfolding sortedOk
-    sorted-end q = sym (ap (sortedOk least) (part-end rows i to q)) ∙ e
+    climb-end q = sym (ap (climbs last) (part-end rows i to q)) ∙ e
 
   module _ (least count next freed : ℕ) (e : flyingOk least count next freed (slice i to rows) ≡ total) where
     flying-turn : i < to
@@ -134,3 +181,38 @@ module _ (rows : List Row) (i to : ℕ) (k : to ≤ length rows) (total : Bool) 
     flying-end q b =
         sym (ap (flyingOk least count next freed) (part-end rows i to q)
         ∙ ap₂ (λ (s : Bool) (n : ℕ). (s && true) && eqb freed n) (le-leb least next b) (add-zero count)) ∙ e
+
+-- four rows a turn
+module _ (rows : List Row) (i to : ℕ) (k : to ≤ length rows) (total : Bool) (last : ℕ) (e : climbs last (slice i to rows) ≡ total) (h : i + 4 ≤ to)
+    (f0 : RowForm (getD rows i [])) (f1 : RowForm (getD rows (i + 1) [])) (f2 : RowForm (getD rows (i + 2) [])) (f3 : RowForm (getD rows (i + 3) [])) where
+  abbrev fourFollow : Bool
+  fourFollow =
+      (follows last (getD rows i []) && follows (at 0 (getD rows i [])) (getD rows (i + 1) []))
+      && (follows (at 0 (getD rows (i + 1) [])) (getD rows (i + 2) []) && follows (at 0 (getD rows (i + 2) [])) (getD rows (i + 3) []))
+
+  four-turn : (fourFollow && climbs (at 0 (getD rows (i + 3) [])) (slice (i + 4) to rows)) ≡ total
+  four-turn =
+      sym (step i (i + 1) last refl (omega arith) f0
+      ∙ ap (λ (t : Bool). follows last (getD rows i []) && t) (step (i + 1) (i + 2) (at 0 (getD rows i [])) (omega arith) (omega arith) f1
+      ∙ ap (λ (t : Bool). follows (at 0 (getD rows i [])) (getD rows (i + 1) []) && t) (step (i + 2) (i + 3) (at 0 (getD rows (i + 1) [])) (omega arith) (omega arith) f2
+      ∙ ap (λ (t : Bool). follows (at 0 (getD rows (i + 1) [])) (getD rows (i + 2) []) && t) (step (i + 3) (i + 4) (at 0 (getD rows (i + 2) [])) (omega arith) (omega arith) f3)))
+      ∙ group (follows last (getD rows i [])) (follows (at 0 (getD rows i [])) (getD rows (i + 1) [])) (follows (at 0 (getD rows (i + 1) [])) (getD rows (i + 2) []))
+      (follows (at 0 (getD rows (i + 2) [])) (getD rows (i + 3) [])) (climbs (at 0 (getD rows (i + 3) [])) (slice (i + 4) to rows)))
+      ∙ e
+    where
+      step : (j m l : ℕ) → j + 1 ≡ m → j < to → RowForm (getD rows j []) → climbs l (slice j to rows) ≡ (follows l (getD rows j []) && climbs (at 0 (getD rows j [])) (slice m to rows))
+      step j m l q b f =
+          ap (climbs l) (part-turn rows j to [] b k) ∙ climb-cons l (getD rows j []) (slice (j + 1) to rows) f
+          ∙ ap (λ (n : ℕ). follows l (getD rows j []) && climbs (at 0 (getD rows j [])) (slice n to rows)) q
+
+      group : (a b c d r : Bool) → (a && (b && (c && (d && r)))) ≡ (((a && b) && (c && d)) && r)
+      group true true true d r = refl
+      group true true false d r = refl
+      group true false c d r = refl
+      group false b c d r = refl
+
+  pub four-stop : fourFollow ≡ false → false ≡ total
+  four-stop q = sym (ap (λ (t : Bool). t && climbs (at 0 (getD rows (i + 3) [])) (slice (i + 4) to rows)) q) ∙ four-turn
+
+  pub four-next : fourFollow ≡ true → climbs (at 0 (getD rows (i + 3) [])) (slice (i + 4) to rows) ≡ total
+  four-next q = sym (ap (λ (t : Bool). t && climbs (at 0 (getD rows (i + 3) [])) (slice (i + 4) to rows)) q) ∙ four-turn

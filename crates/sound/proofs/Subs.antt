@@ -27,7 +27,7 @@ use mathlib.Core.List.{append-nil}
 use Rattle.definition.proofs.Tests.{and-left, and-right, and-both}
 use Rattle.definition.proofs.Thin.{every-all, all-every}
 use Rattle.distinct.proofs.Laws.{iff}
-use Rattle.sound.specs.Sound.{upward, rowOk, flightOk, flyingOk, sortedOk, wordTests, heldOk, ownTests, ownSound, ownOk, kindBy, idsApart, rowsUpTo}
+use Rattle.sound.specs.Sound.{upward, rowOk, flightOk, flyingOk, sortedOk, wordTests, heldOk, ownTests, ownSound, ownOk, eachOk, kindBy, idsApart, seqsAt, heldSeqs, heldRise, rowsUpTo}
 use Rattle.sound.proofs.Tests.{swap-inner, part-turn, part-end, part-of, empty-take}
 
 -- ---- rows
@@ -84,6 +84,10 @@ flying-means next freed f =
 pub sorted-means : (l : List Row) → sortedOk 0 l ≡ ((all entryOk (map entryOf l) && all entryStrict l) && ascending (seqs (map entryOf l)))
 unfolding sortedOk
 sorted-means l = ap₂ _&&_ (rows-ok l) (upward-ascends (map (at 0) l) ∙ ap ascending (seqs-rows l))
+
+pub sorted-rises : (l : List Row) → sortedOk 0 l ≡ true → ascending (seqsAt l) ≡ true
+unfolding sortedOk
+sorted-rises l e = sym (upward-ascends (seqsAt l)) ∙ and-right (all rowOk l) (upward 0 (seqsAt l)) e
 
 pub all-append : {A : Type 0} (p : A → Bool) (a b : List A) → all p (a ++ b) ≡ (all p a && all p b)
 all-append p [] b = refl
@@ -332,7 +336,7 @@ module _ (subs : List Row) (i n : ℕ) (b : n ≤ length subs) where
     abbrev pub here : A
     here = let w = getD subs i [] in of w (take (at 14 w) (drop base rows)) (take (at 15 w) (drop (at 14 w) (drop base rows)))
 
-    walk-turn : i < n → (p here && all p (eachSub of (slice (i + 1) n subs) (drop (base + (at 14 (getD subs i []) + at 15 (getD subs i []))) rows))) ≡ total
+    pub walk-turn : i < n → (p here && all p (eachSub of (slice (i + 1) n subs) (drop (base + (at 14 (getD subs i []) + at 15 (getD subs i []))) rows))) ≡ total
     unfolding eachSub
     walk-turn h =
         let w = getD subs i [] in
@@ -363,6 +367,23 @@ module _ (subs : List Row) (i n : ℕ) (b : n ≤ length subs) where
 
     pub ids-end : i ≡ n → true ≡ total
     ids-end q = sym (ap idsApart (part-end subs i n q)) ∙ e
+
+-- where each consumer is sound, what it holds on a topic rises
+pub held-rise : (q : Bool) (most : ℕ) (ws rows : List Row) → eachOk (kindBy q) most ws rows ≡ true → all (heldRise q) (eachSub heldSeqs ws rows) ≡ true
+unfolding eachSub ownSound subAt
+held-rise q most [] rows e = refl
+held-rise q most (w ∷ ws) rows e =
+    let f : List Row = take (at 14 w) rows in
+    let h : List Row = take (at 15 w) (drop (at 14 w) rows) in
+    let rest : List Row = drop (at 15 w) (drop (at 14 w) rows) in
+    let own : Bool = ownOk (kindBy q) most w f h in
+    and-both (heldRise q (seqsAt h)) (all (heldRise q) (eachSub heldSeqs ws rest))
+    (here-rises q f h (and-left own (eachOk (kindBy q) most ws rest) e)) (held-rise q most ws rest (and-right own (eachOk (kindBy q) most ws rest) e))
+  where
+    here-rises : (b : Bool) (f h : List Row) → ownOk (kindBy b) most w f h ≡ true → heldRise b (seqsAt h) ≡ true
+    here-rises true f h t = refl
+    here-rises false f h t =
+        ap ascending (seqs-rows h) ∙ every-all (ownTests topic most (subAt topic w f h)) (and-left (ownSound topic most (subAt topic w f h)) (subStrict w f h) t) .1 .1 .1 .1 .1 .1 .1 .0
 
 pub rows-in : (n : ℕ) → n ≤ 512 → n ≡ rowsUpTo n
 rows-in n h = rw (le-leb n 512 h)

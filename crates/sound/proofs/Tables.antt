@@ -1,23 +1,22 @@
 -- The tests of the tables put together as the code makes them. Assumes nothing.
 use mathlib.Core.Path.{_≡_, refl, sym, ap, ap₂, _∙_}
-use mathlib.Core.Bool.{Bool, true, false, not, _&&_, _||_, and-false, true≢false}
-use mathlib.Core.List.{List, [], _∷_, _++_, append-assoc}
-use Prim.Native.Nat.{ℕ, suc, _+_, _≤_, _<_, _^_}
+use mathlib.Core.Bool.{Bool, true, false, not, _&&_, _||_, and-true, and-false, true≢false}
+use mathlib.Core.List.{List, [], _∷_, _++_}
+use Prim.Native.Nat.{ℕ, _+_, _≤_, _<_, _^_}
 use native.Mathlib.Nat.{zero-add}
 use native.Mathlib.Omega.{arith}
-use borrow.Author.Tests.{leb-true, leb-false, ltb-true, ltb-false, le-leb, lt-leb, lt-ltb, ne-eqb}
+use borrow.Author.Tests.{leb-true, leb-false, ltb-false, le-leb, lt-leb}
 use lib.Dec.{leb, ltb, eqb}
-use lib.ListN.{length, take, drop, getD}
+use lib.ListN.{length, take, drop}
 use lib.Seq.{slice}
 use Rattle.words.proofs.Tests.{by-test}
-use Rattle.definition.specs.Base.{all, member, distinct}
+use Rattle.definition.specs.Base.{all, every, distinct}
 use Rattle.definition.specs.Calls.{bound, countersOk, stateShort}
 use Rattle.definition.specs.Words.{at}
 use Rattle.definition.specs.Layout.{Row, Buffers, statsAt, subsAt, subRows, usedSubs, usedRows, ringsFormed, lengthsOf}
 use Rattle.definition.proofs.Tests.{and-left, and-right}
-use Rattle.distinct.proofs.Laws.{member-append}
-use Rattle.sound.specs.Sound.{upward, seqsAt, limitsOk, countsOk, marksOk, headOk, rowOk, holderOk, sortedOk, eachOk, kindBy, idsApart, apartBy, rowsUpTo, emptyBy, reservedAt, waitingAt, queueSeqs, queueApart, tablesOk, restOk}
-use Rattle.sound.proofs.Tests.{part-of, part-turn}
+use Rattle.sound.specs.Sound.{limitsOk, countsOk, marksOk, headOk, rowOk, holderOk, sortedOk, eachOk, kindBy, idsApart, apartBy, rowsUpTo, emptyBy, reservedAt, waitingAt, queueSeqs, queueApart, tablesOk, restOk}
+use Rattle.sound.proofs.Tests.{part-of}
 use Rattle.sound.proofs.Head.{limits-used}
 use Rattle.sound.proofs.Subs.{rows-in, rows-over}
 
@@ -27,73 +26,20 @@ use Rattle.sound.proofs.Subs.{rows-in, rows-over}
 pub gathered-two : (o p q a b : List ℕ) (m end : ℕ) → take (0 + m) p ≡ take 0 o ++ a → take end q ≡ take m p ++ b → take end q ≡ a ++ b
 gathered-two o p q a b m end e f = f ∙ ap (λ (l : List ℕ). l ++ b) (ap (λ (k : ℕ). take k p) (sym (zero-add m)) ∙ e)
 
--- and three
-pub gathered : (o p q r a b c : List ℕ) (m n end : ℕ) → take (0 + m) p ≡ take 0 o ++ a → take (m + n) q ≡ take m p ++ b → take end r ≡ take (m + n) q ++ c
-    → take end r ≡ a ++ (b ++ c)
-gathered o p q r a b c m n end e f g = g ∙ ap (λ (l : List ℕ). l ++ c) (gathered-two o p q a b m (m + n) e f) ∙ append-assoc a b c
-
--- numbers that rise from k do not meet one below it
-upward-new : (k x : ℕ) (l : List ℕ) → upward k l ≡ true → x < k → member x l ≡ false
-upward-new k x [] e h = refl
-upward-new k x (y ∷ l) e h =
-    let t : k ≤ y = leb-true k y (and-left (leb k y) (upward (suc y) l) e) in
-    rw (ne-eqb x y (λ q. omega (arith, q))) (upward-new (suc y) x l (and-right (leb k y) (upward (suc y) l) e) (omega arith))
-
--- numbers below k do not meet one from k on
-below-new : (k x : ℕ) (l : List ℕ) → all (λ y. ltb y k) l ≡ true → k ≤ x → member x l ≡ false
-below-new k x [] e h = refl
-below-new k x (y ∷ l) e h =
-    let t : y < k = ltb-true y k (and-left (ltb y k) (all (λ z. ltb z k) l) e) in
-    rw (ne-eqb x y (λ q. omega (arith, q))) (below-new k x l (and-right (ltb y k) (all (λ z. ltb z k) l) e) h)
-
-below-more : (k m : ℕ) (l : List ℕ) → all (λ y. ltb y k) l ≡ true → k ≤ m → all (λ y. ltb y m) l ≡ true
-below-more k m [] e h = refl
-below-more k m (y ∷ l) e h =
-    let t : y < k = ltb-true y k (and-left (ltb y k) (all (λ z. ltb z k) l) e) in
-    ap₂ _&&_ (lt-ltb y m (omega arith)) (below-more k m l (and-right (ltb y k) (all (λ z. ltb z k) l) e) h)
-
--- so only the others need be compared
-upward-front : (k : ℕ) (l others : List ℕ) → upward k l ≡ true → all (λ y. ltb y k) others ≡ true → distinct (l ++ others) ≡ distinct others
-upward-front k [] others e b = refl
-upward-front k (x ∷ l) others e b =
-    let t : k ≤ x = leb-true k x (and-left (leb k x) (upward (suc x) l) e) in
-    let u : upward (suc x) l ≡ true = and-right (leb k x) (upward (suc x) l) e in
-    let m : member x (l ++ others) ≡ false = member-append x l others ∙ ap₂ _||_ (upward-new (suc x) x l u (omega arith)) (below-new k x others b t) in
-    rw m (upward-front (suc x) l others u (below-more k (suc x) others b (omega arith)))
-
-pub none-waits : (others reserved waiting : ℕ) (rows : List Row) (l : List ℕ) → waiting ≡ 0 → distinct (seqsAt (waitingAt others reserved waiting rows) ++ l) ≡ distinct l
-none-waits others reserved waiting rows l e = ap (λ (n : ℕ). distinct (seqsAt (waitingAt others reserved n rows) ++ l)) e
-
-pub waiting-front : (others reserved waiting : ℕ) (rows : List Row) (l : List ℕ) → others + (reserved + waiting) ≤ length rows → 0 < waiting
-    → sortedOk 0 (slice (others + reserved) (others + reserved + waiting) rows) ≡ true → all (λ y. ltb y (at 0 (getD rows (others + reserved) []))) l ≡ true
-    → distinct (seqsAt (waitingAt others reserved waiting rows) ++ l) ≡ distinct l
-unfolding sortedOk
-waiting-front others reserved waiting rows l b h s t =
-    let f : ℕ = others + reserved in
-    let w : Row = getD rows f [] in
-    let rest : List Row = slice (f + 1) (f + waiting) rows in
-    let c : slice f (f + waiting) rows ≡ w ∷ rest = part-turn rows f (f + waiting) [] (omega arith) (omega arith) in
-    let e : waitingAt others reserved waiting rows ≡ w ∷ rest = sym (part-of rows f waiting (omega arith)) ∙ c in
-    let u : upward 0 (seqsAt (w ∷ rest)) ≡ true = and-right (all rowOk (w ∷ rest)) (upward 0 (seqsAt (w ∷ rest))) (sym (ap (sortedOk 0) c) ∙ s) in
-    let v : upward (suc (at 0 w)) (seqsAt rest) ≡ true = and-right (leb 0 (at 0 w)) (upward (suc (at 0 w)) (seqsAt rest)) u in
-    let z : upward (at 0 w) (seqsAt (w ∷ rest)) ≡ true = ap₂ _&&_ (le-leb (at 0 w) (at 0 w) (omega arith)) v in
-    ap (λ (x : List Row). distinct (seqsAt x ++ l)) e ∙ upward-front (at 0 w) (seqsAt (w ∷ rest)) l z t
-
 module _ (others reserved waiting : ℕ) (subs rows : List Row) where
-  pub queue-stop : (q : Bool) → q ≡ true → distinct (queueSeqs others reserved waiting subs rows) ≡ false
+  pub subs-stop : (q : Bool) → all (apartBy (kindBy q)) (subsAt (kindBy q) subs rows) ≡ false
       → false ≡ (queueApart (kindBy q) others reserved waiting subs rows && all (apartBy (kindBy q)) (subsAt (kindBy q) subs rows))
-  queue-stop true e f = sym (ap (λ (t : Bool). t && all (apartBy (kindBy true)) (subsAt (kindBy true) subs rows)) f)
-  queue-stop false e f = absurd (true≢false (sym e))
+  subs-stop q f = sym (ap (λ (t : Bool). queueApart (kindBy q) others reserved waiting subs rows && t) f ∙ and-false (queueApart (kindBy q) others reserved waiting subs rows))
 
-  pub queue-next : (q : Bool) → q ≡ true → distinct (queueSeqs others reserved waiting subs rows) ≡ true
-      → all (apartBy (kindBy q)) (subsAt (kindBy q) subs rows) ≡ (queueApart (kindBy q) others reserved waiting subs rows && all (apartBy (kindBy q)) (subsAt (kindBy q) subs rows))
-  queue-next true e f = sym (ap (λ (t : Bool). t && all (apartBy (kindBy true)) (subsAt (kindBy true) subs rows)) f)
-  queue-next false e f = absurd (true≢false (sym e))
+  pub queue-last : (q : Bool) → q ≡ true → all (apartBy (kindBy q)) (subsAt (kindBy q) subs rows) ≡ true
+      → distinct (queueSeqs others reserved waiting subs rows) ≡ (queueApart (kindBy q) others reserved waiting subs rows && all (apartBy (kindBy q)) (subsAt (kindBy q) subs rows))
+  queue-last true e f = sym (ap (λ (t : Bool). distinct (queueSeqs others reserved waiting subs rows) && t) f ∙ and-true (distinct (queueSeqs others reserved waiting subs rows)))
+  queue-last false e f = absurd (true≢false (sym e))
 
-  pub topic-next : (q : Bool) → q ≡ false
-      → all (apartBy (kindBy q)) (subsAt (kindBy q) subs rows) ≡ (queueApart (kindBy q) others reserved waiting subs rows && all (apartBy (kindBy q)) (subsAt (kindBy q) subs rows))
-  topic-next true e = absurd (true≢false e)
-  topic-next false e = refl
+  pub topic-last : (q : Bool) → q ≡ false → all (apartBy (kindBy q)) (subsAt (kindBy q) subs rows) ≡ true
+      → true ≡ (queueApart (kindBy q) others reserved waiting subs rows && all (apartBy (kindBy q)) (subsAt (kindBy q) subs rows))
+  topic-last true e f = absurd (true≢false e)
+  topic-last false e f = sym f
 
 -- ---- all tests of the tables
 
@@ -137,6 +83,19 @@ module _ (q : Bool) (most others reserved waiting : ℕ) (subs rows : List Row) 
       stop : (a b c d : Bool) → (a && (b && (c && (d && false)))) ≡ false
       stop a b c d =
           ap (λ (x : Bool). a && (b && (c && x))) (and-false d) ∙ ap (λ (x : Bool). a && (b && x)) (and-false c) ∙ ap (λ (x : Bool). a && x) (and-false b) ∙ and-false a
+
+  -- nor where a consumer is not sound
+  pub table-unfit : false ≡ eachOk (kindBy q) most subs rows → false ≡ tablesOk (kindBy q) most others reserved waiting subs rows
+  unfolding tablesOk
+  table-unfit e =
+      let place : Bool = emptyBy (kindBy q) (reserved + waiting) in
+      sym (ap (λ (t : Bool). place
+      && (t
+      && every (idsApart subs
+      ∷ (all rowOk (reservedAt others reserved rows) && all holderOk (reservedAt others reserved rows))
+      ∷ sortedOk 0 (waitingAt others reserved waiting rows)
+      ∷ (queueApart (kindBy q) others reserved waiting subs rows && all (apartBy (kindBy q)) (subsAt (kindBy q) subs rows))
+      ∷ []))) (sym e) ∙ and-false place)
 
 -- ---- the rest
 

@@ -1,6 +1,7 @@
 -- The tests of a sound state one by one, on the words of lent buffers, as the code makes them. What `sound` ensures is said by the
 -- definitions alone. Assumes nothing.
-use Prim.Native.Nat.{ℕ, suc, _+_, _^_}
+use mathlib.Core.Path.{_≡_}
+use Prim.Native.Nat.{ℕ, suc, _+_, _^_, _≤_}
 use mathlib.Core.Bool.{Bool, true, false, not, _&&_, _||_}
 use mathlib.Core.List.{List, [], _∷_, _++_, map}
 use lib.Dec.{leb, ltb, eqb}
@@ -8,7 +9,7 @@ use lib.ListN.{take, drop}
 use Rattle.words.specs.Pick.{if_then_else_}
 use Rattle.entry.specs.Entry.{entryOf}
 use Rattle.model.specs.Model.{sameId}
-use Rattle.definition.specs.Base.{all, every, tally, distinct, ascending}
+use Rattle.definition.specs.Base.{all, every, tally, member, distinct, ascending}
 use Rattle.definition.specs.Types.{Kind, queue, topic, Sub}
 use Rattle.definition.specs.Consumer.{isBrowser}
 use Rattle.definition.specs.Calls.{idOk, entryOk, optional, bound, seqs, rowsOf, subPlaced, taken, countersOk}
@@ -115,6 +116,17 @@ idsApart (w ∷ ws) = all (λ v. not (sameId (idAt v) (idAt w))) ws && idsApart 
 
 abbrev pub seqsAt : List Row → List ℕ
 seqsAt l = map (at 0) l
+
+-- what a consumer holds, and that on a topic it rises
+abbrev pub heldSeqs : Row → List Row → List Row → List ℕ
+heldSeqs w flying held = seqsAt held
+
+abbrev pub heldRise : Bool → List ℕ → Bool
+heldRise q l = q || ascending l
+
+-- from x on, the same numbers stand in both
+abbrev pub SameFrom : ℕ → List ℕ → List ℕ → Type 0
+SameFrom x l m = (y : ℕ) → x ≤ y → member y l ≡ member y m
 
 -- a consumer of a queue that is no browser has no rows but those that are looked at with all of the queue's
 abbrev pub apartBy : Kind → Sub → Bool

@@ -3,19 +3,19 @@ use audit::Audit;
 use entry::Row;
 ghost use mathlib.Core.Path.{_≡_};
 ghost use mathlib.Core.Bool.{true, false, not, _&&_, _||_};
-ghost use mathlib.Core.List.{_++_};
+ghost use mathlib.Core.List.{[], _++_};
 ghost use Prim.Native.Nat.{_+_, _*_, _-_, _≤_, _<_, _^_};
-ghost use lib.Dec.{ltb};
-ghost use lib.ListN.{take, drop};
+ghost use lib.Dec.{leb, ltb, eqb};
+ghost use lib.ListN.{take, drop, getD};
 ghost use lib.Seq.{slice};
 ghost use Rattle.words.specs.Pick.{if_then_else_};
 ghost use Rattle.model.specs.Model.{idOf, sameId};
-ghost use Rattle.definition.specs.Base.{all, every, distinct};
+ghost use Rattle.definition.specs.Base.{all, every, member, distinct, rising, ascending};
 ghost use Rattle.definition.specs.Types.{queue};
 ghost use Rattle.definition.specs.Calls.{idOk, countersOk, seqs, taken, stateShort};
 ghost use Rattle.definition.specs.Words.{at};
-ghost use Rattle.definition.specs.Layout.{flag, idAt, statsAt, subsAt, subRows, ringsFormed, wordsStrict, soundBuffers, lengthsOf};
-ghost use Rattle.sound.specs.Sound.{limitsOk, countsOk, marksOk, headOk, rowOk, flightOk, holderOk, flyingOk, sortedOk, wordTests, ownOk, eachOk, kindBy, idsApart, seqsAt, apartBy, rowsUpTo, queueSeqs, queueApart, tablesOk, lent, restOk};
+ghost use Rattle.definition.specs.Layout.{flag, idAt, statsAt, eachSub, subsAt, subRows, ringsFormed, entryStrict, wordsStrict, soundBuffers, lengthsOf};
+ghost use Rattle.sound.specs.Sound.{limitsOk, countsOk, marksOk, headOk, rowOk, flightOk, holderOk, flyingOk, sortedOk, wordTests, ownOk, eachOk, kindBy, idsApart, seqsAt, heldSeqs, heldRise, SameFrom, apartBy, rowsUpTo, queueSeqs, queueApart, tablesOk, lent, restOk};
 
 type SubRow = [u64; 16];
 
@@ -138,27 +138,46 @@ fn entries_ok(rows: &[Row], from: usize, to: usize) -> bool
     true
 }
 
-// rows[from..to] by rising sequence number.
+// Whether a row's number is above the last one and its marks and its redelivery are strict.
+fn follows(row: Row, last: u64) -> bool
+    ensures { λ r. ⌜ r ≡ (ltb last (at 0 row) && entryStrict row) ⌝ }
+    ensures { λ r. ⌜ rowOk row ≡ ((leb 1 (at 0 row) && ltb (at 0 row) (2 ^ 63)) && entryStrict row) ⌝ }
+{
+    fits(row[3]);
+    fits(row[4]);
+    (last < row[0]) & ((row[2] <= 1) & words::is_int(row[5]))
+}
+
+// rows[from..to] by rising sequence number, four a turn: the first is above 0, each above the one before, the last in range.
 fn sorted_ok(rows: &[Row], from: usize, to: usize) -> bool
     requires { ⌜ from ≤ to ⌝ }
     requires { do ⌜ to ≤ (← ⟦rows.len()⟧) ⌝ }
     ensures { λ r. ⌜ r ≡ sortedOk 0 (slice from to (now (rows .entry))) ⌝ }
 {
-    let mut least = 0;
+    let mut last = 0;
     let mut i = from;
+    while 4 <= to - i {
+        let a = rows[i];
+        let b = rows[i + 1];
+        let c = rows[i + 2];
+        let d = rows[i + 3];
+        let two = follows(a, last) & follows(b, a[0]);
+        let more = follows(c, b[0]) & follows(d, c[0]);
+        if !(two & more) {
+            return false;
+        }
+        last = d[0];
+        i += 4;
+    }
     while i < to {
         let row = rows[i];
-        let seq = row[0];
-        if !entry_ok(row) {
+        if !follows(row, last) {
             return false;
         }
-        if seq < least {
-            return false;
-        }
-        least = seq + 1;
+        last = row[0];
         i += 1;
     }
-    true
+    last < SEQ_END
 }
 
 // A consumer's rows in flight, rows[from..to]: delivery numbers rise and are below the next one, and the freed ones are counted.
@@ -332,36 +351,87 @@ fn gather(rows: &[Row], from: usize, n: usize, out: &mut [u64], start: usize)
     }
 }
 
-// Whether n rows from place from have different numbers, where that is asked.
-fn rows_apart(rows: &[Row], from: usize, n: usize, out: &mut [u64], asked: bool) -> bool
-    requires { do ⌜ from + n ≤ (← ⟦rows.len()⟧) ⌝ }
-    requires { do ⌜ n ≤ (← ⟦out.len()⟧) ⌝ }
-    ensures { λ r. ⌜ r ≡ (not asked || distinct (seqsAt (take n (drop from (now (rows .entry)))))) ⌝ }
+// Whether the numbers of rows[from..to] rise.
+fn rows_rise(rows: &[Row], from: usize, to: usize) -> bool
+    requires { ⌜ from ≤ to ⌝ }
+    requires { do ⌜ to ≤ (← ⟦rows.len()⟧) ⌝ }
+    ensures { λ r. ⌜ r ≡ rising 0 (seqsAt (slice from to (now (rows .entry)))) ⌝ }
 {
-    if !asked {
-        return true;
+    let mut last = 0;
+    let mut i = from;
+    while i < to {
+        let row = rows[i];
+        let seq = row[0];
+        if seq <= last {
+            return false;
+        }
+        last = seq;
+        i += 1;
     }
-    gather(rows, from, n, out, 0);
-    distinct::distinct(out, n)
+    true
 }
 
-// Each consumer's rows; on a queue only a browser's, since the others are looked at together.
-fn subs_apart(subs: &[SubRow], n: usize, rows: &[Row], out: &mut [u64], on_queue: bool) -> bool
+// How many of n rows are looked at, where those after the first k rise.
+fn head_of(k: usize, n: usize) -> usize
+    ensures { λ r. ⌜ (k < n → r ≡ k + 1) × (n ≤ k → r ≡ n) ⌝ }
+{
+    if k < n {
+        return k + 1;
+    }
+    n
+}
+
+// Whether n rows from place from have different numbers; those after the first k rise.
+fn rows_apart(rows: &[Row], from: usize, n: usize, k: usize) -> bool
+    requires { do ⌜ from + n ≤ (← ⟦rows.len()⟧) ⌝ }
+    requires { ⌜ n ≤ 512 ⌝ }
+    requires { ⌜ k ≤ n ⌝ }
+    requires { ⌜ ascending (seqsAt (slice k n (drop from (now rows)))) ≡ true ⌝ }
+    ensures { λ r. ⌜ r ≡ distinct (seqsAt (take n (drop from (now (rows .entry))))) ⌝ }
+{
+    let head = head_of(k, n);
+    if rows_rise(rows, from, from + head) {
+        return true;
+    }
+    let mut many = [0u64; 512];
+    gather(rows, from, n, &mut many, 0);
+    distinct::distinct(&many, n)
+}
+
+// One consumer's rows, which start at base; on a queue only a browser's, since the others are looked at together.
+fn sub_apart(w: SubRow, rows: &[Row], base: usize, on_queue: bool) -> bool
+    requires { do ⌜ base + (at 14 w + at 15 w) ≤ (← ⟦rows.len()⟧) ⌝ }
+    requires { ⌜ at 14 w + at 15 w ≤ 512 ⌝ }
+    requires { ⌜ heldRise «on_queue» (seqsAt (take (at 15 w) (drop (at 14 w) (drop base (now rows))))) ≡ true ⌝ }
+    ensures { λ r. ⌜ r ≡ (not (not «on_queue» || flag (at 6 w)) || distinct (seqsAt (take (at 14 w + at 15 w) (drop base (now (rows .entry)))))) ⌝ }
+{
+    let inflight = w[14] as usize;
+    let k = inflight + w[15] as usize;
+    if !on_queue {
+        return rows_apart(rows, base, k, inflight);
+    }
+    if w[6] != 0 {
+        return rows_apart(rows, base, k, k);
+    }
+    true
+}
+
+// Each consumer's rows.
+fn subs_apart(subs: &[SubRow], n: usize, rows: &[Row], on_queue: bool) -> bool
     requires { do ⌜ n ≤ (← ⟦subs.len()⟧) ⌝ }
     requires { do ⌜ subRows (take n (now subs)) ≤ (← ⟦rows.len()⟧) ⌝ }
-    requires { do ⌜ subRows (take n (now subs)) ≤ (← ⟦out.len()⟧) ⌝ }
+    requires { ⌜ subRows (take n (now subs)) ≤ 512 ⌝ }
+    requires { ⌜ all (heldRise «on_queue») (eachSub heldSeqs (take n (now subs)) (now rows)) ≡ true ⌝ }
     ensures { λ r. ⌜ r ≡ all (apartBy (kindBy «on_queue»)) (subsAt (kindBy «on_queue») (take n (now (subs .entry))) (now (rows .entry))) ⌝ }
 {
     let mut base = 0;
     let mut i = 0;
     while i < n {
         let w = subs[i];
-        let k = w[14] as usize + w[15] as usize;
-        let asked = !on_queue | (w[6] != 0);
-        if !rows_apart(rows, base, k, out, asked) {
+        if !sub_apart(w, rows, base, on_queue) {
             return false;
         }
-        base += k;
+        base += w[14] as usize + w[15] as usize;
         i += 1;
     }
     true
@@ -383,6 +453,7 @@ fn gather_taken(subs: &[SubRow], n: usize, rows: &[Row], out: &mut [u64], start:
     requires { do ⌜ subRows (take n (now subs)) ≤ (← ⟦rows.len()⟧) ⌝ }
     requires { do ⌜ start + subRows (take n (now subs)) ≤ (← ⟦out.len()⟧) ⌝ }
     ensures { λ r. ⌜ take r (now (out .exit)) ≡ take start (now (out .entry)) ++ seqs (taken (subsAt queue (take n (now (subs .entry))) (now (rows .entry)))) ⌝ }
+    ensures { λ r. ⌜ r ≤ start + subRows (take n (now (subs .entry))) ⌝ }
 {
     let mut end = start;
     let mut base = 0;
@@ -398,46 +469,79 @@ fn gather_taken(subs: &[SubRow], n: usize, rows: &[Row], out: &mut [u64], start:
     end
 }
 
-// A queue's waiting, reserved and taken entries, compared all together.
-fn together_apart(
-    subs: &[SubRow],
-    n: usize,
-    rows: &[Row],
-    others: usize,
-    reserved: usize,
-    waiting: usize,
-    out: &mut [u64],
-) -> bool
-    requires { do ⌜ n ≤ (← ⟦subs.len()⟧) ⌝ }
-    requires { ⌜ others ≡ subRows (take n (now subs)) ⌝ }
-    requires { do ⌜ others + (reserved + waiting) ≤ (← ⟦rows.len()⟧) ⌝ }
-    requires { do ⌜ others + (reserved + waiting) ≤ (← ⟦out.len()⟧) ⌝ }
-    ensures { λ r. ⌜ r ≡ distinct (queueSeqs others reserved waiting (take n (now (subs .entry))) (now (rows .entry))) ⌝ }
+// Where the first of rows[from..to], which rise, stands that is not below x.
+fn not_below(rows: &[Row], from: usize, to: usize, x: u64) -> usize
+    requires { ⌜ from ≤ to ⌝ }
+    requires { do ⌜ to ≤ (← ⟦rows.len()⟧) ⌝ }
+    requires { ⌜ ascending (seqsAt (slice from to (now rows))) ≡ true ⌝ }
+    ensures { λ r. ⌜ r ≤ to ⌝ }
+    ensures { λ r. ⌜ SameFrom x (seqsAt (slice from to (now (rows .entry)))) (seqsAt (slice r to (now (rows .entry)))) ⌝ }
+    ensures { λ r. ⌜ ascending (seqsAt (slice r to (now (rows .entry)))) ≡ true ⌝ }
+    ensures { λ r. ⌜ member x (seqsAt (slice r to (now (rows .entry)))) ≡ (ltb r to && eqb (at 0 (getD (now (rows .entry)) r [])) x) ⌝ }
 {
-    gather(rows, others + reserved, waiting, out, 0);
-    gather(rows, others, reserved, out, waiting);
-    let end = gather_taken(subs, n, rows, out, waiting + reserved);
-    distinct::distinct(out, end)
-}
-
-// Whether the first n are all below x; no, where there are fewer.
-fn all_below(xs: &[u64], n: usize, x: u64) -> bool
-    ensures { λ r. ⌜ (r ≡ true → all (λ y. ltb y x) (take n (now (xs .entry))) ≡ true) ⌝ }
-{
-    if xs.len() < n {
-        return false;
-    }
-    let mut i = 0;
-    while i < n {
-        if x <= xs[i] {
-            return false;
+    let mut i = from;
+    while i < to {
+        let row = rows[i];
+        if x <= row[0] {
+            return i;
         }
         i += 1;
+    }
+    i
+}
+
+// Whether x is the number of the row at place i, before to.
+fn stands(rows: &[Row], i: usize, to: usize, x: u64) -> bool
+    requires { do ⌜ to ≤ (← ⟦rows.len()⟧) ⌝ }
+    ensures { λ r. ⌜ r ≡ (ltb i to && eqb (at 0 (getD (now (rows .entry)) i [])) x) ⌝ }
+{
+    if to <= i {
+        return false;
+    }
+    let row = rows[i];
+    row[0] == x
+}
+
+// Where to look for x, where all before place i are below last.
+fn resume(from: usize, i: usize, x: u64, last: u64) -> usize
+    ensures { λ r. ⌜ (x < last → r ≡ from) × (last ≤ x → r ≡ i) ⌝ }
+{
+    if x < last {
+        return from;
+    }
+    i
+}
+
+// Whether none of the first n is the number of one of rows[from..to], which rise. As long as the numbers rise too, each is looked for from where the
+// one before was.
+fn none_waits(xs: &[u64], n: usize, rows: &[Row], from: usize, to: usize) -> bool
+    requires { do ⌜ n ≤ (← ⟦xs.len()⟧) ⌝ }
+    requires { ⌜ from < to ⌝ }
+    requires { do ⌜ to ≤ (← ⟦rows.len()⟧) ⌝ }
+    requires { ⌜ ascending (seqsAt (slice from to (now rows))) ≡ true ⌝ }
+    ensures { λ r. ⌜ r ≡ all (λ x. not (member x (seqsAt (slice from to (now (rows .entry)))))) (take n (now (xs .entry))) ⌝ }
+{
+    let first = rows[from];
+    let low = first[0];
+    let mut at = from;
+    let mut last = 0;
+    let mut k = 0;
+    while k < n {
+        let x = xs[k];
+        k += 1;
+        if low <= x {
+            let start = resume(from, at, x, last);
+            at = not_below(rows, start, to, x);
+            if stands(rows, at, to, x) {
+                return false;
+            }
+            last = x;
+        }
     }
     true
 }
 
-// A queue's waiting, reserved and taken entries. Those that wait rise: where all others are below them, only the others are compared.
+// A queue's waiting, reserved and taken entries. Those that wait rise.
 fn queue_apart(
     subs: &[SubRow],
     n: usize,
@@ -457,42 +561,14 @@ fn queue_apart(
 {
     gather(rows, others, reserved, out, 0);
     let end = gather_taken(subs, n, rows, out, reserved);
+    if !distinct::distinct(out, end) {
+        return false;
+    }
     if waiting == 0 {
-        return distinct::distinct(out, end);
+        return true;
     }
-    let first = rows[others + reserved];
-    if all_below(out, end, first[0]) {
-        return distinct::distinct(out, end);
-    }
-    let mut many = [0u64; 512];
-    together_apart(subs, n, rows, others, reserved, waiting, &mut many)
-}
-
-fn all_apart(
-    subs: &[SubRow],
-    n: usize,
-    rows: &[Row],
-    others: usize,
-    reserved: usize,
-    waiting: usize,
-    on_queue: bool,
-    out: &mut [u64],
-) -> bool
-    requires { do ⌜ n ≤ (← ⟦subs.len()⟧) ⌝ }
-    requires { ⌜ others ≡ subRows (take n (now subs)) ⌝ }
-    requires { do ⌜ others + (reserved + waiting) ≤ (← ⟦rows.len()⟧) ⌝ }
-    requires { ⌜ others + (reserved + waiting) ≤ 512 ⌝ }
-    requires { do ⌜ others + reserved ≤ (← ⟦out.len()⟧) ⌝ }
-    requires { ⌜ sortedOk 0 (slice (others + reserved) (others + reserved + waiting) (now rows)) ≡ true ⌝ }
-    ensures { λ r. ⌜ r ≡ (queueApart (kindBy «on_queue») others reserved waiting (take n (now (subs .entry))) (now (rows .entry)) && all (apartBy (kindBy «on_queue»)) (subsAt (kindBy «on_queue») (take n (now (subs .entry))) (now (rows .entry)))) ⌝ }
-{
-    if on_queue {
-        if !queue_apart(subs, n, rows, others, reserved, waiting, out) {
-            return false;
-        }
-        return subs_apart(subs, n, rows, out, on_queue);
-    }
-    subs_apart(subs, n, rows, out, on_queue)
+    let first = others + reserved;
+    none_waits(out, end, rows, first, first + waiting)
 }
 
 // With room for the numbers: few rows need little, which is sooner cleared.
@@ -510,23 +586,21 @@ fn apart(
     requires { do ⌜ others + (reserved + waiting) ≤ (← ⟦rows.len()⟧) ⌝ }
     requires { ⌜ others + (reserved + waiting) ≤ 512 ⌝ }
     requires { ⌜ sortedOk 0 (slice (others + reserved) (others + reserved + waiting) (now rows)) ≡ true ⌝ }
+    requires { ⌜ all (heldRise «on_queue») (eachSub heldSeqs (take n (now subs)) (now rows)) ≡ true ⌝ }
     ensures { λ r. ⌜ r ≡ (queueApart (kindBy «on_queue») others reserved waiting (take n (now (subs .entry))) (now (rows .entry)) && all (apartBy (kindBy «on_queue»)) (subsAt (kindBy «on_queue») (take n (now (subs .entry))) (now (rows .entry)))) ⌝ }
 {
+    if !subs_apart(subs, n, rows, on_queue) {
+        return false;
+    }
+    if !on_queue {
+        return true;
+    }
     if others + reserved <= 64 {
         let mut few = [0u64; 64];
-        return all_apart(subs, n, rows, others, reserved, waiting, on_queue, &mut few);
+        return queue_apart(subs, n, rows, others, reserved, waiting, &mut few);
     }
     let mut many = [0u64; 512];
-    all_apart(
-        subs,
-        n,
-        rows,
-        others,
-        reserved,
-        waiting,
-        on_queue,
-        &mut many,
-    )
+    queue_apart(subs, n, rows, others, reserved, waiting, &mut many)
 }
 
 // ---- all
@@ -550,14 +624,16 @@ fn tables_ok(
 {
     let first = others + reserved;
     let place = on_queue | (reserved + waiting == 0);
-    let each = subs_ok(subs, n, rows, most, on_queue);
+    if !subs_ok(subs, n, rows, most, on_queue) {
+        return false;
+    }
     let ids = ids_apart(subs, n);
     let kept = entries_ok(rows, others, first);
     if !sorted_ok(rows, first, first + waiting) {
         return false;
     }
     let seqs = apart(subs, n, rows, others, reserved, waiting, on_queue);
-    place & (each & (ids & (kept & (seqs & true))))
+    place & (ids & (kept & (seqs & true)))
 }
 
 // What follows the head's own numbers.

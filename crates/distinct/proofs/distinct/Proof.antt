@@ -32,11 +32,17 @@ few-distinct-requires c κs = search needs
 returns-3 : tie.Need-returns-3
 returns-3 c = search needs
 
-many-distinct-requires-2 : tie.Need-many-distinct-requires-2
-many-distinct-requires-2 c κs = search needs
+some-distinct-requires : tie.Need-some-distinct-requires
+some-distinct-requires c κs = search needs
 
 returns-4 : tie.Need-returns-4
 returns-4 c = search needs
+
+many-distinct-requires-2 : tie.Need-many-distinct-requires-2
+many-distinct-requires-2 c κs = search needs
+
+returns-5 : tie.Need-returns-5
+returns-5 c = search needs
 
 pub distinct-spec : {M : Type 1} → statement M
 distinct-spec =
@@ -48,5 +54,7 @@ distinct-spec =
     returns-2
     few-distinct-requires
     returns-3
+    some-distinct-requires
+    returns-4
     many-distinct-requires-2
-    returns-4)
+    returns-5)

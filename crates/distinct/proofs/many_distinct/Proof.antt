@@ -13,13 +13,13 @@ use Rattle.distinct.proofs.many_distinct.Statement.{statement}
 use Rattle.distinct.proofs.many_distinct.Tie as tie
 
 abbrev Inv-loop : tie.InvT-loop
-Inv-loop xs n slots₀ i₀ slots i = (i ≤ n) × (distinct (take i xs) ≡ true) × (length slots ≡ 1024) × Marked slots (take i xs)
+Inv-loop xs n slots₀ i₀ slots i = (i ≤ n) × (distinct (take i xs) ≡ true) × (length slots ≡ 1024) × Marked 1024 slots (take i xs)
 
 abbrev μ-loop : tie.MeasureT-loop
 μ-loop xs n slots₀ i₀ slots i = n - i
 
 loop-holds : tie.Need-loop-holds Inv-loop μ-loop
-loop-holds c = (search needs, refl, length-replicate 1024 false, marked-none (replicate 1024 false) (c .before .args .xs .now))
+loop-holds c = (search needs, refl, length-replicate 1024 false, marked-none 1024 (replicate 1024 false) (c .before .args .xs .now))
 
 mul-x : tie.Need-mul-x Inv-loop μ-loop
 mul-x c = search needs
@@ -56,8 +56,8 @@ loop-again c =
     let i = p .loop .i in
     let h = c .before .before .loop-test .taken in
     let v = p .loop .inv in
-    let m : member (getD xs i 0) (take i xs) ≡ false = ⊎-elim (λ w. sym (w .1 .ensures) ∙ w .2 .left) (λ w. marked-new (p .loop .slots) (take i xs) (getD xs i 0) (v .3) (w .left)) (c .if1 .came) in
-    (search needs, distinct-next xs i (a .n) h (p .before .before .pre) (v .1) m, length-set (p .loop .slots) (getD xs i 0 % 1024) true ∙ v .2, marked-more (p .loop .slots) xs i (v .2) (omega arith) (v .3))
+    let m : member (getD xs i 0) (take i xs) ≡ false = ⊎-elim (λ w. sym (w .1 .ensures) ∙ w .2 .left) (λ w. marked-new 1024 (p .loop .slots) (take i xs) (getD xs i 0) (v .3) (w .left)) (c .if1 .came) in
+    (search needs, distinct-next xs i (a .n) h (p .before .before .pre) (v .1) m, length-set (p .loop .slots) (getD xs i 0 % 1024) true ∙ v .2, marked-more 1024 (λ x. omega arith) (p .loop .slots) xs i (v .2) (omega arith) (v .3))
 
 returns-2 : tie.Need-returns-2 Inv-loop μ-loop
 returns-2 c =

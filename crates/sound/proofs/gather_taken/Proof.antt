@@ -4,11 +4,10 @@ use mathlib.Core.List.{[], _++_}
 use Prim.Native.Nat.{_+_, _-_, _≤_}
 use lib.ListN.{length, take, drop, getD}
 use lib.Seq.{slice}
-use Rattle.definition.specs.Base.{all}
 use Rattle.definition.specs.Types.{queue}
 use Rattle.definition.specs.Calls.{seqs, taken}
 use Rattle.definition.specs.Layout.{subsAt, subRows}
-use Rattle.sound.proofs.Subs.{rows-turn}
+use Rattle.sound.proofs.Subs.{rows-turn, rows-end}
 use Rattle.sound.proofs.Gathered.{taken-next, taken-end, taken-small}
 use native.Mathlib.Omega.{arith}
 use borrow.Author.Needs.{needs}
@@ -106,7 +105,7 @@ returns c =
     let s = p .before .before in
     let a = s .args in
     let subs = a .subs .now in
-    taken-end subs (p .loop .i) (a .n) (s .pre .0) (a .rows .now) (p .loop .base) (a .out .now) (p .loop .out) (p .loop .out) (a .start) (p .loop .end) 0 (take (a .start) (a .out .now) ++ seqs (taken (subsAt queue (take (a .n) subs) (a .rows .now)))) (p .loop .inv .4) (omega arith)
+    (taken-end subs (p .loop .i) (a .n) (s .pre .0) (a .rows .now) (p .loop .base) (a .out .now) (p .loop .out) (p .loop .out) (a .start) (p .loop .end) 0 (take (a .start) (a .out .now) ++ seqs (taken (subsAt queue (take (a .n) subs) (a .rows .now)))) (p .loop .inv .4) (omega arith), omega (arith, rows-end subs (p .loop .i) (a .n) (s .pre .0) (omega arith)))
 
 pub gather-taken-spec : {M : Type 1} → statement M
 gather-taken-spec =

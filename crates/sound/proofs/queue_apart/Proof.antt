@@ -1,17 +1,20 @@
 -- `sound::queue_apart` meets its contract. Assumes nothing.
 use mathlib.Core.Path.{_≡_, sym, ap, _∙_}
-use mathlib.Core.Bool.{true}
-use mathlib.Core.List.{List, [], _++_}
-use Prim.Native.Nat.{ℕ, _+_, _<_}
-use lib.Dec.{ltb}
-use lib.ListN.{take, getD}
-use Rattle.definition.specs.Base.{all, distinct}
+use mathlib.Core.Bool.{Bool, not, _&&_}
+use mathlib.Core.List.{List, _++_}
+use Prim.Native.Nat.{ℕ, _+_}
+use borrow.Author.Tests.{not-true, not-false}
+use lib.ListN.{take}
+use lib.Seq.{slice}
+use Rattle.definition.specs.Base.{all, member, distinct}
 use Rattle.definition.specs.Types.{queue}
 use Rattle.definition.specs.Calls.{seqs, taken}
-use Rattle.definition.specs.Words.{at}
 use Rattle.definition.specs.Layout.{subsAt}
-use Rattle.sound.specs.Sound.{seqsAt, reservedAt}
-use Rattle.sound.proofs.Tables.{gathered-two, none-waits, waiting-front}
+use Rattle.distinct.proofs.Laws.{apart}
+use Rattle.sound.specs.Sound.{seqsAt, reservedAt, waitingAt}
+use Rattle.sound.proofs.Subs.{sorted-rises}
+use Rattle.sound.proofs.Rising.{waiting-apart}
+use Rattle.sound.proofs.Tables.{gathered-two}
 use native.Mathlib.Omega.{arith}
 use borrow.Author.Needs.{needs}
 use Rattle.sound.proofs.queue_apart.Statement.{statement}
@@ -31,70 +34,66 @@ same-length c = search needs
 
 returns : tie.Need-returns
 returns c =
-    let t = c .before .before .before .before .before in
-    let u = t .before .before .before .before in
-    let a = u .before .before .before .args in
-    let g = u .gather in
-    let h = t .gather-taken in
+    let s = c .before .before .before .before .before .before .before .before .before .before .before .before in
+    let a = s .args in
+    let g = c .before .before .before .before .before .before .before .before .before .gather in
+    let h = c .before .before .before .before .before .gather-taken in
+    let d = c .before .distinct in
     let rows = a .rows .now in
+    let f : ℕ = a .others + a .reserved in
     let kept : List ℕ = seqsAt (reservedAt (a .others) (a .reserved) rows) in
     let out : List ℕ = seqs (taken (subsAt queue (take (a .n) (a .subs .now)) rows)) in
-    c .distinct .ensures
-    ∙ ap distinct (gathered-two (a .out .now) (g .last .1 .1 .1 .0) (h .last .1 .1 .1 .0) kept out (a .reserved) (h .result) (g .ensures) (h .ensures))
-    ∙ sym (none-waits (a .others) (a .reserved) (a .waiting) rows (kept ++ out) (c .before .before .if1 .taken))
-
-add-first : tie.Need-add-first
-add-first c = search needs
-
-mul-first : tie.Need-mul-first
-mul-first c = search needs
-
-shared-slice-copy-out-first : tie.Need-shared-slice-copy-out-first
-shared-slice-copy-out-first c = search needs
-
-array-read-all-below : tie.Need-array-read-all-below
-array-read-all-below c = search needs
-
-all-below-requires : tie.Need-all-below-requires
-all-below-requires c κs = search needs
-
-distinct-requires-2 : tie.Need-distinct-requires-2
-distinct-requires-2 c κs = search needs
+    let e : take (h .result) (h .last .1 .1 .1 .0) ≡ kept ++ out = gathered-two (a .out .now) (g .last .1 .1 .1 .0) (h .last .1 .1 .1 .0) kept out (a .reserved) (h .result) (g .ensures) (h .ensures .0) in
+    sym (waiting-apart rows f (a .waiting) (kept ++ out) (omega arith) (sorted-rises (slice f (f + a .waiting) rows) (s .pre .1 .1 .1 .1 .1)) ∙ ap (λ (t : Bool). t && apart (kept ++ out) (seqsAt (slice f (f + a .waiting) rows))) (sym (ap distinct e) ∙ sym (d .ensures) ∙ not-true (d .result) (c .if1 .taken)))
 
 same-length-2 : tie.Need-same-length-2
 same-length-2 c = search needs
 
 returns-2 : tie.Need-returns-2
 returns-2 c =
-    let b = c .before .before .before in
-    let t = b .before .before .before .before .before .before in
-    let u = t .before .before .before .before in
-    let s = u .before .before .before in
+    let s = c .before .before .before .before .before .before .before .before .before .before .before .before .before in
     let a = s .args in
-    let g = u .gather in
-    let h = t .gather-taken in
+    let g = c .before .before .before .before .before .before .before .before .before .before .gather in
+    let h = c .before .before .before .before .before .before .gather-taken in
+    let d = c .before .before .distinct in
     let rows = a .rows .now in
+    let f : ℕ = a .others + a .reserved in
     let kept : List ℕ = seqsAt (reservedAt (a .others) (a .reserved) rows) in
     let out : List ℕ = seqs (taken (subsAt queue (take (a .n) (a .subs .now)) rows)) in
-    let first : ℕ = at 0 (getD rows (a .others + a .reserved) []) in
-    let e : take (h .result) (h .last .1 .1 .1 .0) ≡ kept ++ out = gathered-two (a .out .now) (g .last .1 .1 .1 .0) (h .last .1 .1 .1 .0) kept out (a .reserved) (h .result) (g .ensures) (h .ensures) in
-    let w : 0 < a .waiting = omega arith in
-    c .distinct2 .ensures
-    ∙ ap distinct e
-    ∙ sym (waiting-front (a .others) (a .reserved) (a .waiting) rows (kept ++ out) (s .pre .1 .1 .0) w (s .pre .1 .1 .1 .1 .1)
-    (sym (ap (all (λ y. ltb y first)) e) ∙ b .all-below .ensures (c .before .before .if2 .taken)))
+    let e : take (h .result) (h .last .1 .1 .1 .0) ≡ kept ++ out = gathered-two (a .out .now) (g .last .1 .1 .1 .0) (h .last .1 .1 .1 .0) kept out (a .reserved) (h .result) (g .ensures) (h .ensures .0) in
+    sym (ap (λ (n : ℕ). distinct (seqsAt (waitingAt (a .others) (a .reserved) n rows) ++ (kept ++ out))) (c .if2 .taken) ∙ sym (ap distinct e) ∙ sym (d .ensures) ∙ not-false (d .result) (c .before .if1 .left))
 
-slice-aggregate-together-apart : tie.Need-slice-aggregate-together-apart
-slice-aggregate-together-apart c = search needs
+add-first : tie.Need-add-first
+add-first c = search needs
 
-together-apart-requires : tie.Need-together-apart-requires
-together-apart-requires c κs = search needs
+add-none-waits : tie.Need-add-none-waits
+add-none-waits c = search needs
+
+none-waits-requires : tie.Need-none-waits-requires
+none-waits-requires c κs =
+    let s = c .before .before .before .before .before .before .before .before .before .before .before .before .before .before in
+    let a = s .args in
+    let g = c .before .before .before .before .before .before .before .before .before .before .before .gather in
+    let h = c .before .before .before .before .before .before .before .gather-taken in
+    let f : ℕ = a .others + a .reserved in
+    (omega (arith, g .kept .1 .1 .1 .0, h .kept .1 .1 .1 .0, h .ensures .1), (search needs, (search needs, sorted-rises (slice f (f + a .waiting) (a .rows .now)) (s .pre .1 .1 .1 .1 .1))))
 
 same-length-3 : tie.Need-same-length-3
 same-length-3 c = search needs
 
 returns-3 : tie.Need-returns-3
-returns-3 c = search needs
+returns-3 c =
+    let s = c .before .before .before .before .before .before .before .before .before .before .before .before .before .before .before in
+    let a = s .args in
+    let g = c .before .before .before .before .before .before .before .before .before .before .before .before .gather in
+    let h = c .before .before .before .before .before .before .before .before .gather-taken in
+    let d = c .before .before .before .before .distinct in
+    let rows = a .rows .now in
+    let f : ℕ = a .others + a .reserved in
+    let kept : List ℕ = seqsAt (reservedAt (a .others) (a .reserved) rows) in
+    let out : List ℕ = seqs (taken (subsAt queue (take (a .n) (a .subs .now)) rows)) in
+    let e : take (h .result) (h .last .1 .1 .1 .0) ≡ kept ++ out = gathered-two (a .out .now) (g .last .1 .1 .1 .0) (h .last .1 .1 .1 .0) kept out (a .reserved) (h .result) (g .ensures) (h .ensures .0) in
+    c .none-waits .ensures ∙ ap (all (λ x. not (member x (seqsAt (slice f (f + a .waiting) rows))))) e ∙ sym (waiting-apart rows f (a .waiting) (kept ++ out) (omega arith) (sorted-rises (slice f (f + a .waiting) rows) (s .pre .1 .1 .1 .1 .1)) ∙ ap (λ (t : Bool). t && apart (kept ++ out) (seqsAt (slice f (f + a .waiting) rows))) (sym (ap distinct e) ∙ sym (d .ensures) ∙ not-false (d .result) (c .before .before .before .if1 .left)))
 
 pub queue-apart-spec : {M : Type 1} → statement M
 queue-apart-spec =
@@ -105,15 +104,10 @@ queue-apart-spec =
     distinct-requires
     same-length
     returns
-    add-first
-    mul-first
-    shared-slice-copy-out-first
-    array-read-all-below
-    all-below-requires
-    distinct-requires-2
     same-length-2
     returns-2
-    slice-aggregate-together-apart
-    together-apart-requires
+    add-first
+    add-none-waits
+    none-waits-requires
     same-length-3
     returns-3)
