@@ -1,6 +1,6 @@
 -- An acknowledgement by its rule is the acknowledgement by its type: the delivery numbers that it means, and what becomes of what has them.
 -- Assumes nothing.
-use mathlib.Core.Path.{_≡_, refl, sym, ap, _∙_}
+use mathlib.Core.Path.{_≡_, refl, sym, ap, ap₂, _∙_}
 use mathlib.Core.Bool.{Bool, true, false, _&&_, and-false}
 use mathlib.Core.List.{List, []}
 use mathlib.Core.Option.{Option, none, some}
@@ -8,6 +8,7 @@ use Prim.Native.Nat.{ℕ, _≤_, _<_, min}
 use native.Mathlib.Omega.{arith}
 use borrow.Author.Tests.{leb-true, leb-false, lt-leb, eq-eqb, ne-eqb}
 use lib.Dec.{leb, eqb}
+use Rattle.model.specs.declared.AckEffect.{AckEffect}
 use Rattle.model.specs.declared.AckRange.{AckRange}
 use Rattle.model.specs.declared.AckRange.the-variants.{Empty, Between, Cumulative, Last}
 use Rattle.model.specs.declared.AckRule.{AckRule}
@@ -106,3 +107,13 @@ module _ (a : Ack) (s : Sub) where
       ∙ ap (λ (x : AckRule). acts (x .«tx_effect») (x .counts) (a .cause) (meant (x .«tx_range»)) s) e
       ∙ transacted (ackType (a .type))
       ∙ sym (if-true _ _ f)
+
+  -- outside a transaction or in one
+  pub acts-either : (r : AckRule) → r ≡ ackRule (a .type) → (range : AckRange) (effect : AckEffect)
+      → range ≡ (if a .transacted then r .«tx_range» else r .range) → effect ≡ (if a .transacted then r .«tx_effect» else r .effect)
+      → acts effect (r .counts) (a .cause) (inSpan (spanOf range (or0 (bySeq s (a .first))) (bySeq s (a .last)))) s ≡ ackSub a s
+  acts-either r e range effect p q =
+      let by : AckRange → AckEffect → Step = λ x y. acts y (r .counts) (a .cause) (inSpan (spanOf x (or0 (bySeq s (a .first))) (bySeq s (a .last)))) s in
+      by-test (a .transacted)
+      (λ t. ap₂ by (p ∙ if-true _ _ t) (q ∙ if-true _ _ t) ∙ acts-transacted r e t)
+      (λ t. ap₂ by (p ∙ if-false _ _ t) (q ∙ if-false _ _ t) ∙ acts-plain r e t)

@@ -9,7 +9,7 @@ ghost use lib.Seq.{slice};
 ghost use Rattle.model.specs.declared.Id.{Id};
 ghost use Rattle.model.specs.declared.AckEffect.the-variants.{Removes};
 ghost use Rattle.model.specs.declared.AckCount.the-variants.{DeadLetter};
-ghost use Rattle.definition.specs.Base.{all, tally};
+ghost use Rattle.definition.specs.Base.{if_then_else_, all, tally};
 ghost use Rattle.definition.specs.Types as Def;
 ghost use Rattle.definition.specs.Types.{letter};
 ghost use Rattle.definition.specs.Consumer.{or0, bySeq, free, redeliver, ackSub};
@@ -295,6 +295,26 @@ fn act(
 
 // ---- the ack
 
+// Which entries an ack's type means, outside a transaction or in one.
+fn range_of(rule: AckRule, transacted: bool) -> AckRange
+    ensures { λ r. ⌜ r ≡ (if transacted then rule .«tx_range» else rule .range) ⌝ }
+{
+    if transacted {
+        return rule.tx_range;
+    }
+    rule.range
+}
+
+// And what it does to them.
+fn effect_of(rule: AckRule, transacted: bool) -> AckEffect
+    ensures { λ r. ⌜ r ≡ (if transacted then rule .«tx_effect» else rule .effect) ⌝ }
+{
+    if transacted {
+        return rule.tx_effect;
+    }
+    rule.effect
+}
+
 // An ack of one consumer, whose rows begin at base: what its type says, outside a transaction or in one.
 fn ack_one(rows: &mut [Row], events: &mut [Event], base: usize, s: Sub, d: Head, a: Ack) -> Acked
     requires { ⌜ Own (length (now rows)) base s d × (545 ≤ length (now events)) ⌝ }
@@ -303,17 +323,10 @@ fn ack_one(rows: &mut [Row], events: &mut [Event], base: usize, s: Sub, d: Head,
     let rule = AckRule::of(a.kind);
     let end = base + s.inflight;
     let counts = rule.counts;
-    if a.transacted {
-        let range = rule.tx_range;
-        let effect = rule.tx_effect;
-        let p = span_of(rows, base, end, a, range);
-        act(rows, events, base, s, d, p, effect, counts, a.cause)
-    } else {
-        let range = rule.range;
-        let effect = rule.effect;
-        let p = span_of(rows, base, end, a, range);
-        act(rows, events, base, s, d, p, effect, counts, a.cause)
-    }
+    let range = range_of(rule, a.transacted);
+    let effect = effect_of(rule, a.transacted);
+    let p = span_of(rows, base, end, a, range);
+    act(rows, events, base, s, d, p, effect, counts, a.cause)
 }
 
 // An ack of the consumer at a place.

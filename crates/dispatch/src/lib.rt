@@ -1,13 +1,14 @@
 // `dispatch` of destination.rs: what can go out goes out, to a queue's browsers and then its consumers, or to a topic's consumers.
 ghost use mathlib.Core.Path.{_≡_};
 ghost use mathlib.Core.Bool.{true, _&&_};
+ghost use mathlib.Core.List.{[]};
 ghost use Prim.Native.Nat.{_≤_, _^_};
 ghost use lib.Dec.{leb};
-ghost use lib.ListN.{length};
+ghost use lib.ListN.{length, getD};
 ghost use Rattle.definition.specs.Destination.{dispatchQueue, dispatch};
 ghost use Rattle.state.specs.Fits.{fits};
 ghost use Rattle.state.specs.Leaves.{LeavesIf};
-ghost use Rattle.dispatch.specs.Dispatch.{Sent};
+ghost use Rattle.dispatch.specs.Dispatch.{canGo, goesOut, Sent};
 use consumers::SubRow;
 use entry::Row;
 use state::Event;
@@ -36,6 +37,36 @@ fn dispatch_queue(
     }
     let shown = browsers::serve_browsers(subs, rows, events, d, clock);
     queues::serve_rounds(subs, rows, events, shown, clock)
+}
+
+// Whether consumer i can be sent something: of a topic's, one that holds something and has credit; of a queue's, a browser, or where something
+// waits one that has credit.
+fn can_go(subs: &[SubRow], i: usize, waiting: usize, queue: bool) -> bool
+    ensures { λ r. ⌜ r ≡ canGo waiting queue (getD (now (subs .entry)) i []) ⌝ }
+{
+    let s = consumers::load(subs, i);
+    let credit = s.has_credit();
+    if queue {
+        return s.browser | ((waiting != 0) & credit);
+    }
+    (0 < s.held) & credit
+}
+
+// Whether a dispatch can send something to one of the first n consumers; no, where the table is shorter.
+pub fn goes(subs: &[SubRow], n: usize, waiting: usize, queue: bool) -> bool
+    ensures { λ r. ⌜ r ≡ goesOut n waiting queue (now (subs .entry)) ⌝ }
+{
+    if subs.len() < n {
+        return false;
+    }
+    let mut i = 0;
+    while i < n {
+        if can_go(subs, i, waiting, queue) {
+            return true;
+        }
+        i += 1;
+    }
+    false
 }
 
 // Sends what can go out. Where the numbers do not fit the tables, or with a clock above 2^62, nothing happens.

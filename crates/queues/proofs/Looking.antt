@@ -1,13 +1,13 @@
 -- A look along the waiting rows, a row at a time: what the definition says of the rows before a turn, it says of those after it. Assumes nothing.
-use mathlib.Core.Path.{_≡_, refl, sym, ap, _∙_}
-use mathlib.Core.Bool.{Bool, true, false}
+use mathlib.Core.Path.{_≡_, refl, sym, ap, subst, _∙_}
+use mathlib.Core.Bool.{Bool, true, false, _||_}
 use mathlib.Core.List.{List, [], _∷_, _++_, append-assoc, append-nil, map, map-append}
 use mathlib.Core.Option.{none, some}
-use Prim.Native.Nat.{ℕ, _+_, _-_, _≤_, _<_, _^_}
+use Prim.Native.Nat.{ℕ, zero, suc, _+_, _-_, _≤_, _<_, _^_}
 use native.Mathlib.Nat.{zero-add, add-zero}
 use native.Mathlib.Omega.{arith}
-use borrow.Author.Tests.{le-leb, lt-leb}
-use lib.Dec.{leb}
+use borrow.Author.Tests.{ltb-true, ltb-false, le-leb, lt-leb}
+use lib.Dec.{leb, ltb}
 use lib.IntN.{ℤ, pos}
 use lib.ListN.{length, take, drop, getD, length-append, length-drop}
 use lib.Seq.{slice, length-take-le, length-slice, append-snoc, getD-at, drop-append-le}
@@ -15,13 +15,16 @@ use mir.Syntax.{w64}
 use mir.Val.{SFits}
 use mir.ValLaws.{toZ-pos, toZ-ofZ}
 use Rattle.words.specs.Words.{signed, unsigned}
+use Rattle.words.proofs.Tests.{by-test}
 use Rattle.entry.specs.Entry.{expired, entryOf}
 use Rattle.definition.specs.Base.{if_then_else_, all}
 use Rattle.definition.specs.Types.{Entry, queue}
 use Rattle.definition.specs.Types as Def
 use Rattle.definition.specs.Consumer.{accepts}
 use Rattle.definition.specs.Destination.{Look, passing, losing, look}
+use Rattle.definition.specs.Words.{at}
 use Rattle.definition.specs.Layout.{Row, entryStrict}
+use Rattle.definition.proofs.Tests.{or-no-left, or-no-right}
 use Rattle.table.specs.Table.{closeGap}
 use Rattle.table.proofs.Lists.{parts}
 use Rattle.table.proofs.Laws.{close-parts, close-length}
@@ -29,7 +32,7 @@ use Rattle.consumers.specs.declared.Sub.{Sub}
 use Rattle.consumers.specs.Consumers.{subView, acceptsOf}
 use Rattle.consumers.proofs.Laws.{accepts-sub}
 use Rattle.consumers.proofs.Strict.{all-left}
-use Rattle.queues.specs.Look.{lone, Found, Missed, Looks}
+use Rattle.queues.specs.Look.{lone, Passed, Found, Missed, Looks}
 use Rattle.queues.proofs.Viewing.{all-without}
 
 -- a clock's word, read as a signed one
@@ -278,6 +281,55 @@ module _ (now : ℕ) (s : Sub) (from to : ℕ) (rows₀ : List Row) (f : from �
           looking-refused h =
               let not : accepts (lone s) (entryOf x) ≡ false = accepts-sub queue s [] [] (entryOf x) ∙ ap (acceptsOf s) (sym same) ∙ h in
               rw (ap (λ (y : Entry). y .seq) same) (passes (entryOf x .seq) (look-refused now (lone s) cursor (entryOf x) (map entryOf l) fresh live-x not))
+
+-- four rows more are not after the cursor
+module _ (from to cursor : ℕ) (rows : List Row) (i : ℕ) (p : Passed from to cursor rows i) (four : 4 ≤ to - i) where
+  abbrev word : ℕ → ℕ
+  word k = at 0 (getD rows k [])
+
+  abbrev later : ℕ → Bool
+  later k = ltb cursor (word k)
+
+  pub passed-four : (((later i || later (i + 1)) || later (i + 2)) || later (i + 3)) ≡ false → Passed from to cursor rows (i + 4)
+  passed-four h =
+      let low = p .low in
+      let high = p .high in
+      let three : ((later i || later (i + 1)) || later (i + 2)) ≡ false = or-no-left ((later i || later (i + 1)) || later (i + 2)) (later (i + 3)) h in
+      let two : (later i || later (i + 1)) ≡ false = or-no-left (later i || later (i + 1)) (later (i + 2)) three in
+      let a : word i ≤ cursor = ltb-false cursor (word i) (or-no-left (later i) (later (i + 1)) two) in
+      let b : word (i + 1) ≤ cursor = ltb-false cursor (word (i + 1)) (or-no-right (later i) (later (i + 1)) two) in
+      let c : word (i + 2) ≤ cursor = ltb-false cursor (word (i + 2)) (or-no-right (later i || later (i + 1)) (later (i + 2)) three) in
+      let d : word (i + 3) ≤ cursor = ltb-false cursor (word (i + 3)) (or-no-right ((later i || later (i + 1)) || later (i + 2)) (later (i + 3)) h) in
+      record {
+        low = omega arith;
+        high = omega arith;
+        each = λ k f l. by-test (ltb k i) (λ t. p .each k f (ltb-true k i t)) (λ n₀.
+            by-test (ltb k (i + 1)) (λ t. at-place k i (omega (arith, ltb-false k i n₀, ltb-true k (i + 1) t)) a) (λ n₁.
+            by-test (ltb k (i + 2)) (λ t. at-place k (i + 1) (omega (arith, ltb-false k (i + 1) n₁, ltb-true k (i + 2) t)) b) (λ n₂.
+            by-test (ltb k (i + 3)) (λ t. at-place k (i + 2) (omega (arith, ltb-false k (i + 2) n₂, ltb-true k (i + 3) t)) c) (λ n₃.
+            at-place k (i + 3) (omega (arith, ltb-false k (i + 3) n₃)) d))));
+      }
+    where
+      at-place : (k j : ℕ) → j ≡ k → word j ≤ cursor → word k ≤ cursor
+      at-place k j e h = subst (λ (x : ℕ). word x ≤ cursor) e h
+
+-- rows at or before the cursor are passed over
+module _ (now : ℕ) (s : Sub) (from to : ℕ) (rows : List Row) (f : from ≤ to) (t : to ≤ length rows) where
+  looking-up : (k : ℕ) → from + k ≤ to → ((j : ℕ) → from ≤ j → j < from + k → at 0 (getD rows j []) ≤ s .cursor) → Looking now s from to rows rows to (s .cursor) (from + k)
+  unfolding entryOf
+  looking-up zero h each = subst (λ (n : ℕ). Looking now s from to rows rows to (s .cursor) n) (sym (add-zero from)) (looking-start now s from to rows f t)
+  looking-up (suc k) h each =
+      let next : from + k + 1 ≡ from + suc k = omega arith in
+      let g : Looking now s from to rows rows to (s .cursor) (from + k) = looking-up k (omega arith) (λ j a b. each j a (omega arith)) in
+      subst (λ (n : ℕ). Looking now s from to rows rows to (s .cursor) n) next
+      (looking-before now s from to rows f t rows to (s .cursor) (from + k) g (omega arith) (each (from + k) (omega arith) (omega arith)))
+
+  pub looking-from : (i : ℕ) → Passed from to (s .cursor) rows i → Looking now s from to rows rows to (s .cursor) i
+  looking-from i p =
+      let low = p .low in
+      let high = p .high in
+      let is : from + (i - from) ≡ i = omega arith in
+      subst (λ (n : ℕ). Looking now s from to rows rows to (s .cursor) n) is (looking-up (i - from) (omega arith) (λ j a b. p .each j a (omega arith)))
 
 -- where the rows in use end, whether or not one was chosen
 pub looks-end : (b : Bool) (now : ℕ) (s : Sub) (from to : ℕ) (rows rows′ : List Row) (at end cursor : ℕ) → Looks b now s from to rows rows′ at end cursor → (from ≤ end) × (end ≤ to)

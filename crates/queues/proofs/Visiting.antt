@@ -1,6 +1,6 @@
 -- A consumer's turn in the scan: the definition's, on the tables. Assumes nothing.
 use mathlib.Core.Path.{_≡_, refl, sym, ap, ap₂, _∙_}
-use mathlib.Core.Bool.{true, false, not, _&&_, _||_, true≢false}
+use mathlib.Core.Bool.{Bool, true, false, not, _&&_, _||_, true≢false}
 use mathlib.Core.List.{List, [], _∷_, _++_, append-assoc, append-nil, map, map-append}
 use mathlib.Core.Option.{none, some}
 use Prim.Native.Nat.{ℕ, suc, _+_, _-_, _%_, _≤_, _<_, _^_}
@@ -9,6 +9,7 @@ use native.Mathlib.Omega.{arith}
 use borrow.Author.Tests.{le-leb, leb-true}
 use lib.ListN.{length, take, drop, getD, set, length-append, length-drop, length-set}
 use lib.Seq.{slice, length-take-le, length-slice, getD-take, getD-at, take-add, take-take, take-set-lt, drop-set-lt}
+use Rattle.words.proofs.Tests.{by-test}
 use Rattle.stats.specs.declared.Stats.{Stats}
 use Rattle.stats.specs.Counted.{withExpiredBy}
 use Rattle.entry.specs.Entry.{entryOf}
@@ -37,7 +38,7 @@ use Rattle.state.proofs.Counts.{expired-plain, dispatched-plain}
 use Rattle.state.proofs.Events.{events-up-to, events-after}
 use Rattle.queues.specs.Look.{lone, Found, Missed}
 use Rattle.queues.specs.Give.{lookedHead, gaveHead, movedSub, sentSub, Gives, Gave}
-use Rattle.queues.specs.Scan.{nextRoom, Scans, Onward, Visited}
+use Rattle.queues.specs.Scan.{canTake, nextRoom, Scans, Onward, Visited}
 use Rattle.queues.proofs.Looking.{look-same}
 use Rattle.queues.proofs.Viewing.{partsView, view-parts, strict-parts, behind-length, behind-past, all-set, all-without, all-at}
 use Rattle.queues.proofs.Onward.{onward-same}
@@ -309,6 +310,9 @@ module _ (now i : ℕ) (d : Head) (subs rows events : List Row) (ok : Scans subs
 
   pub visited-spent : s .browser ≡ false → creditOf s ≡ false → Visited now i d false d subs rows events subs rows events
   visited-spent h k = visited-idle (rw (browses ∙ h, credits ∙ k))
+
+  pub visited-not : canTake w ≡ false → Visited now i d false d subs rows events subs rows events
+  visited-not h = by-test (s .browser) visited-browser (λ e. visited-spent e (sym (ap (λ (x : Bool). not x && creditOf s) e) ∙ h))
 
   -- ---- a look along the waiting rows
 

@@ -3,14 +3,15 @@ use mathlib.Core.Path.{_≡_}
 use mathlib.Core.Bool.{Bool, true, false}
 use mathlib.Core.List.{List, [], _∷_, _++_, map}
 use mathlib.Core.Option.{none, some}
-use Prim.Native.Nat.{ℕ, _+_}
-use lib.ListN.{length, take, drop}
+use Prim.Native.Nat.{ℕ, _+_, _≤_, _<_}
+use lib.ListN.{length, take, drop, getD}
 use lib.Seq.{slice}
 use Rattle.entry.specs.Entry.{entryOf}
 use Rattle.definition.specs.Base.{all}
 use Rattle.definition.specs.Types.{queue}
 use Rattle.definition.specs.Types as Def
 use Rattle.definition.specs.Destination.{look}
+use Rattle.definition.specs.Words.{at}
 use Rattle.definition.specs.Layout.{Row, entryStrict}
 use Rattle.consumers.specs.declared.Sub.{Sub}
 use Rattle.consumers.specs.Consumers.{subView}
@@ -18,6 +19,12 @@ use Rattle.consumers.specs.Consumers.{subView}
 -- a queue's consumer without its rows: they make no difference to what it accepts
 abbrev pub lone : Sub → Def.Sub
 lone s = subView queue s [] []
+
+-- a place in from..to before which no row is after the cursor; which one is open, and makes no difference to a look
+pub record Passed (from to cursor : ℕ) (rows : List Row) (i : ℕ) : Type 0 where
+  pub low : from ≤ i
+  pub high : i ≤ to
+  pub each : (k : ℕ) → from ≤ k → k < i → at 0 (getD rows k []) ≤ cursor
 
 -- of the rows from..to the one at a place is chosen: the waiting rows before and after it, and as many spare rows as have expired. Strict rows
 -- stay strict; open are the spare rows, which are free, words 6 to 8 of the others, not in use, and how words that were not strict are written

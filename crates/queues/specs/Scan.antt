@@ -1,6 +1,6 @@
 -- The scan over a queue's consumers, on the tables: when it can run, what a turn leaves, and what all of it means. Assumes nothing.
 use mathlib.Core.Path.{_≡_}
-use mathlib.Core.Bool.{Bool, true, false, _&&_}
+use mathlib.Core.Bool.{Bool, true, false, not, _&&_}
 use mathlib.Core.List.{List, [], _∷_, _++_, map}
 use Prim.Native.Nat.{ℕ, suc, _+_, _≤_, _<_, _^_}
 use lib.Dec.{leb, eqb}
@@ -11,12 +11,17 @@ use Rattle.definition.specs.Types.{Id, Audit, Dest, Event}
 use Rattle.definition.specs.Destination.{Out, visit, rounds}
 use Rattle.definition.specs.Words.{at}
 use Rattle.definition.specs.Layout.{Row, subRows, eventWords}
+use Rattle.consumers.specs.Consumers.{subOf, creditOf}
 use Rattle.state.specs.declared.Head.{Head}
 use Rattle.state.specs.State.{headView, strictTables}
 
 -- all the scans: at most one for each waiting entry, and a last one
 unfoldable pub served : ℕ → Dest → Out
 served now t = rounds (suc (length (t .pending))) now t
+
+-- no browser, and with credit: else a consumer's turn leaves everything as it is
+abbrev pub canTake : Row → Bool
+canTake w = not (subOf w .browser) && creditOf (subOf w)
 
 -- ---- when it can run
 

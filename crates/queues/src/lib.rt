@@ -1,12 +1,15 @@
 // A queue's dispatch without its browsers (`dispatch_queue` of destination.rs): waiting entries go out to consumers that have credit, in turn.
 ghost use mathlib.Core.Path.{_≡_};
-ghost use Prim.Native.Nat.{_-_, _≤_, _<_, _^_};
-ghost use lib.ListN.{length, take};
+ghost use mathlib.Core.Bool.{not};
+ghost use mathlib.Core.List.{[]};
+ghost use Prim.Native.Nat.{_-_, _%_, _≤_, _<_, _^_};
+ghost use lib.Dec.{eqb};
+ghost use lib.ListN.{length, take, getD};
 ghost use Rattle.definition.specs.Base.{all};
 ghost use Rattle.state.specs.Leaves.{Leaves, LeavesIf};
-ghost use Rattle.queues.specs.Look.{Looks};
+ghost use Rattle.queues.specs.Look.{Passed, Looks};
 ghost use Rattle.queues.specs.Give.{Gives, Gave, lookedHead, sentSub};
-ghost use Rattle.queues.specs.Scan.{tablesFit, countersFit, rowsFit, nextFits, scans, Scans, Onward, Visited, served};
+ghost use Rattle.queues.specs.Scan.{canTake, tablesFit, countersFit, rowsFit, nextFits, scans, Scans, Onward, Visited, served};
 use consumers::Sub;
 use consumers::SubRow;
 use entry::Row;
@@ -27,10 +30,29 @@ struct Looked {
     cursor: u64,
 }
 
-// A consumer's turn in the scan: whether it took an entry, and what that leaves.
+// A consumer's turn in the scan: how many entries it took, none or one, and what that leaves.
 struct Turn {
-    took: bool,
+    took: usize,
     head: Head,
+}
+
+// A place in from..to before which no row is after the cursor.
+fn passed(rows: &[Row], from: usize, to: usize, cursor: u64) -> usize
+    requires { ⌜ (from ≤ to) × (to ≤ length (now rows)) × (to ≤ 512) ⌝ }
+    ensures { λ r. ⌜ Passed from to cursor (now (rows .entry)) r ⌝ }
+{
+    let mut i = from;
+    while 4 <= to - i {
+        let a = rows[i][0];
+        let b = rows[i + 1][0];
+        let c = rows[i + 2][0];
+        let d = rows[i + 3][0];
+        if (cursor < a) | (cursor < b) | (cursor < c) | (cursor < d) {
+            return i;
+        }
+        i += 4;
+    }
+    i
 }
 
 // The earliest of the waiting rows from..to after the cursor that the consumer accepts; expired ones met on the way go.
@@ -41,7 +63,7 @@ fn look(rows: &mut [Row], from: usize, to: usize, s: Sub, clock: u64) -> Looked
     let at = words::signed_of(clock);
     let mut end = to;
     let mut cursor = s.cursor;
-    let mut i = from;
+    let mut i = passed(rows, from, to, s.cursor);
     while i < end {
         let e = entry::entry_of(rows[i]);
         if e.seq <= s.cursor {
@@ -120,8 +142,33 @@ fn give(
     table::insert_row(rows, last, at, entry::inflight_row(e, s.next_dseq));
     consumers::store(subs, i, sent(s, e.seq));
     d.waiting = d.waiting - 1;
-    d.turn = (i + 1) % d.consumers;
+    d.turn = in_turn(i + 1, d.consumers);
     d.count_dispatched()
+}
+
+// x % n, mostly without a division.
+fn in_turn(x: usize, n: usize) -> usize
+    requires { ⌜ 0 < n ⌝ }
+    ensures { λ r. ⌜ r ≡ x % n ⌝ }
+{
+    if x < n {
+        return x;
+    }
+    if x - n < n {
+        return x - n;
+    }
+    x % n
+}
+
+// Whether consumer i is no browser and has credit: else its turn leaves everything as it is.
+fn can_take(subs: &[SubRow], i: usize) -> bool
+    ensures { λ r. ⌜ r ≡ canTake (getD (now (subs .entry)) i []) ⌝ }
+{
+    let s = consumers::load(subs, i);
+    if !s.browser {
+        return s.has_credit();
+    }
+    false
 }
 
 // Consumer i's turn in the scan.
@@ -134,34 +181,28 @@ fn visit(
     clock: u64,
 ) -> Turn
     requires { ⌜ Scans (now subs) d (length (now rows)) (length (now events)) × (i < d .consumers) × (clock ≤ 2 ^ 62) ⌝ }
-    ensures { λ r. ⌜ Visited clock i d (r .took) (r .head) (now (subs .entry)) (now (rows .entry)) (now (events .entry)) (now (subs .exit)) (now (rows .exit)) (now (events .exit)) ⌝ }
+    ensures { λ r. ⌜ Visited clock i d (not (eqb (r .took) 0)) (r .head) (now (subs .entry)) (now (rows .entry)) (now (events .entry)) (now (subs .exit)) (now (rows .exit)) (now (events .exit)) ⌝ }
 {
     let mut s = consumers::load(subs, i);
     if s.browser {
-        return Turn {
-            took: false,
-            head: d,
-        };
+        return Turn { took: 0, head: d };
     }
     if !s.has_credit() {
-        return Turn {
-            took: false,
-            head: d,
-        };
+        return Turn { took: 0, head: d };
     }
     let l = look(rows, d.first_waiting(), d.used, s, clock);
     let seen = after_look(d, l.end);
     if l.chosen {
         let given = give(subs, rows, events, i, s, l.at, seen);
         return Turn {
-            took: true,
+            took: 1,
             head: given,
         };
     }
     s.cursor = l.cursor;
     consumers::store(subs, i, s);
     Turn {
-        took: false,
+        took: 0,
         head: seen,
     }
 }
@@ -183,10 +224,14 @@ fn rounds(
     'dispatch: while 0 < d.waiting {
         let mut k = 0;
         while k < n {
-            let i = (d.turn + k) % n;
+            let i = in_turn(d.turn + k, n);
+            if !can_take(subs, i) {
+                k += 1;
+                continue;
+            }
             let r = visit(subs, rows, events, i, d, clock);
             d = r.head;
-            if r.took {
+            if r.took != 0 {
                 continue 'dispatch;
             }
             k += 1;

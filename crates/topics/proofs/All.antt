@@ -40,6 +40,13 @@ whole now ws i base d subs rows events =
     ended (subsAt topic (take i subs) rows) (take (d .reserved + d .waiting) (drop (base + subRows (drop i ws)) rows)) (d .stats) (take (d .events) events)
     (serveAll now (subsAt topic (drop i ws) (drop base rows)))
 
+-- the consumers that are done, by other words
+pub whole-words : (now : ℕ) (ws : List Row) (i base : ℕ) (d : Head) (subs subs′ rows events : List Row) → subsAt topic (take i subs) rows ≡ subsAt topic (take i subs′) rows
+    → whole now ws i base d subs rows events ≡ whole now ws i base d subs′ rows events
+unfolding whole
+whole-words now ws i base d subs subs′ rows events e =
+    ap (λ (l : List Def.Sub). ended l (take (d .reserved + d .waiting) (drop (base + subRows (drop i ws)) rows)) (d .stats) (take (d .events) events) (serveAll now (subsAt topic (drop i ws) (drop base rows)))) e
+
 -- at the start
 pub whole-start : (now : ℕ) (ws : List Row) (d : Head) (subs rows events : List Row)
     → whole now ws 0 0 d subs rows events ≡ ended [] (take (d .reserved + d .waiting) (drop (subRows ws) rows)) (d .stats) (take (d .events) events) (serveAll now (subsAt topic ws rows))

@@ -1,28 +1,34 @@
 -- What holds while a topic's consumers are served one after the other, and what it says when all are. Assumes nothing.
 use mathlib.Core.Path.{_≡_, refl, sym, ap, ap₂, _∙_}
-use mathlib.Core.Bool.{true, false}
-use mathlib.Core.List.{List, [], _++_, map}
+use mathlib.Core.Bool.{Bool, true, false, _&&_}
+use mathlib.Core.List.{List, [], _∷_, _++_, map}
 use Prim.Native.Nat.{ℕ, suc, _+_, _-_, _≤_, _<_, _^_}
 use native.Mathlib.Omega.{arith}
+use borrow.Author.Tests.{ltb-true, ltb-false}
+use lib.Dec.{ltb}
 use lib.ListN.{length, take, drop, getD, set, length-set}
 use lib.Seq.{length-take-le, getD-take, drop-length, drop-set-lt}
+use Rattle.words.proofs.Tests.{by-test}
 use Rattle.entry.specs.Entry.{entryOf}
 use Rattle.definition.specs.Types.{Kind, topic, Id, Audit}
+use Rattle.definition.specs.Types as Def
 use Rattle.definition.specs.Consumer.{_⊕_}
 use Rattle.definition.specs.Destination.{serveAll, dispatchTopic}
-use Rattle.definition.specs.Layout.{Row, heldAt, subsAt, subRows, eventWords, tablesStrict}
+use Rattle.definition.specs.Layout.{Row, heldAt, inflightOf, heldOf, subsAt, subRows, eventWords, subsStrict, tablesStrict}
 use Rattle.table.proofs.Lists.{same-after, agree-take, agree-drop, agree-later}
 use Rattle.consumers.specs.declared.Sub.{Sub}
-use Rattle.consumers.specs.Consumers.{subOf, subWords}
+use Rattle.consumers.specs.Consumers.{subOf, subWords, subView, creditOf}
 use Rattle.consumers.specs.Seats.{OwnStrict}
 use Rattle.consumers.proofs.Laws.{fitting-at}
+use Rattle.consumers.proofs.Words.{round}
 use Rattle.state.specs.declared.Head.{Head}
 use Rattle.state.specs.State.{headView, strictTables, kindBy}
 use Rattle.state.specs.Fits.{Fits}
 use Rattle.state.specs.Leaves.{Leaves}
-use Rattle.topics.specs.Topics.{seen, ran, Fine, Kept, moved, Dispatched}
-use Rattle.topics.proofs.All.{Whole, whole, whole-start, whole-end, Ready, ready-turn, ends-turn, strict-turn, whole-turn}
-use Rattle.consumers.proofs.Line.{left-size, LineStrict, line-start, line-end}
+use Rattle.topics.specs.Topics.{canServe, seen, ran, Fine, Kept, moved, Dispatched}
+use Rattle.topics.proofs.All.{Whole, whole, whole-words, whole-start, whole-end, Ready, ready-turn, ends-turn, strict-turn, whole-turn}
+use Rattle.topics.proofs.Turn.{ran-none, ran-stop}
+use Rattle.consumers.proofs.Line.{stored-next, same-next, rows-one, subs-done, strict-done, left-size, LineStrict, line-start, line-end, line-words, line-own}
 
 pub record Round (now : ℕ) (subs₀ rows₀ events₀ : List Row) (d₀ : Head) (subs rows events : List Row) (d : Head) (base i : ℕ) : Type 0 where
   pub within : i ≤ d₀ .consumers
@@ -118,6 +124,80 @@ module _ (now : ℕ) (subs₀ rows₀ events₀ : List Row) (d₀ : Head) (fits 
             strict = λ h. rw count (strict-turn now ws i base d₀ d subs rows events rows′ events′ t r here b (g .ready) (g .ends) k v (rw count at (g .strict h)) (rw q at own));
             said = whole-turn now ws i base d₀ d subs rows events rows′ events′ t r here b (g .ready) (g .ends) k v ∙ g .said;
           })
+
+      -- one that cannot be served is passed over
+      module _ (s : Sub) (e : s ≡ subOf (getD subs i [])) (not-served : canServe (getD subs i []) ≡ false) (clock : now ≤ 2 ^ 62) where
+        abbrev x : Row
+        x = getD subs i []
+
+        abbrev end : ℕ
+        end = base + s .inflight + s .held
+
+        fine : Fine (length rows) (length events) base s d now
+        fine = round-fine s e clock
+
+        stays : seen base s d rows events ≡ ran now (seen base s d rows events)
+        stays = by-test (ltb 0 (s .held))
+            (λ t. sym (ran-stop now base s d rows events fine (ltb-true 0 (s .held) t) (sym (ap (λ (b : Bool). b && creditOf s) t) ∙ ap (λ (y : Sub). ltb 0 (y .held) && creditOf y) e ∙ not-served)))
+            (λ t. sym (ran-none now base s d rows events fine (ltb-false 0 (s .held) t)))
+
+        kept : Kept base s d s d
+        kept = let f = fine .rows in record { rows = omega arith; used = omega arith; tail = refl; own = omega arith; events = omega arith; sent = omega arith; expired = omega arith; dispatched = omega arith; head = refl }
+
+        abbrev stored : List Row
+        stored = set subs i (subWords s)
+
+        turn : Round now subs₀ rows₀ events₀ d₀ stored rows events d end (i + 1)
+        turn = round-turn s s d stored rows events e refl refl refl stays refl kept refl (λ o. o)
+
+        long : i < length subs
+        long = omega (arith, fits .subs-long, fits .consumers, g .same-subs)
+
+        ends-same : end ≡ subRows (take (i + 1) subs)
+        unfolding subOf
+        ends-same =
+            let q : subRows (take (i + 1) subs) ≡ subRows (take i subs) + inflightOf x + heldOf x = ap subRows (same-next subs i long) ∙ rows-one (take i subs) x in
+            let f : s .inflight ≡ inflightOf x = ap (λ (y : Sub). y .inflight) e in
+            let h : s .held ≡ heldOf x = ap (λ (y : Sub). y .held) e in
+            omega (arith, g .ends)
+
+        -- the same consumer, by its own words and by those of the view
+        front : subsAt topic (take (i + 1) subs) rows ≡ subsAt topic (take (i + 1) stored) rows
+        unfolding subOf subWords
+        front =
+            let y : Def.Sub = subView topic s (take (s .inflight) (drop base rows)) (take (s .held) (drop (base + s .inflight) rows)) in
+            ap (λ (l : List Row). subsAt topic l rows) (same-next subs i long)
+            ∙ subs-done topic (take i subs) x base rows rows y (g .ends) refl (ap (λ (z : Sub). subView topic z (take (z .inflight) (drop base rows)) (take (z .held) (drop (base + z .inflight) rows))) (sym e))
+            ∙ sym (subs-done topic (take i subs) (subWords s) base rows rows y (g .ends) refl (ap (λ (z : Sub). subView topic z (take (s .inflight) (drop base rows)) (take (s .held) (drop (base + s .inflight) rows))) (round s)))
+            ∙ sym (ap (λ (l : List Row). subsAt topic l rows) (stored-next subs i (subWords s) long))
+
+        strict-same : strictTables d₀ subs₀ rows₀ ≡ true → LineStrict (d₀ .reserved + d₀ .waiting) ws subs (i + 1) end rows
+        strict-same h =
+            let n : ℕ = d₀ .reserved + d₀ .waiting in
+            let l : LineStrict n ws subs i base rows = g .strict h in
+            let own : OwnStrict base (inflightOf w) (heldOf w) rows = line-own n ws subs i base rows here l in
+            let t : LineStrict n ws stored (i + 1) end rows = turn .strict h in
+            record {
+              done = ap (λ (y : List Row). subsStrict y rows) (same-next subs i long ∙ ap (λ (y : Row). take i subs ++ (y ∷ [])) row-is)
+                  ∙ strict-done (take i subs) w base rows rows (g .ends) refl (l .done) (record { words = line-words n ws subs i base rows here l; flying = own .flying; held = own .held });
+              left = t .left;
+              others = t .others;
+            }
+
+        pub round-pass : Round now subs₀ rows₀ events₀ d₀ subs rows events d end (i + 1)
+        round-pass = record {
+          within = omega arith;
+          same-subs = g .same-subs;
+          same-rows = g .same-rows;
+          same-events = g .same-events;
+          rest = agree-later i (i + 1) subs subs₀ (omega arith) (g .rest);
+          ready = turn .ready;
+          ends = ends-same;
+          past = g .past;
+          later = g .later;
+          strict = strict-same;
+          said = whole-words now ws (i + 1) end d subs stored rows events front ∙ turn .said;
+        }
 
     -- all are served
     module _ (done : d₀ .consumers ≤ i) (plain : d₀ .queue ≡ false) where

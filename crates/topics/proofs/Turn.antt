@@ -1,10 +1,12 @@
 -- A turn of `serve_topic`: what the definition says of the tables before it, it says of the tables after it. Assumes nothing.
 use mathlib.Core.Path.{_≡_, refl, sym, ap, ap₂, _∙_}
-use mathlib.Core.Bool.{Bool, true, false}
+use mathlib.Core.Bool.{Bool, true, false, _&&_}
 use mathlib.Core.List.{List, [], _∷_, _++_, append-nil, map, map-append}
 use mathlib.Core.Option.{Option}
 use Prim.Native.Nat.{ℕ, _+_, _-_, _≤_, _<_}
 use native.Mathlib.Omega.{arith}
+use borrow.Author.Tests.{lt-ltb, le-ltb}
+use lib.Dec.{ltb}
 use lib.IntN.{pos}
 use lib.ListN.{length, take, drop, getD, set, length-drop, length-set}
 use lib.Seq.{length-take-le, drop-set-lt, drop-drop}
@@ -16,7 +18,7 @@ use Rattle.definition.specs.Types as Def
 use Rattle.definition.specs.Consumer.{hasCredit, addExpired, addDispatched, inflightOf, send, sent}
 use Rattle.definition.specs.Layout.{Row, inflightAt, browserAt, eventWords, flyingStrict}
 use Rattle.consumers.specs.declared.Sub.{Sub}
-use Rattle.consumers.specs.Consumers.{subView, creditOf}
+use Rattle.consumers.specs.Consumers.{subOf, subView, creditOf}
 use Rattle.consumers.specs.Seats.{OwnStrict}
 use Rattle.consumers.proofs.Laws.{credit}
 use Rattle.state.specs.declared.Head.{Head}
@@ -27,7 +29,7 @@ use Rattle.table.specs.Table.{closeGap, flownRow}
 use Rattle.table.proofs.Laws.{close-after, close-length}
 use Rattle.table.proofs.Rows.{flown-row}
 use Rattle.table.proofs.Strict.{flown-strict}
-use Rattle.topics.specs.Topics.{Parts, partsOf, Seen, seen, stepped, ran, sentSub, Fine, Kept}
+use Rattle.topics.specs.Topics.{canServe, Parts, partsOf, Seen, seen, stepped, ran, sentSub, Fine, Kept}
 use Rattle.topics.proofs.Serve.{serve-none, serve-stop, serve-lost, serve-sent, ran-rest, ran-turn}
 use Rattle.topics.proofs.Parts.{held-first, parts-lost, parts-sent, first-strict, strict-lost, strict-sent}
 
@@ -245,3 +247,12 @@ module _ (now base : ℕ) (rows₀ events₀ : List Row) (s₀ : Sub) (d₀ : He
                 let e = first-strict base (s .inflight) (s .held) (d .used) rows some (f .rows) (omega arith) z .0 in
                 strict-sent base (s .inflight) (s .held) (d .used) rows some (f .rows) (omega arith) z x (ap flyingStrict r ∙ flown-strict (s .«next_dseq») row e);
           })
+
+-- ---- whether a consumer can be served
+
+module _ (w : Row) (s : Sub) (is : s ≡ subOf w) where
+  pub serves-some : 0 < s .held → creditOf s ≡ canServe w
+  serves-some h = ap creditOf is ∙ sym (ap (λ (b : Bool). b && creditOf (subOf w)) (ap (λ (x : Sub). ltb 0 (x .held)) (sym is) ∙ lt-ltb 0 (s .held) h))
+
+  pub serves-none : s .held ≤ 0 → false ≡ canServe w
+  serves-none h = sym (ap (λ (b : Bool). b && creditOf (subOf w)) (ap (λ (x : Sub). ltb 0 (x .held)) (sym is) ∙ le-ltb 0 (s .held) h))

@@ -1,8 +1,9 @@
 -- A topic's dispatch on the tables: one consumer's part of them, and what the definition makes of it. Assumes nothing.
 use mathlib.Core.Path.{_≡_}
-use mathlib.Core.Bool.{false}
+use mathlib.Core.Bool.{Bool, false, _&&_}
 use mathlib.Core.List.{List, _++_, map}
 use Prim.Native.Nat.{ℕ, _+_, _-_, _≤_, _<_, _^_}
+use lib.Dec.{ltb}
 use lib.ListN.{take, drop}
 use Rattle.stats.specs.declared.Stats.{Stats}
 use Rattle.definition.specs.Types.{topic}
@@ -10,8 +11,12 @@ use Rattle.definition.specs.Types as Def
 use Rattle.definition.specs.Consumer.{_⊕_, Step, serveTopic}
 use Rattle.definition.specs.Layout.{Row, eventWords}
 use Rattle.consumers.specs.declared.Sub.{Sub}
-use Rattle.consumers.specs.Consumers.{subView}
+use Rattle.consumers.specs.Consumers.{subOf, subView, creditOf}
 use Rattle.state.specs.declared.Head.{Head}
+
+-- it holds something, and has credit: else serving it leaves everything as it is
+abbrev pub canServe : Row → Bool
+canServe w = ltb 0 (subOf w .held) && creditOf (subOf w)
 
 -- the rows in use about one consumer: those before its own, its own in flight and held, those after them
 pub record Parts : Type 0 where

@@ -3,12 +3,13 @@ ghost use mathlib.Core.Path.{_≡_};
 ghost use Prim.Native.Nat.{_+_, _≤_, _<_, _^_};
 ghost use mathlib.Core.Bool.{false, not, _&&_};
 ghost use lib.Dec.{leb};
-ghost use lib.ListN.{length, drop};
+ghost use mathlib.Core.List.{[]};
+ghost use lib.ListN.{length, drop, getD};
 ghost use Rattle.definition.specs.Destination.{dispatchTopic};
 ghost use Rattle.consumers.specs.Seats.{OwnStrict};
 ghost use Rattle.state.specs.Fits.{Fits, fits};
 ghost use Rattle.state.specs.Leaves.{Leaves, LeavesIf};
-ghost use Rattle.topics.specs.Topics.{Fine, Kept, seen, ran, sentSub, Dispatched};
+ghost use Rattle.topics.specs.Topics.{canServe, Fine, Kept, seen, ran, sentSub, Dispatched};
 use consumers::Sub;
 use consumers::SubRow;
 use entry::Row;
@@ -74,6 +75,17 @@ fn serve_topic(
     Served { sub: s, head: d }
 }
 
+// Whether consumer i holds something and has credit: else serving it leaves everything as it is.
+fn can_serve(subs: &[SubRow], i: usize) -> bool
+    ensures { λ r. ⌜ r ≡ canServe (getD (now (subs .entry)) i []) ⌝ }
+{
+    let s = consumers::load(subs, i);
+    if 0 < s.held {
+        return s.has_credit();
+    }
+    false
+}
+
 // Each consumer in turn; base is where its rows begin.
 fn serve_all(
     subs: &mut [SubRow],
@@ -91,12 +103,17 @@ fn serve_all(
     let mut i = 0;
     while i < n {
         let s = consumers::load(subs, i);
-        let r = serve_topic(rows, events, base, s, d, clock);
-        let t = r.sub;
-        d = r.head;
-        base = base + t.inflight + t.held;
-        consumers::store(subs, i, t);
-        i += 1;
+        if can_serve(subs, i) {
+            let r = serve_topic(rows, events, base, s, d, clock);
+            let t = r.sub;
+            d = r.head;
+            base = base + t.inflight + t.held;
+            consumers::store(subs, i, t);
+            i += 1;
+        } else {
+            base = base + s.inflight + s.held;
+            i += 1;
+        }
     }
     d
 }

@@ -68,16 +68,16 @@ sub-d c =
     let w : p .result .waiting ≡ a .before .waiting = ap (λ (x : Head). x .waiting) is in
     omega arith
 
-add-d : tie.Need-add-d
-add-d c =
+add-in-turn : tie.Need-add-in-turn
+add-in-turn c =
     let pre = c .before .before .before .before .before .before .before .before .before .before .before .before .before .before .before .before .before .before .pre in
     omega arith
 
-rem-d : tie.Need-rem-d
-rem-d c =
-    let a = c .before .before .before .before .before .before .before .before .before .before .before .before .before .before .before .before .before .before .before .args in
-    let pre = c .before .before .before .before .before .before .before .before .before .before .before .before .before .before .before .before .before .before .before .pre in
-    let p = c .before .before .before .before .before .before .before .before .before .before .before .before .before .before .push-message in
+in-turn-requires : tie.Need-in-turn-requires
+in-turn-requires c κs =
+    let a = c .before .before .before .before .before .before .before .before .before .before .before .before .before .before .before .before .before .before .args in
+    let pre = c .before .before .before .before .before .before .before .before .before .before .before .before .before .before .before .before .before .before .pre in
+    let p = c .before .before .before .before .before .before .before .before .before .before .before .before .before .push-message in
     let is : p .result ≡ withEvents (a .before .events + 1) (a .before) = p .ensures .0 ∙ pushed-room (a .before) (length (now (a .events))) (pre .room) in
     let w : p .result .consumers ≡ a .before .consumers = ap (λ (x : Head). x .consumers) is in
     omega arith
@@ -112,7 +112,9 @@ returns c =
       row = row .result;
       flies = ap inflightAt (row .ensures) ∙ flown (e .result) (a .s .«next_dseq») fits ∙ ap (inflightOf (a .s .«next_dseq»)) was;
       strict = ap flyingStrict (row .ensures) ∙ sent-strict (e .result) (a .s .«next_dseq») (fits .redelivery);
-      head = c .count-dispatched .ensures ∙ ap (λ (x : Head). withStats (withDispatched (x .stats)) (withTurn ((a .i + 1) % x .consumers) (withWaiting (x .waiting - 1) x))) is;
+      head = c .count-dispatched .ensures
+          ∙ ap (λ (n : ℕ). withStats (withDispatched (p .result .stats)) (withTurn n (withWaiting (p .result .waiting - 1) (p .result)))) (c .before .in-turn .ensures)
+          ∙ ap (λ (x : Head). withStats (withDispatched (x .stats)) (withTurn ((a .i + 1) % x .consumers) (withWaiting (x .waiting - 1) x))) is;
       subs-is = c .before .before .before .before .store .ensures ∙ ap (λ (x : Sub). set (now (a .subs)) (a .i) (subWords x)) (c .before .before .before .before .before .sent .ensures ∙ ap (λ (x : Entry). sentSub (x .seq) (a .s)) was);
       rows-is = c .before .before .before .before .before .before .before .before .insert-row .ensures ∙ ap (λ (n : ℕ). insertRow (n + a .s .inflight) (a .at) (row .result) (now (a .rows))) from;
       events-is = p .ensures .1 ∙ ap (λ (z : ℤ). set (now (a .events)) (a .before .events) (eventWords (message (idOf (a .s .conn) (a .s .session) (a .s .value)) (e .result .seq) z))) (toZ-ofZ w32 (e .result .redelivery) (fits .redelivery))
@@ -134,8 +136,8 @@ give-spec =
     sent-requires
     store-requires
     sub-d
-    add-d
-    rem-d
+    add-in-turn
+    in-turn-requires
     count-dispatched-requires
     same-length
     same-length-2

@@ -6,7 +6,7 @@ use denote.Ref.{now}
 use mir.Syntax.{w64}
 use mir.Val.{SFits}
 use Rattle.entry.specs.Entry.{expired}
-use Rattle.queues.proofs.Looking.{Looking, looking-start, looking-none, looking-before, looking-late, looking-taken, looking-refused, by-clock}
+use Rattle.queues.proofs.Looking.{Looking, looking-from, looking-none, looking-before, looking-late, looking-taken, looking-refused, by-clock}
 use Rattle.queues.proofs.look.Statement.{statement}
 use Rattle.queues.proofs.look.Tie as tie
 
@@ -19,11 +19,14 @@ abbrev μ-loop : tie.MeasureT-loop
 signed-of-requires : tie.Need-signed-of-requires Inv-loop μ-loop
 signed-of-requires c κs = search needs
 
+passed-requires : tie.Need-passed-requires Inv-loop μ-loop
+passed-requires c κs = search needs
+
 loop-holds : tie.Need-loop-holds Inv-loop μ-loop
 loop-holds c =
-    let a = c .before .args in
-    let pre = c .before .pre in
-    looking-start (a .clock) (a .s) (a .from) (a .to) (now (a .rows)) (pre .0) (pre .1)
+    let a = c .before .before .before .args in
+    let pre = c .before .before .before .pre in
+    looking-from (a .clock) (a .s) (a .from) (a .to) (now (a .rows)) (pre .0) (pre .1) (c .passed .result) (c .passed .ensures)
 
 mul-entry-of : tie.Need-mul-entry-of Inv-loop μ-loop
 mul-entry-of c = search needs
@@ -43,8 +46,8 @@ loop-less c = search needs
 loop-again : tie.Need-loop-again Inv-loop μ-loop
 loop-again c =
     let l = c .before .before .before .before .before .before .loop in
-    let a = c .before .before .before .before .before .before .before .before .args in
-    let pre = c .before .before .before .before .before .before .before .before .pre in
+    let a = c .before .before .before .before .before .before .before .before .before .before .args in
+    let pre = c .before .before .before .before .before .before .before .before .before .before .pre in
     let e = c .before .before .before .entry-of in
     let h = c .if1 .taken in
     looking-before (a .clock) (a .s) (a .from) (a .to) (now (a .rows)) (pre .0) (pre .1) (l .rows) (l .end) (l .cursor) (l .i) (l .inv) (c .before .before .before .before .before .loop-test .taken) (rw (e .ensures) at h)
@@ -64,9 +67,9 @@ loop-less-2 c = search needs
 loop-again-2 : tie.Need-loop-again-2 Inv-loop μ-loop
 loop-again-2 c =
     let l = c .before .before .before .before .before .before .before .before .before .before .before .loop in
-    let a = c .before .before .before .before .before .before .before .before .before .before .before .before .before .args in
-    let pre = c .before .before .before .before .before .before .before .before .before .before .before .before .before .pre in
-    let clock = c .before .before .before .before .before .before .before .before .before .before .before .before .signed-of in
+    let a = c .before .before .before .before .before .before .before .before .before .before .before .before .before .before .before .args in
+    let pre = c .before .before .before .before .before .before .before .before .before .before .before .before .before .before .before .pre in
+    let clock = c .before .before .before .before .before .before .before .before .before .before .before .before .before .before .signed-of in
     let e = c .before .before .before .before .before .before .before .before .entry-of in
     let f : SFits w64 (clock .result) = search needs in
     let over = sym (by-clock (a .clock) (clock .result) (e .result) (pre .3) f (clock .ensures)) ∙ sym (c .before .before .before .before .expired .ensures) ∙ c .before .before .before .if2 .taken in
@@ -82,9 +85,9 @@ same-length c = search needs
 returns : tie.Need-returns Inv-loop μ-loop
 returns c =
     let l = c .before .before .before .before .before .before .before .before .before .before .loop in
-    let a = c .before .before .before .before .before .before .before .before .before .before .before .before .args in
-    let pre = c .before .before .before .before .before .before .before .before .before .before .before .before .pre in
-    let clock = c .before .before .before .before .before .before .before .before .before .before .before .signed-of in
+    let a = c .before .before .before .before .before .before .before .before .before .before .before .before .before .before .args in
+    let pre = c .before .before .before .before .before .before .before .before .before .before .before .before .before .before .pre in
+    let clock = c .before .before .before .before .before .before .before .before .before .before .before .before .before .signed-of in
     let e = c .before .before .before .before .before .before .before .entry-of in
     let f : SFits w64 (clock .result) = search needs in
     let over = sym (by-clock (a .clock) (clock .result) (e .result) (pre .3) f (clock .ensures)) ∙ sym (c .before .before .before .expired .ensures) ∙ c .before .before .if2 .left in
@@ -101,9 +104,9 @@ loop-less-3 c = search needs
 loop-again-3 : tie.Need-loop-again-3 Inv-loop μ-loop
 loop-again-3 c =
     let l = c .before .before .before .before .before .before .before .before .before .before .loop in
-    let a = c .before .before .before .before .before .before .before .before .before .before .before .before .args in
-    let pre = c .before .before .before .before .before .before .before .before .before .before .before .before .pre in
-    let clock = c .before .before .before .before .before .before .before .before .before .before .before .signed-of in
+    let a = c .before .before .before .before .before .before .before .before .before .before .before .before .before .before .args in
+    let pre = c .before .before .before .before .before .before .before .before .before .before .before .before .before .before .pre in
+    let clock = c .before .before .before .before .before .before .before .before .before .before .before .before .before .signed-of in
     let e = c .before .before .before .before .before .before .before .entry-of in
     let f : SFits w64 (clock .result) = search needs in
     let over = sym (by-clock (a .clock) (clock .result) (e .result) (pre .3) f (clock .ensures)) ∙ sym (c .before .before .before .expired .ensures) ∙ c .before .before .if2 .left in
@@ -117,8 +120,8 @@ same-length-2 c = search needs
 returns-2 : tie.Need-returns-2 Inv-loop μ-loop
 returns-2 c =
     let l = c .before .loop in
-    let a = c .before .before .before .args in
-    let pre = c .before .before .before .pre in
+    let a = c .before .before .before .before .before .args in
+    let pre = c .before .before .before .before .before .pre in
     looking-none (a .clock) (a .s) (a .from) (a .to) (now (a .rows)) (pre .0) (pre .1) (l .rows) (l .end) (l .cursor) (l .i) (l .inv) (c .loop-test .left)
 
 pub look-spec : {M : Type 1} → statement M
@@ -128,6 +131,7 @@ look-spec =
     Inv-loop
     μ-loop
     signed-of-requires
+    passed-requires
     loop-holds
     mul-entry-of
     slice-copy-out-entry-of

@@ -1,7 +1,8 @@
 -- `topics::serve_all` meets its contract. Assumes nothing.
+use mathlib.Core.Path.{sym, _∙_}
 use Prim.Native.Nat.{_-_}
 use denote.Ref.{now}
-use Rattle.topics.proofs.Round.{Round, round-start, round-fine, round-turn, round-end}
+use Rattle.topics.proofs.Round.{Round, round-start, round-fine, round-turn, round-pass, round-end}
 use native.Mathlib.Omega.{arith}
 use borrow.Author.Needs.{needs}
 use Rattle.topics.proofs.serve_all.Statement.{statement}
@@ -19,25 +20,28 @@ loop-holds c = let a = c .args in round-start (a .clock) (now (a .subs)) (now (a
 load-requires : tie.Need-load-requires Inv-loop μ-loop
 load-requires c κs = search needs
 
+can-serve-requires : tie.Need-can-serve-requires Inv-loop μ-loop
+can-serve-requires c κs = search needs
+
 serve-topic-requires : tie.Need-serve-topic-requires Inv-loop μ-loop
 serve-topic-requires c κs =
-    let l = c .before .before .before .before .before .loop in
-    let a = c .before .before .before .before .before .before .args in
-    let pre = c .before .before .before .before .before .before .pre in
-    round-fine (a .clock) (now (a .subs)) (now (a .rows)) (now (a .events)) (a .before) (pre .0) (l .subs) (l .rows) (l .events) (l .d) (l .base) (l .i) (l .inv) (c .before .before .before .before .loop-test .taken) _ (c .before .before .load .ensures) (pre .2)
+    let l = c .before .before .before .before .before .before .before .before .loop in
+    let a = c .before .before .before .before .before .before .before .before .before .args in
+    let pre = c .before .before .before .before .before .before .before .before .before .pre in
+    round-fine (a .clock) (now (a .subs)) (now (a .rows)) (now (a .events)) (a .before) (pre .0) (l .subs) (l .rows) (l .events) (l .d) (l .base) (l .i) (l .inv) (c .before .before .before .before .before .before .before .loop-test .taken) _ (c .before .before .before .before .before .load .ensures) (pre .2)
 
 add-base : tie.Need-add-base Inv-loop μ-loop
 add-base c =
     let k = c .before .before .before .before .before .serve-topic .ensures .1 .1 .0 in
-    let f = c .before .before .before .before .before .before .before .before .before .before .before .before .pre .0 in
-    let r = c .before .before .before .before .before .before .before .before .before .before .before .loop .inv .ready in
+    let f = c .before .before .before .before .before .before .before .before .before .before .before .before .before .before .before .pre .0 in
+    let r = c .before .before .before .before .before .before .before .before .before .before .before .before .before .before .loop .inv .ready in
     omega arith
 
 add-base-2 : tie.Need-add-base-2 Inv-loop μ-loop
 add-base-2 c =
     let k = c .before .before .before .before .before .before .serve-topic .ensures .1 .1 .0 in
-    let f = c .before .before .before .before .before .before .before .before .before .before .before .before .before .pre .0 in
-    let r = c .before .before .before .before .before .before .before .before .before .before .before .before .loop .inv .ready in
+    let f = c .before .before .before .before .before .before .before .before .before .before .before .before .before .before .before .before .pre .0 in
+    let r = c .before .before .before .before .before .before .before .before .before .before .before .before .before .before .before .loop .inv .ready in
     omega arith
 
 store-requires : tie.Need-store-requires Inv-loop μ-loop
@@ -45,22 +49,60 @@ store-requires c κs = search needs
 
 add-i : tie.Need-add-i Inv-loop μ-loop
 add-i c =
-    let f = c .before .before .before .before .before .before .before .before .before .before .before .before .before .before .before .before .pre .0 in
-    let h = c .before .before .before .before .before .before .before .before .before .before .before .before .before .before .loop-test .taken in
+    let f = c .before .before .before .before .before .before .before .before .before .before .before .before .before .before .before .before .before .before .before .pre .0 in
+    let h = c .before .before .before .before .before .before .before .before .before .before .before .before .before .before .before .before .before .loop-test .taken in
     omega arith
 
 loop-less : tie.Need-loop-less Inv-loop μ-loop
 loop-less c =
-    let h = c .before .before .before .before .before .before .before .before .before .before .before .before .before .before .loop-test .taken in
+    let h = c .before .before .before .before .before .before .before .before .before .before .before .before .before .before .before .before .before .loop-test .taken in
     omega arith
 
 loop-again : tie.Need-loop-again Inv-loop μ-loop
 loop-again c =
-    let l = c .before .before .before .before .before .before .before .before .before .before .before .before .before .before .before .loop in
-    let a = c .before .before .before .before .before .before .before .before .before .before .before .before .before .before .before .before .args in
-    let pre = c .before .before .before .before .before .before .before .before .before .before .before .before .before .before .before .before .pre in
+    let l = c .before .before .before .before .before .before .before .before .before .before .before .before .before .before .before .before .before .before .loop in
+    let a = c .before .before .before .before .before .before .before .before .before .before .before .before .before .before .before .before .before .before .before .args in
+    let pre = c .before .before .before .before .before .before .before .before .before .before .before .before .before .before .before .before .before .before .before .pre in
     let v = c .before .before .before .before .before .before .before .before .before .serve-topic in
-    round-turn (a .clock) (now (a .subs)) (now (a .rows)) (now (a .events)) (a .before) (pre .0) (l .subs) (l .rows) (l .events) (l .d) (l .base) (l .i) (l .inv) (c .before .before .before .before .before .before .before .before .before .before .before .before .before .before .loop-test .taken) _ _ _ _ _ _ (c .before .before .before .before .before .before .before .before .before .before .before .before .load .ensures) (c .before .store .ensures) (v .kept .0) (v .kept .1 .0) (v .ensures .0) (v .ensures .1 .0) (v .ensures .1 .1 .0) (v .ensures .1 .1 .1 .0) (v .ensures .1 .1 .1 .1)
+    round-turn (a .clock) (now (a .subs)) (now (a .rows)) (now (a .events)) (a .before) (pre .0) (l .subs) (l .rows) (l .events) (l .d) (l .base) (l .i) (l .inv) (c .before .before .before .before .before .before .before .before .before .before .before .before .before .before .before .before .before .loop-test .taken) _ _ _ _ _ _ (c .before .before .before .before .before .before .before .before .before .before .before .before .before .before .before .load .ensures) (c .before .store .ensures) (v .kept .0) (v .kept .1 .0) (v .ensures .0) (v .ensures .1 .0) (v .ensures .1 .1 .0) (v .ensures .1 .1 .1 .0) (v .ensures .1 .1 .1 .1)
+
+add-base-3 : tie.Need-add-base-3 Inv-loop μ-loop
+add-base-3 c =
+    let l = c .before .before .before .before .before .before .before .loop in
+    let a = c .before .before .before .before .before .before .before .before .args in
+    let pre = c .before .before .before .before .before .before .before .before .pre in
+    let f = round-fine (a .clock) (now (a .subs)) (now (a .rows)) (now (a .events)) (a .before) (pre .0) (l .subs) (l .rows) (l .events) (l .d) (l .base) (l .i) (l .inv) (c .before .before .before .before .before .before .loop-test .taken) _ (c .before .before .before .before .load .ensures) (pre .2) in
+    let r = f .rows in
+    let u = f .used in
+    omega arith
+
+add-base-4 : tie.Need-add-base-4 Inv-loop μ-loop
+add-base-4 c =
+    let l = c .before .before .before .before .before .before .before .before .loop in
+    let a = c .before .before .before .before .before .before .before .before .before .args in
+    let pre = c .before .before .before .before .before .before .before .before .before .pre in
+    let f = round-fine (a .clock) (now (a .subs)) (now (a .rows)) (now (a .events)) (a .before) (pre .0) (l .subs) (l .rows) (l .events) (l .d) (l .base) (l .i) (l .inv) (c .before .before .before .before .before .before .before .loop-test .taken) _ (c .before .before .before .before .before .load .ensures) (pre .2) in
+    let r = f .rows in
+    let u = f .used in
+    omega arith
+
+add-i-2 : tie.Need-add-i-2 Inv-loop μ-loop
+add-i-2 c =
+    let f = c .before .before .before .before .before .before .before .before .before .pre .0 in
+    let h = c .before .before .before .before .before .before .before .loop-test .taken in
+    omega arith
+
+loop-less-2 : tie.Need-loop-less-2 Inv-loop μ-loop
+loop-less-2 c =
+    let h = c .before .before .before .before .before .before .before .loop-test .taken in
+    omega arith
+
+loop-again-2 : tie.Need-loop-again-2 Inv-loop μ-loop
+loop-again-2 c =
+    let l = c .before .before .before .before .before .before .before .before .loop in
+    let a = c .before .before .before .before .before .before .before .before .before .args in
+    let pre = c .before .before .before .before .before .before .before .before .before .pre in
+    round-pass (a .clock) (now (a .subs)) (now (a .rows)) (now (a .events)) (a .before) (pre .0) (l .subs) (l .rows) (l .events) (l .d) (l .base) (l .i) (l .inv) (c .before .before .before .before .before .before .before .loop-test .taken) _ (c .before .before .before .before .before .load .ensures) (sym (c .before .before .before .can-serve .ensures) ∙ c .before .before .if1 .left) (pre .2)
 
 same-length : tie.Need-same-length Inv-loop μ-loop
 same-length c = search needs
@@ -86,6 +128,7 @@ serve-all-spec =
     μ-loop
     loop-holds
     load-requires
+    can-serve-requires
     serve-topic-requires
     add-base
     add-base-2
@@ -93,6 +136,11 @@ serve-all-spec =
     add-i
     loop-less
     loop-again
+    add-base-3
+    add-base-4
+    add-i-2
+    loop-less-2
+    loop-again-2
     same-length
     same-length-2
     same-length-3
