@@ -20,7 +20,7 @@ use Rattle.definition.specs.Consumer.{_⊕_, Step, zeroStats, addDiscarded}
 use Rattle.definition.specs.Destination.{insert, fanOut}
 use Rattle.definition.specs.Layout.{Row, browserAt, entryStrict}
 use Rattle.definition.proofs.Tests.{by-if}
-use Rattle.definition.proofs.Local.{⊕-zero}
+use Rattle.definition.proofs.Local.{⊕-zero, ⊕-assoc}
 use Rattle.table.specs.Table.{placeFrom, placeOf, insertRow, closed, closeGap}
 use Rattle.table.proofs.Search.{place-from-within}
 use Rattle.table.proofs.Lists.{guarded, parts}
@@ -33,7 +33,7 @@ use Rattle.state.specs.declared.Head.{Head}
 use Rattle.state.specs.State.{withStats, withUsed}
 use Rattle.state.proofs.Counts.{discarded-plain}
 use Rattle.storing.specs.Storing.{holds}
-use Rattle.storing.specs.Copies.{withHeld, overLimit, limitedSub, limitedHead, moreSub, moreHead, putIn, copiedSub, copiedHead, copiedRows}
+use Rattle.storing.specs.Copies.{withHeld, overLimit, limitedSub, limitedHead, moreSub, moreHead, putIn, copiedSub, copiedHead, copiedRows, countedBy, Copies}
 use Rattle.storing.proofs.Insert.{insert-placed}
 use Rattle.storing.proofs.Parts.{withRow, with-row-length, own-row-strict, with-row-strict, put-in}
 
@@ -56,27 +56,50 @@ map-drop (suc n) (r ∷ l) = map-drop n l
 pub over-most : (limit n : ℕ) → overLimit limit n ≤ n
 over-most limit n = by-test (eqb limit 0) (λ t. rw t (omega arith)) (λ t. rw t (omega arith))
 
--- nothing is over the limit
-pub none-over : (s : Sub) (d : Head) → overLimit (d .«topic_limit») (s .held) ≡ 0 → d .stats .discarded < 2 ^ 63 → (limitedSub s d ≡ s) × (limitedHead s d ≡ d)
-none-over s d z h =
-    let k : ℕ = overLimit (d .«topic_limit») (s .held) in
-    let held : s .held - k ≡ s .held = omega arith in
-    let used : d .used - k ≡ d .used = omega arith in
-    let counted : withDiscardedBy (d .stats) k ≡ d .stats = discarded-plain (d .stats) k (omega arith) ∙ ap (λ (n : ℕ). d .stats ⊕ addDiscarded n) z ∙ ⊕-zero (d .stats) in
-    (ap (λ (n : ℕ). withHeld n s) held, ap₂ (λ (x : Stats) (n : ℕ). withStats x (withUsed n d)) counted used)
+-- nothing was discarded, and as many rows are in use
+pub counted-none : (d : Head) → d .stats .discarded < 2 ^ 63 → countedBy (d .used) 0 d ≡ d
+counted-none d h = ap (λ (x : Stats). withStats x d) (discarded-plain (d .stats) 0 (omega arith) ∙ ⊕-zero (d .stats))
+
+-- what is discarded in two parts
+pub counted-twice : (d : Head) (u v m n : ℕ) → d .stats .discarded + (m + n) ≤ 2 ^ 63 → countedBy v n (countedBy u m d) ≡ countedBy v (m + n) d
+counted-twice d u v m n h =
+    ap (λ (x : Stats). withStats x (withUsed v d))
+    (ap (λ (x : Stats). withDiscardedBy x n) (discarded-plain (d .stats) m (omega arith))
+    ∙ discarded-plain (d .stats ⊕ addDiscarded m) n (omega arith)
+    ∙ ⊕-assoc (d .stats) (addDiscarded m) (addDiscarded n)
+    ∙ sym (discarded-plain (d .stats) (m + n) (omega arith)))
 
 -- the copy by the test
 module _ (e : Entry) (base : ℕ) (s : Sub) (d : Head) (rows : List Row) where
-  pub copied-no : acceptsOf s e ≡ false → (s ≡ copiedSub e s d) × (d ≡ copiedHead e s d) × (rows ≡ copiedRows e base s d rows)
+  copied-no : acceptsOf s e ≡ false → (s ≡ copiedSub e s d) × (d ≡ copiedHead e s d) × (rows ≡ copiedRows e base s d rows)
   unfolding copiedSub copiedHead copiedRows
   copied-no h = rw h (refl, refl, refl)
 
-  pub copied-yes : acceptsOf s e ≡ true
+  copied-yes : acceptsOf s e ≡ true
       → (limitedSub (moreSub s) (moreHead d) ≡ copiedSub e s d) × (limitedHead (moreSub s) (moreHead d) ≡ copiedHead e s d)
       × (closeGap (base + s .inflight) (overLimit (d .«topic_limit») (s .held + 1)) (d .used + 1) (insertRow (placeOf (base + s .inflight) (base + s .inflight + s .held) (e .seq) rows) (d .used) (rowOf e 0 0 0) rows)
       ≡ copiedRows e base s d rows)
   unfolding copiedSub copiedHead copiedRows putIn
   copied-yes h = rw h (refl, refl, refl)
+
+-- by the head's limit and rows in use
+module _ (e : Entry) (base : ℕ) (s : Sub) (limit used : ℕ) (rows : List Row) where
+  pub copies-no : acceptsOf s e ≡ false → Copies e base s limit used rows s used 0 rows
+  copies-no h d q p few =
+      let n = copied-no e base s d rows h in
+      (n .0, ap (λ (m : ℕ). countedBy m 0 d) (sym q) ∙ counted-none d few ∙ n .1, n .2)
+
+  pub copies-yes : (over : ℕ) (rows′ : List Row) → acceptsOf s e ≡ true → over ≡ overLimit limit (s .held + 1)
+      → rows′ ≡ closeGap (base + s .inflight) over (used + 1) (insertRow (placeOf (base + s .inflight) (base + s .inflight + s .held) (e .seq) rows) used (rowOf e 0 0 0) rows)
+      → Copies e base s limit used rows (withHeld (s .held + 1 - over) s) (used + 1 - over) over rows′
+  copies-yes over rows′ h o r d q p few =
+      let y = copied-yes e base s d rows h in
+      let k : over ≡ overLimit (d .«topic_limit») (s .held + 1) = o ∙ ap (λ (l : ℕ). overLimit l (s .held + 1)) (sym p) in
+      let u : used ≡ d .used = sym q in (
+        ap (λ (n : ℕ). withHeld (s .held + 1 - n) s) k ∙ y .0,
+        ap₂ (λ (m n : ℕ). countedBy (m + 1 - n) n d) u k ∙ y .1,
+        r ∙ ap₂ (λ (m n : ℕ). closeGap (base + s .inflight) n (m + 1) (insertRow (placeOf (base + s .inflight) (base + s .inflight + s .held) (e .seq) rows) m (rowOf e 0 0 0) rows)) u k ∙ y .2,
+      )
 
 -- no row more in flight, and at most one held
 pub copied-few : (e : Entry) (s : Sub) (d : Head) → (copiedSub e s d .inflight ≡ s .inflight) × (copiedSub e s d .held ≤ s .held + 1)

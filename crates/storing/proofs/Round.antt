@@ -29,10 +29,10 @@ use Rattle.consumers.proofs.Strict.{stored-strict, strict-at, strict-put, table
 use Rattle.state.specs.declared.Head.{Head}
 use Rattle.state.specs.State.{headView, kindBy, strictTables}
 use Rattle.storing.specs.Storing.{holds, rowsNeeded, spread}
-use Rattle.storing.specs.Copies.{copiedSub, copiedHead, copiedRows}
+use Rattle.storing.specs.Copies.{copiedSub, copiedHead, copiedRows, countedBy}
 use Rattle.storing.specs.Arrivals.{Arrives, Arrived}
 use Rattle.storing.proofs.Used.{reservedRows, waitingRows, holds-append, absent-parts}
-use Rattle.storing.proofs.Copy.{Copy, recounted, copied, copied-few}
+use Rattle.storing.proofs.Copy.{Copy, recounted, counted-none, copied, copied-few}
 use Rattle.storing.proofs.Spread.{fan-length, fan-more, fan-counts, nth-rest, absent-rest, absent-first}
 
 -- the first i consumers of l with their copies
@@ -84,7 +84,7 @@ module _ (e : Entry) (subs₀ rows₀ : List Row) (d₀ : Head) (a : Arrives e d
   needs-tally : rowsNeeded e d₀ subs₀ ≡ tally (takes e) ws₀
   needs-tally = if-false 1 (tally (takes e) ws₀) plain
 
-  pub round-start : Round e subs₀ rows₀ d₀ subs₀ rows₀ d₀ 0 0
+  round-start : Round e subs₀ rows₀ d₀ subs₀ rows₀ d₀ 0 0
   unfolding fanOutAll subRows
   round-start = record {
     within = omega arith;
@@ -103,6 +103,10 @@ module _ (e : Entry) (subs₀ rows₀ : List Row) (d₀ : Head) (a : Arrives e d
     waiting = refl;
     strict = λ o. o;
   }
+
+  -- before the first, nothing was discarded
+  pub round-first : Round e subs₀ rows₀ d₀ subs₀ rows₀ (countedBy (d₀ .used) 0 d₀) 0 0
+  round-first = rw (counted-none d₀ (omega (arith, a .discarded))) round-start
 
   -- no consumer has the number
   none-has : member (e .seq) (seqs (consumerRows all)) ≡ false

@@ -2,23 +2,20 @@
 use mathlib.Core.Path.{_≡_, refl, sym, ap, ap₂, _∙_}
 use mathlib.Core.Bool.{Bool, true, false, _||_}
 use mathlib.Core.List.{List, [], _∷_, _++_, map, map-append}
-use Prim.Native.Nat.{ℕ, suc, _+_, _≤_}
+use Prim.Native.Nat.{ℕ, _+_, _≤_}
 use native.Mathlib.Omega.{arith}
 use lib.Dec.{eqb}
-use lib.ListN.{length, take, drop, getD, length-append, length-map}
+use lib.ListN.{length, take, drop, length-append, length-map}
 use lib.Seq.{take-add, length-take-le}
-use Rattle.words.proofs.Tests.{by-test}
 use Rattle.entry.specs.Entry.{entryOf}
 use Rattle.definition.specs.Base.{member}
 use Rattle.definition.specs.Types.{Id, Entry, Held, Audit}
 use Rattle.definition.specs.Calls.{seqs, allRows}
 use Rattle.definition.specs.Layout.{Row, heldAt, subRows}
 use Rattle.definition.proofs.Tests.{or-no-left, or-no-right}
-use Rattle.distinct.proofs.Laws.{eqb-comm, member-append}
-use Rattle.table.specs.declared.Found.{Found}
-use Rattle.table.specs.declared.Found.the-variants.{At, Nothing}
-use Rattle.table.specs.Table.{findFrom, findSeq}
-use Rattle.table.proofs.Bounds.{find-in}
+use Rattle.distinct.proofs.Laws.{member-append}
+use Rattle.table.specs.Table.{holdsSeq, hasSeqIn}
+use Rattle.table.proofs.Bounds.{has-in}
 use Rattle.consumers.proofs.Laws.{consumer-rows}
 use Rattle.state.specs.declared.Head.{Head}
 use Rattle.state.specs.State.{headView, kindBy}
@@ -33,21 +30,13 @@ holds-append q a b =
     ∙ ap (member q) (map-append (λ (e : Entry). e .seq) (map entryOf a) (map entryOf b))
     ∙ member-append q (seqs (map entryOf a)) (seqs (map entryOf b))
 
--- whether a search found a row
-abbrev pub isAt : Found → Bool
-isAt (At i) = true
-isAt Nothing = false
+-- by the rows' first words
+holds-numbers : (q : ℕ) (l : List Row) → holds q l ≡ holdsSeq q l
+holds-numbers q [] = refl
+holds-numbers q (r ∷ l) = ap₂ (λ (n : ℕ) (b : Bool). eqb q n || b) (entry-seq r) (holds-numbers q l)
 
-pub found-from : (i q : ℕ) (l : List Row) → holds q l ≡ isAt (findFrom i q l)
-unfolding findFrom
-found-from i q [] = refl
-found-from i q (r ∷ l) =
-    let e : eqb q (entryOf r .seq) ≡ eqb (getD r 0 0) q = eqb-comm q (entryOf r .seq) ∙ ap (λ (n : ℕ). eqb n q) (entry-seq r) in
-    ap (λ (b : Bool). b || holds q l) e
-    ∙ by-test (eqb (getD r 0 0) q) (λ t. rw t) (λ t. rw t (found-from (suc i) q l))
-
-pub found-used : (n q : ℕ) (rows : List Row) → n ≤ length rows → holds q (take n rows) ≡ isAt (findSeq 0 n q rows)
-found-used n q rows h = found-from 0 q (take n rows) ∙ ap isAt (sym (find-in 0 n q rows (omega arith) h))
+pub held-used : (n q : ℕ) (rows : List Row) → n ≤ length rows → hasSeqIn 0 n q rows ≡ holds q (take n rows)
+held-used n q rows h = has-in 0 n q rows (omega arith) h ∙ sym (holds-numbers q (take n rows))
 
 -- ---- the rows in use, in parts
 

@@ -1,5 +1,6 @@
 -- The copy for one consumer of a topic: its numbers, the head's, and the rows. Assumes nothing.
-use Prim.Native.Nat.{ℕ, _+_, _-_}
+use mathlib.Core.Path.{_≡_}
+use Prim.Native.Nat.{ℕ, _+_, _-_, _<_, _^_}
 use mathlib.Core.List.{List}
 use lib.Dec.{eqb}
 use Rattle.stats.specs.Counted.{withDiscardedBy}
@@ -51,3 +52,13 @@ copiedHead e s d = if acceptsOf s e then limitedHead (moreSub s) (moreHead d) el
 
 unfoldable pub copiedRows : Entry → ℕ → Sub → Head → List Row → List Row
 copiedRows e base s d rows = if acceptsOf s e then putIn e base s d rows else rows
+
+-- a head with so many rows in use, and so many discarded more
+abbrev pub countedBy : ℕ → ℕ → Head → Head
+countedBy used over d = withStats (withDiscardedBy (d .stats) over) (withUsed used d)
+
+-- a copy left these, whatever else is in the head with that limit and so many rows in use
+abbrev pub Copies : Entry → ℕ → Sub → ℕ → ℕ → List Row → Sub → ℕ → ℕ → List Row → Type 0
+Copies e base s limit used rows t used′ over rows′ =
+    (d : Head) → d .used ≡ used → d .«topic_limit» ≡ limit → d .stats .discarded < 2 ^ 63
+    → (t ≡ copiedSub e s d) × (countedBy used′ over d ≡ copiedHead e s d) × (rows′ ≡ copiedRows e base s d rows)

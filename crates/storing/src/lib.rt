@@ -9,7 +9,7 @@ ghost use Rattle.state.specs.State.{firstWaiting};
 ghost use Rattle.state.specs.Leaves.{silent, LeavesIf};
 ghost use Rattle.table.specs.Table.{placeOf, insertRow, closeGap};
 ghost use Rattle.storing.specs.Storing.{holds, rowsNeeded, refusalOf, roomFor, stores, Room, queuedHead, kept, spread};
-ghost use Rattle.storing.specs.Copies.{overLimit, limitedSub, limitedHead, copiedSub, copiedHead, copiedRows};
+ghost use Rattle.storing.specs.Copies.{overLimit, Copies};
 ghost use Rattle.storing.specs.Arrivals.{Arrives, Arrived};
 use consumers::Sub;
 use consumers::SubRow;
@@ -25,11 +25,7 @@ fn is_held(rows: &[Row], used: usize, seq: u64) -> bool
     requires { ⌜ used ≤ length (now rows) ⌝ }
     ensures { λ r. ⌜ r ≡ holds seq (take used (now (rows .entry))) ⌝ }
 {
-    let found = table::find_seq(rows, 0, used, seq);
-    match found {
-        table::Found::At(_) => true,
-        table::Found::Nothing => false,
-    }
+    table::has_seq(rows, 0, used, seq)
 }
 
 // The rows that an entry needs.
@@ -85,10 +81,11 @@ fn queued(subs: &mut [SubRow], rows: &mut [Row], mut d: Head, e: Entry) -> Head
 
 // ---- fanned out on a topic
 
-// What a copy for one consumer leaves.
+// What a copy for one consumer leaves: the consumer, the rows in use, and how many were over the topic limit.
 struct Copied {
     sub: Sub,
-    head: Head,
+    used: usize,
+    over: usize,
 }
 
 // How many of n held rows are over the topic limit; 0 is no limit.
@@ -105,58 +102,65 @@ fn over_of(limit: u64, n: usize) -> usize
 }
 
 // Over the topic limit a consumer loses its lowest numbers; its held rows begin at from.
-fn limited(rows: &mut [Row], from: usize, mut s: Sub, mut d: Head) -> Copied
-    requires { ⌜ (s .held ≤ d .used) × (d .stats .discarded < 2 ^ 63) ⌝ }
-    ensures { λ r. ⌜ (r .sub ≡ limitedSub s d) × (r .head ≡ limitedHead s d) ⌝ }
-    ensures { λ _. ⌜ now (rows .exit) ≡ closeGap from (overLimit (d .«topic_limit») (s .held)) (d .used) (now (rows .entry)) ⌝ }
+fn limited(rows: &mut [Row], from: usize, over: usize, used: usize)
+    ensures { λ _. ⌜ now (rows .exit) ≡ closeGap from over used (now (rows .entry)) ⌝ }
 {
-    let over = over_of(d.topic_limit, s.held);
     if over == 0 {
-        return Copied { sub: s, head: d };
+        return;
     }
-    table::close_gap(rows, from, over, d.used);
-    s.held = s.held - over;
-    d.used = d.used - over;
-    d = d.count_discarded(over as u64);
-    Copied { sub: s, head: d }
+    table::close_gap(rows, from, over, used);
 }
 
 // The copy for one consumer, whose rows begin at base, if it accepts the entry.
-fn fan_out(rows: &mut [Row], base: usize, mut s: Sub, mut d: Head, e: Entry) -> Copied
-    requires { ⌜ (base + s .inflight + s .held ≤ d .used) × (d .used ≤ 512) × (d .stats .discarded < 2 ^ 63) ⌝ }
-    ensures { λ r. ⌜ (r .sub ≡ copiedSub e s d) × (r .head ≡ copiedHead e s d) ⌝ }
-    ensures { λ _. ⌜ now (rows .exit) ≡ copiedRows e base s d (now (rows .entry)) ⌝ }
+fn fan_out(rows: &mut [Row], base: usize, mut s: Sub, limit: u64, used: usize, e: Entry) -> Copied
+    requires { ⌜ (base + s .inflight + s .held ≤ used) × (used ≤ 512) ⌝ }
+    ensures { λ r. ⌜ r .over ≤ s .held + 1 ⌝ }
+    ensures { λ r. ⌜ Copies e base s limit used (now (rows .entry)) (r .sub) (r .used) (r .over) (now (rows .exit)) ⌝ }
 {
     if !s.accepts(e) {
-        return Copied { sub: s, head: d };
+        return Copied {
+            sub: s,
+            used,
+            over: 0,
+        };
     }
     let from = base + s.inflight;
     let place = table::place_of(rows, from, from + s.held, e.seq);
-    table::insert_row(rows, place, d.used, entry::held_row(e));
-    s.held = s.held + 1;
-    d.used = d.used + 1;
-    limited(rows, from, s, d)
+    table::insert_row(rows, place, used, entry::held_row(e));
+    let over = over_of(limit, s.held + 1);
+    limited(rows, from, over, used + 1);
+    s.held = s.held + 1 - over;
+    Copied {
+        sub: s,
+        used: used + 1 - over,
+        over,
+    }
 }
 
-// Each consumer in turn; base is where its rows begin.
+// Each consumer in turn; base is where its rows begin. What is discarded is counted once for all.
 fn fan_out_all(subs: &mut [SubRow], rows: &mut [Row], before: Head, e: Entry) -> Head
     requires { ⌜ Arrives e before (now subs) (now rows) × (before .queue ≡ false) ⌝ }
     ensures { λ r. ⌜ Arrived (spread e) before r (now (subs .entry)) (now (rows .entry)) (now (subs .exit)) (now (rows .exit)) ⌝ }
 {
     let n = before.consumers;
-    let mut d = before;
+    let limit = before.topic_limit;
+    let mut used = before.used;
+    let mut over = 0;
     let mut base = 0;
     let mut i = 0;
     while i < n {
         let s = consumers::load(subs, i);
-        let r = fan_out(rows, base, s, d, e);
+        let r = fan_out(rows, base, s, limit, used, e);
         let t = r.sub;
-        d = r.head;
+        used = r.used;
+        over = over + r.over;
         base = base + t.inflight + t.held;
         consumers::store(subs, i, t);
         i += 1;
     }
-    d
+    let mut d = before;
+    d.used = used;
+    d.count_discarded(over as u64)
 }
 
 // ---- stored by the kind
