@@ -31,6 +31,9 @@ pub(crate) fn enqueue(
         return Answer::refused(refusal, d);
     }
     let stored = storing::store(subs, rows, events, d, e);
+    if !dispatch::goes(subs, stored.consumers, stored.waiting, stored.queue) {
+        return Answer::done(0, stored);
+    }
     let sent = dispatch::dispatch(subs, rows, events, stored, clock);
     Answer::done(0, sent)
 }

@@ -15,7 +15,7 @@ use state::Answer;
 use state::Event;
 use state::Head;
 
-// The ack of a consumer that is there, `touch_idle`, and the dispatch.
+// The ack of a consumer that is there, `touch_idle`, and the dispatch where anything can go.
 fn ack_present(
     subs: &mut [SubRow],
     rows: &mut [Row],
@@ -28,8 +28,11 @@ fn ack_present(
     requires { ⌜ Ready d (now subs) (now rows) (now events) × (clock ≤ 2 ^ 62) ⌝ }
     ensures { λ r. ⌜ Sends (sentOn clock (acked id (ackOf a))) d r (now (subs .entry)) (now (rows .entry)) (now (events .entry)) (now (subs .exit)) (now (rows .exit)) (now (events .exit)) ⌝ }
 {
-    let acked = acks::ack_sub(subs, rows, events, d, id, a);
-    dispatch::dispatch(subs, rows, events, acked.touch_idle(clock), clock)
+    let acked = acks::ack_sub(subs, rows, events, d, id, a).touch_idle(clock);
+    if !dispatch::goes(subs, acked.consumers, acked.waiting, acked.queue) {
+        return acked;
+    }
+    dispatch::dispatch(subs, rows, events, acked, clock)
 }
 
 // The ack of a consumer that is not there: of what is reserved for it.
