@@ -12,16 +12,16 @@ use Rattle.model.specs.declared.AckCount.{AckCount}
 use Rattle.model.specs.declared.AckCount.the-variants.{Uncounted, Dequeue, Expiry, DeadLetter}
 use Rattle.model.specs.declared.AckRule.{AckRule}
 
--- the place of a type is its byte; where a byte names no type, the byte
-abbrev pub placeOf : AckType → ℕ → ℕ
-placeOf Delivered k = 0
-placeOf Poison k = 1
-placeOf Standard k = 2
-placeOf Redelivered k = 3
-placeOf Individual k = 4
-placeOf Unmatched k = 5
-placeOf Expired k = 6
-placeOf Other k = k
+-- the place of a type's rule is its byte; a byte without a name has the place after those
+abbrev pub placeOf : AckType → ℕ
+placeOf Delivered = 0
+placeOf Poison = 1
+placeOf Standard = 2
+placeOf Redelivered = 3
+placeOf Individual = 4
+placeOf Unmatched = 5
+placeOf Expired = 6
+placeOf Other = 7
 
 unfoldable pub rangeOf : ℕ → AckRange
 rangeOf d = if eqb d 0 then Empty else if eqb d 1 then Between else if eqb d 2 then Cumulative else Last

@@ -1,7 +1,7 @@
 // Identifiers as numbers, and the ack types of model.rs.
 ghost use mathlib.Core.Path.{_≡_};
 ghost use Rattle.model.specs.Model.{newId, idOf, sameId, ackType, ackRule};
-ghost use Rattle.model.specs.Packed.{placeOf, rangeOf, effectOf, countOf};
+ghost use Rattle.model.specs.Packed.{placeOf, rangeOf, effectOf, countOf, unpacked};
 
 // ConsumerId and ProducerId: the host's numbers for their texts, one to one.
 pub struct Id {
@@ -72,6 +72,9 @@ impl AckType {
 
     pub const EXPIRED: u8 = 6;
 
+    // How many types have a name: the bytes below it.
+    pub const NAMED: u8 = 7;
+
     pub fn new(byte: u8) -> AckType
         ensures { λ r. ⌜ r ≡ ackType byte ⌝ }
     {
@@ -87,9 +90,9 @@ impl AckType {
         }
     }
 
-    // The place in a table of all bytes: the type's constant; where a byte names no type, the byte.
-    fn place(self, byte: u8) -> u8
-        ensures { λ r. ⌜ r ≡ placeOf self byte ⌝ }
+    // The place of a type's rule: its constant; after those for a byte without a name.
+    fn place(self) -> u8
+        ensures { λ r. ⌜ r ≡ placeOf self ⌝ }
     {
         match self {
             AckType::Delivered => AckType::DELIVERED,
@@ -99,7 +102,7 @@ impl AckType {
             AckType::Individual => AckType::INDIVIDUAL,
             AckType::Unmatched => AckType::UNMATCHED,
             AckType::Expired => AckType::EXPIRED,
-            AckType::Other => byte,
+            AckType::Other => AckType::NAMED,
         }
     }
 }
@@ -184,8 +187,8 @@ pub struct AckRule {
 }
 
 impl AckRule {
-    // Six hexadecimal digits for each ack type byte: range and effect, the same in a transaction, reserved, counts.
-    const TABLE: [u32; 256] = [
+    // Six hexadecimal digits for each ack type that has a name, at its constant: range and effect, the same in a transaction, reserved, counts.
+    const TABLE: [u32; 7] = [
         0x11_11_00,
         0x13_12_13,
         0x23_22_21,
@@ -193,262 +196,27 @@ impl AckRule {
         0x33_12_31,
         0x23_22_21,
         0x13_12_12,
-        0x00_12_00,
-        0x00_12_00,
-        0x00_12_00,
-        0x00_12_00,
-        0x00_12_00,
-        0x00_12_00,
-        0x00_12_00,
-        0x00_12_00,
-        0x00_12_00,
-        0x00_12_00,
-        0x00_12_00,
-        0x00_12_00,
-        0x00_12_00,
-        0x00_12_00,
-        0x00_12_00,
-        0x00_12_00,
-        0x00_12_00,
-        0x00_12_00,
-        0x00_12_00,
-        0x00_12_00,
-        0x00_12_00,
-        0x00_12_00,
-        0x00_12_00,
-        0x00_12_00,
-        0x00_12_00,
-        0x00_12_00,
-        0x00_12_00,
-        0x00_12_00,
-        0x00_12_00,
-        0x00_12_00,
-        0x00_12_00,
-        0x00_12_00,
-        0x00_12_00,
-        0x00_12_00,
-        0x00_12_00,
-        0x00_12_00,
-        0x00_12_00,
-        0x00_12_00,
-        0x00_12_00,
-        0x00_12_00,
-        0x00_12_00,
-        0x00_12_00,
-        0x00_12_00,
-        0x00_12_00,
-        0x00_12_00,
-        0x00_12_00,
-        0x00_12_00,
-        0x00_12_00,
-        0x00_12_00,
-        0x00_12_00,
-        0x00_12_00,
-        0x00_12_00,
-        0x00_12_00,
-        0x00_12_00,
-        0x00_12_00,
-        0x00_12_00,
-        0x00_12_00,
-        0x00_12_00,
-        0x00_12_00,
-        0x00_12_00,
-        0x00_12_00,
-        0x00_12_00,
-        0x00_12_00,
-        0x00_12_00,
-        0x00_12_00,
-        0x00_12_00,
-        0x00_12_00,
-        0x00_12_00,
-        0x00_12_00,
-        0x00_12_00,
-        0x00_12_00,
-        0x00_12_00,
-        0x00_12_00,
-        0x00_12_00,
-        0x00_12_00,
-        0x00_12_00,
-        0x00_12_00,
-        0x00_12_00,
-        0x00_12_00,
-        0x00_12_00,
-        0x00_12_00,
-        0x00_12_00,
-        0x00_12_00,
-        0x00_12_00,
-        0x00_12_00,
-        0x00_12_00,
-        0x00_12_00,
-        0x00_12_00,
-        0x00_12_00,
-        0x00_12_00,
-        0x00_12_00,
-        0x00_12_00,
-        0x00_12_00,
-        0x00_12_00,
-        0x00_12_00,
-        0x00_12_00,
-        0x00_12_00,
-        0x00_12_00,
-        0x00_12_00,
-        0x00_12_00,
-        0x00_12_00,
-        0x00_12_00,
-        0x00_12_00,
-        0x00_12_00,
-        0x00_12_00,
-        0x00_12_00,
-        0x00_12_00,
-        0x00_12_00,
-        0x00_12_00,
-        0x00_12_00,
-        0x00_12_00,
-        0x00_12_00,
-        0x00_12_00,
-        0x00_12_00,
-        0x00_12_00,
-        0x00_12_00,
-        0x00_12_00,
-        0x00_12_00,
-        0x00_12_00,
-        0x00_12_00,
-        0x00_12_00,
-        0x00_12_00,
-        0x00_12_00,
-        0x00_12_00,
-        0x00_12_00,
-        0x00_12_00,
-        0x00_12_00,
-        0x00_12_00,
-        0x00_12_00,
-        0x00_12_00,
-        0x00_12_00,
-        0x00_12_00,
-        0x00_12_00,
-        0x00_12_00,
-        0x00_12_00,
-        0x00_12_00,
-        0x00_12_00,
-        0x00_12_00,
-        0x00_12_00,
-        0x00_12_00,
-        0x00_12_00,
-        0x00_12_00,
-        0x00_12_00,
-        0x00_12_00,
-        0x00_12_00,
-        0x00_12_00,
-        0x00_12_00,
-        0x00_12_00,
-        0x00_12_00,
-        0x00_12_00,
-        0x00_12_00,
-        0x00_12_00,
-        0x00_12_00,
-        0x00_12_00,
-        0x00_12_00,
-        0x00_12_00,
-        0x00_12_00,
-        0x00_12_00,
-        0x00_12_00,
-        0x00_12_00,
-        0x00_12_00,
-        0x00_12_00,
-        0x00_12_00,
-        0x00_12_00,
-        0x00_12_00,
-        0x00_12_00,
-        0x00_12_00,
-        0x00_12_00,
-        0x00_12_00,
-        0x00_12_00,
-        0x00_12_00,
-        0x00_12_00,
-        0x00_12_00,
-        0x00_12_00,
-        0x00_12_00,
-        0x00_12_00,
-        0x00_12_00,
-        0x00_12_00,
-        0x00_12_00,
-        0x00_12_00,
-        0x00_12_00,
-        0x00_12_00,
-        0x00_12_00,
-        0x00_12_00,
-        0x00_12_00,
-        0x00_12_00,
-        0x00_12_00,
-        0x00_12_00,
-        0x00_12_00,
-        0x00_12_00,
-        0x00_12_00,
-        0x00_12_00,
-        0x00_12_00,
-        0x00_12_00,
-        0x00_12_00,
-        0x00_12_00,
-        0x00_12_00,
-        0x00_12_00,
-        0x00_12_00,
-        0x00_12_00,
-        0x00_12_00,
-        0x00_12_00,
-        0x00_12_00,
-        0x00_12_00,
-        0x00_12_00,
-        0x00_12_00,
-        0x00_12_00,
-        0x00_12_00,
-        0x00_12_00,
-        0x00_12_00,
-        0x00_12_00,
-        0x00_12_00,
-        0x00_12_00,
-        0x00_12_00,
-        0x00_12_00,
-        0x00_12_00,
-        0x00_12_00,
-        0x00_12_00,
-        0x00_12_00,
-        0x00_12_00,
-        0x00_12_00,
-        0x00_12_00,
-        0x00_12_00,
-        0x00_12_00,
-        0x00_12_00,
-        0x00_12_00,
-        0x00_12_00,
-        0x00_12_00,
-        0x00_12_00,
-        0x00_12_00,
-        0x00_12_00,
-        0x00_12_00,
-        0x00_12_00,
-        0x00_12_00,
-        0x00_12_00,
-        0x00_12_00,
-        0x00_12_00,
-        0x00_12_00,
-        0x00_12_00,
-        0x00_12_00,
-        0x00_12_00,
-        0x00_12_00,
-        0x00_12_00,
-        0x00_12_00,
-        0x00_12_00,
-        0x00_12_00,
-        0x00_12_00,
-        0x00_12_00,
-        0x00_12_00,
     ];
+
+    // The same for all others.
+    const OTHER: u32 = 0x00_12_00;
+
+    // The rule at a place, as its six digits.
+    fn packed(place: u8) -> u32
+        ensures { λ r. ⌜ unpacked r ≡ ackRule place ⌝ }
+    {
+        if place < AckType::NAMED {
+            AckRule::TABLE[place as usize]
+        } else {
+            AckRule::OTHER
+        }
+    }
 
     pub fn of(byte: u8) -> AckRule
         ensures { λ r. ⌜ r ≡ ackRule byte ⌝ }
     {
         let kind = AckType::new(byte);
-        let rule = AckRule::TABLE[kind.place(byte) as usize];
+        let rule = AckRule::packed(kind.place());
         AckRule {
             range: AckRange::of(rule / 0x10_0000 % 16),
             effect: AckEffect::of(rule / 0x1_0000 % 16),
