@@ -215,7 +215,8 @@ def unless_browser(s, k):
 
 def ack_transacted(a, s, kind):
     hit("ackTransacted", kind)
-    return free(ack_range(s, a, kind in ("Standard", "Unmatched")), kind != "Delivered", s)
+    test = ack_last(s, a) if kind == "Individual" else ack_range(s, a, kind in ("Standard", "Unmatched"))
+    return free(test, kind != "Delivered", s)
 
 
 def took(test, name, s, t):

@@ -77,7 +77,7 @@ module _ (a : Ack) (s : Sub) where
 
   -- and in one
   transacted : (t : AckType) → acts (ruleOf t .«tx_effect») (ruleOf t .counts) (a .cause) (meant (ruleOf t .«tx_range»)) s ≡ record { sub = ackTransacted a s t; counts = record { enqueued = 0; dequeued = 0; expired = 0; discarded = 0; dispatched = 0 }; events = [] }
-  unfolding acts ackTransacted ackRange
+  unfolding acts ackTransacted ackRange ackLast
   transacted Delivered = refl
   transacted Poison = refl
   transacted Standard = refl

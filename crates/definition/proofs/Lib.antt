@@ -3,6 +3,7 @@ pub mod Lists
 pub mod Reorder
 pub mod Local
 pub mod Own
+pub mod Singles
 pub mod Thin
 pub mod Ids
 pub mod Sums

@@ -369,8 +369,11 @@ starred =
     -- First 20, last 30: cumulative gives 1, 2, 3, otherwise 2, 3
     ∷ range true (some 20) (some 30) (1 ∷ 2 ∷ 3 ∷ [])
     ∷ range false (some 20) (some 30) (2 ∷ 3 ∷ [])
-    -- Transacted INDIVIDUAL, first 10, last 30, marks all three
-    ∷ sameNumbers (marks (acks 4 true (some 10) (some 30))) (1 ∷ 2 ∷ 3 ∷ [])
+    -- Transacted INDIVIDUAL, first 10, last 30, marks only 30 (document 02 §2), whatever the first is; with no last, none
+    ∷ sameNumbers (marks (acks 4 true (some 10) (some 30))) (3 ∷ [])
+    ∷ sameNumbers (marks (acks 4 true (some 10) (some 20))) (2 ∷ [])
+    ∷ sameNumbers (marks (acks 4 true none (some 30))) (3 ∷ [])
+    ∷ sameNumbers (marks (acks 4 true (some 10) none)) []
     -- Untransacted, it removes only 30
     ∷ sameNumbers (leaves (acks 4 false (some 10) (some 30))) (1 ∷ 2 ∷ [])
     -- Leave with last delivered 20: those of 10 and 20 only

@@ -165,13 +165,13 @@ deadLetters cause (i ∷ is) =
 abbrev pub unlessBrowser : Sub → Stats → Stats
 unlessBrowser s c = if isBrowser s then zeroStats else c
 
--- the transacted branch of Dest::ack (DELIVERED is never transacted in effect)
+-- the transacted branch of Dest::ack (DELIVERED is never transacted in effect); INDIVIDUAL marks the last one alone, as document 02 §2 has it
 unfoldable pub ackTransacted : Ack → Sub → AckType → Sub
 ackTransacted a s Standard = free (ackRange s a true) true s
 ackTransacted a s Unmatched = free (ackRange s a true) true s
 ackTransacted a s Poison = free (ackRange s a false) true s
 ackTransacted a s Redelivered = free (ackRange s a false) true s
-ackTransacted a s Individual = free (ackRange s a false) true s
+ackTransacted a s Individual = free (ackLast s a) true s
 ackTransacted a s Expired = free (ackRange s a false) true s
 ackTransacted a s Other = free (ackRange s a false) true s
 ackTransacted a s Delivered = free (ackRange s a false) false s

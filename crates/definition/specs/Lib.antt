@@ -11,3 +11,4 @@ pub mod Refusals
 pub mod Runs
 pub mod Orders
 pub mod Claims
+pub mod Singles

@@ -11,7 +11,7 @@ use std::env;
 use std::fs;
 use std::process::ExitCode;
 
-use destination_oracle::harness::callfile::{self, code, Call, BLOCK};
+use destination_oracle::harness::callfile::{self, ack_bit, code, Call, BLOCK};
 use destination_oracle::harness::corners;
 use destination_oracle::harness::engine::refusal;
 use destination_oracle::harness::generate::{self, Profile};
@@ -20,6 +20,8 @@ use destination_oracle::harness::random::Random;
 use destination_oracle::harness::sides::{self, Both, Sides};
 use destination_oracle::harness::spoil::Spoiling;
 use destination_oracle::harness::text;
+use destination_oracle::harness::whole::Whole;
+use destination_oracle::openwire::model::ack_type;
 
 /// How many calls lie between two states that are spoilt.
 const SPOIL_EVERY: u64 = 41;
@@ -229,5 +231,30 @@ fn conditions(call: &Call, both: &Both) -> Vec<(&'static str, bool)> {
             both.reply.events.iter().any(|e| e.to_string().starts_with('x')),
         ),
         ("calls with 10 events or more", both.reply.events.len() >= 10),
+        (
+            "transacted INDIVIDUAL of a consumer",
+            accepted && single(call, whole).is_some(),
+        ),
+        (
+            "the same, where the first would mark more than the last",
+            accepted && single(call, whole).is_some_and(|more| more),
+        ),
     ]
+}
+
+/// Of a transacted INDIVIDUAL of a consumer that is there: whether its range, first to last, is more than its last.
+fn single(call: &Call, whole: &Whole) -> Option<bool> {
+    let [_, _, _, word, first, last, ..] = call.args;
+    let kind = u64::from(ack_type::INDIVIDUAL) | ack_bit::TRANSACTED;
+    if call.code != code::ACK || word & (255 | ack_bit::TRANSACTED) != kind {
+        return None;
+    }
+    let sub = whole.subs.iter().find(|s| s.id[..] == call.args[..3])?;
+    let number = |bit: u64, sequence: u64| {
+        let found = sub.inflight.iter().find(|i| i.entry.sequence == sequence);
+        found.filter(|_| word & bit != 0).map(|i| i.dseq)
+    };
+    let from = number(ack_bit::FIRST, first).unwrap_or(0);
+    let to = number(ack_bit::LAST, last).unwrap_or(0);
+    Some(sub.inflight.iter().any(|i| (from..to).contains(&i.dseq)))
 }

@@ -13,7 +13,7 @@ use crate::broker::conn::{ConnHandle, Out};
 use crate::broker::destination::{probe, Dest, Effect, ProducerMeta, Stats, SubSpec};
 use crate::broker::entry::{Entry, Memory};
 use crate::openwire::model::{
-    Command, ConsumerId, DestKind, Destination, Message, MessageAck, MessageDispatch, ProducerId,
+    ack_type, Command, ConsumerId, DestKind, Destination, Message, MessageAck, MessageDispatch, ProducerId,
 };
 use crate::selector::Selector;
 
@@ -315,7 +315,8 @@ impl Engine {
             code::LEAVE => Prepared::Leave(consumer(), a[3] as i64, now(4)),
             code::ACK => {
                 let transacted = a[3] & ack_bit::TRANSACTED != 0;
-                Prepared::Ack(Box::new(host::ack(ack_of(call))), transacted, now(6))
+                let numbers = self.single(ack_of(call), transacted);
+                Prepared::Ack(Box::new(host::ack(numbers)), transacted, now(6))
             }
             code::PULL => Prepared::Pull(consumer(), a[3] as i64, now(4)),
             code::TIMEOUT => Prepared::Timeout(consumer(), a[3]),
@@ -328,6 +329,18 @@ impl Engine {
             code::DUPLICATE => Prepared::Duplicate(Box::new(host::audited_message(id_of(call), a[3] as i64))),
             code::RELEASE_AUDITS => Prepared::ReleaseAudits(host::connection_text(a[0])),
             other => unreachable!("code {other} was accepted"),
+        }
+    }
+
+    /// Document 02 §2: of a present consumer, a transacted INDIVIDUAL marks only its last message. The broker
+    /// gets it with its first message set to its last.
+    fn single(&self, ack: AckNumbers, transacted: bool) -> AckNumbers {
+        let present = |o: &Opened| probe::has_sub(&o.dest, &host::consumer_id(ack.id));
+        let alone =
+            transacted && ack.ack_type == ack_type::INDIVIDUAL && self.opened.as_ref().is_some_and(present);
+        AckNumbers {
+            first: if alone { ack.last } else { ack.first },
+            ..ack
         }
     }
 

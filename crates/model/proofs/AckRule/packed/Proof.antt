@@ -11,7 +11,7 @@ use Rattle.model.proofs.AckRule.packed.Statement.{statement}
 use Rattle.model.proofs.AckRule.packed.Tie as tie
 
 table : List ℕ
-table = 0x111100 ∷ 0x131213 ∷ 0x232221 ∷ 0x141200 ∷ 0x331231 ∷ 0x232221 ∷ 0x131212 ∷ []
+table = 0x111100 ∷ 0x131213 ∷ 0x232221 ∷ 0x141200 ∷ 0x333231 ∷ 0x232221 ∷ 0x131212 ∷ []
 
 mul-result : tie.Need-mul-result
 mul-result c = search needs
