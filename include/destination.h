@@ -92,13 +92,14 @@ extern "C" {
 #define DESTINATION_PULL 5
 #define DESTINATION_TIMEOUT 6
 #define DESTINATION_PREFETCH 7
-#define DESTINATION_RELEASE 8
+#define DESTINATION_UNMARK 8
 #define DESTINATION_SWEEP 9
 #define DESTINATION_CLEAR 10
 #define DESTINATION_ADD_PRODUCER 11
 #define DESTINATION_REMOVE_PRODUCER 12
 #define DESTINATION_DUPLICATE 13
 #define DESTINATION_RELEASE_AUDITS 14
+#define DESTINATION_RELEASE 15
 
 /* ---- numbers in calls */
 
@@ -163,13 +164,14 @@ struct destination {
  *      5 pull              id, timeout, clock
  *      6 timeout           id, generation
  *      7 prefetch          id, prefetch, clock
- *      8 release           id, clock
+ *      8 unmark            id
  *      9 sweep             clock, maximum
  *     10 clear
  *     11 add producer      id
  *     12 remove producer   id, clock
  *     13 duplicate         id, number
  *     14 release audits    connection
+ *     15 release           id, clock
  */
 struct destination_request {
     uint64_t code;
@@ -404,6 +406,11 @@ static inline struct destination_request destination_request_prefetch(struct des
     return destination_request_id(DESTINATION_PREFETCH, id, (uint64_t)(int64_t)prefetch, clock);
 }
 
+static inline struct destination_request destination_request_unmark(struct destination_id id)
+{
+    return destination_request_id(DESTINATION_UNMARK, id, 0, 0);
+}
+
 static inline struct destination_request destination_request_release(struct destination_id id, uint64_t clock)
 {
     return destination_request_id(DESTINATION_RELEASE, id, clock, 0);
@@ -510,7 +517,13 @@ static inline struct destination_outcome destination_prefetch(struct destination
     return destination_do(d, destination_request_prefetch(id, prefetch, clock));
 }
 
-/* A transaction of a consumer is rolled back: its marks go, and what is reserved for it returns. */
+/* A transaction of a consumer is rolled back, first half: the marks of what is in flight to it go. Nothing is sent. */
+static inline struct destination_outcome destination_unmark(struct destination *d, struct destination_id id)
+{
+    return destination_do(d, destination_request_unmark(id));
+}
+
+/* The second half: what is reserved for the consumer, which may have left, returns to the queue. */
 static inline struct destination_outcome destination_release(struct destination *d, struct destination_id id, uint64_t clock)
 {
     return destination_do(d, destination_request_release(id, clock));

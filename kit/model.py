@@ -585,12 +585,16 @@ def remove_sub(now, i, last, t):
     return 1, dispatch(now, t)
 
 
-def release_reserved(now, i, t):
+def unmarked(i, t):
     s = sub_of(i, t)
     if pick("unmarked", s is not None, "present", "absent"):
         put_sub(i, replace(s, inflight=tuple(replace(f, tx=False) for f in s.inflight)), t)
+    return 0, []
+
+
+def return_reserved(now, i, t):
     held = reserved_of(i, t)
-    if pick("releaseReserved", not held, "none reserved", "returned"):
+    if pick("returnReserved", not held, "none reserved", "returned"):
         return []
     t.reserved = tuple((h, e) for h, e in t.reserved if h != i)
     reinsert(now, [redelivered(e) for e in held], t)
@@ -871,13 +875,14 @@ CALLS = {
     6: Call("timedOut", True, lambda w: unused_from(4, w), lambda w: True, lambda w, t: (0, pull_timeout(ident(w), w[3], t))),
     7: Call("prefetching", True, lambda w: unused_from(5, w), lambda w: within(1 << 31, signed(w[3])) and clock_ok(w[4]),
             lambda w, t: (0, set_prefetch(w[4], ident(w), signed(w[3]), t))),
-    8: Call("releasing", False, lambda w: unused_from(4, w), lambda w: clock_ok(w[3]), lambda w, t: (0, release_reserved(w[3], ident(w), t))),
+    8: Call("unmarking", False, lambda w: unused_from(3, w), lambda w: True, lambda w, t: unmarked(ident(w), t)),
     9: Call("sweeping", False, lambda w: unused_from(2, w), lambda w: clock_ok(w[0]) and w[1] <= 512, lambda w, t: sweep_expired(w[0], w[1], t)),
     10: Call("clearing", False, lambda w: unused_from(0, w), lambda w: True, lambda w, t: clear(t)),
     11: Call("adding", False, lambda w: unused_from(3, w), lambda w: True, lambda w, t: add_producer(ident(w), t)),
     12: Call("removing", False, lambda w: unused_from(4, w), lambda w: clock_ok(w[3]), lambda w, t: remove_producer(w[3], ident(w), t)),
     13: Call("testing", False, lambda w: unused_from(4, w), lambda w: True, testing),
     14: Call("forgetting", False, lambda w: unused_from(1, w), lambda w: True, lambda w, t: release_audits(w[0], t)),
+    15: Call("releasing", False, lambda w: unused_from(4, w), lambda w: clock_ok(w[3]), lambda w, t: (0, return_reserved(w[3], ident(w), t))),
 }
 
 

@@ -94,7 +94,7 @@ static uint64_t odd_number(void)
 
 static struct {
     uint64_t kind, clock, connections, values, sequence, left;
-    uint64_t weights[15], total;
+    uint64_t weights[16], total;
     bool browsed; /* much waits, and browsers look at it */
 } world;
 
@@ -252,10 +252,10 @@ static struct destination_request plausible(void)
 /* one that may be out of range */
 static struct destination_request wild(void)
 {
-    struct destination_request r = with_code(1 + below(14));
+    struct destination_request r = with_code(1 + below(15));
     if (one_in(8))
-        r.code = one_in(4) ? odd_number() : below(16);
-    size_t words = r.code < 15 && !one_in(4) ? paper_words[r.code] : 8;
+        r.code = one_in(4) ? odd_number() : below(17);
+    size_t words = r.code < 16 && !one_in(4) ? paper_words[r.code] : 8;
     for (uint64_t n = below(3); n > 0 && words > 0; n--)
         r.words[below(words)] = odd_number();
     return r;
@@ -264,7 +264,7 @@ static struct destination_request wild(void)
 /* A new destination of some kind: few or many identifiers, any mix of calls. */
 static struct destination_request new_world(void)
 {
-    static const uint64_t plain[15] = {0, 30, 6, 2, 25, 8, 3, 4, 2, 2, 0, 4, 2, 10, 1};
+    static const uint64_t plain[16] = {0, 30, 6, 2, 25, 8, 3, 4, 1, 2, 0, 4, 2, 10, 1, 2};
     world.kind = below(2);
     world.clock = one_in(10) ? DESTINATION_CLOCK_MOST - 5000 : below(1000);
     world.connections = one_in(3) ? 12 : 3;
@@ -274,7 +274,7 @@ static struct destination_request new_world(void)
     memcpy(world.weights, plain, sizeof plain);
     world.weights[DESTINATION_CLEAR] = one_in(4);
     for (uint64_t n = below(4); n > 0; n--)
-        world.weights[1 + below(14)] = 60 * below(3);
+        world.weights[1 + below(15)] = 60 * below(3);
     world.weights[DESTINATION_ENQUEUE] += 5;
     world.browsed = one_in(9);
     if (world.browsed) {
@@ -285,7 +285,7 @@ static struct destination_request new_world(void)
         world.kind = 0;
     }
     world.total = 0;
-    for (uint64_t i = 1; i < 15; i++)
+    for (uint64_t i = 1; i < 16; i++)
         world.total += world.weights[i];
     uint64_t calls = one_in(5) ? 1 + below(1 + world.left) : DESTINATION_CALL_LIMIT_MOST;
     struct destination_request r = {0, {world.kind, one_in(2) ? 0 : 1 + below(20), calls, world.clock}};
@@ -497,7 +497,7 @@ static void ask(struct lengths n);
 
 static struct destination_outcome tried(struct lengths n, struct destination_request r, bool real)
 {
-    static const struct destination_request unknown = {15, {0}};
+    static const struct destination_request unknown = {16, {0}};
     ask(n);
     uint64_t expected = uncoded(r) ? paper_uncoded(lent(n)) : paper_refusal(lent(n), r);
     struct destination_outcome o = lend(n, r);

@@ -162,7 +162,7 @@ static void limits(void)
     CHECK(is(call(entry), 3, 0, 0));
     CHECK(is(call((struct destination_request){9, {0, DESTINATION_SWEEP_MOST}}), 0, 0, 0));
     CHECK(is(call((struct destination_request){9, {0, DESTINATION_SWEEP_MOST + 1}}), 3, 0, 0));
-    CHECK(is(call((struct destination_request){15, {0}}), 3, 0, 0));
+    CHECK(is(call((struct destination_request){16, {0}}), 3, 0, 0));
 }
 
 #define SUBS ((const uint64_t (*)[DESTINATION_SUB_WORDS])b.subs)
@@ -362,7 +362,8 @@ static void inline_functions(void)
     INLINED(prefetch, (id, 3, 43), 7, 7, m2, m3, 3, 43);
     INLINED(prefetch, (id, -1, 43), 7, 7, m2, m3, m1, 43);
     INLINED(leave, (id, DESTINATION_LAST_UNKNOWN, 44), 3, 7, m2, m3, m1, 44);
-    INLINED(release, (id, 45), 8, 7, m2, m3, 45);
+    INLINED(unmark, (id), 8, 7, m2, m3);
+    INLINED(release, (id, 45), 15, 7, m2, m3, 45);
     INLINED(sweep, (46, 512), 9, 46, 512);
     inlined(destination_request_clear(), destination_clear(&one), 10, (const uint64_t[8]){0});
     INLINED(add_producer, (id), 11, 7, m2, m3);

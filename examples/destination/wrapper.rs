@@ -242,8 +242,8 @@ impl Request {
         Request::by(7, id, &[prefetch as i64 as u64, clock])
     }
 
-    pub fn release(id: Id, clock: u64) -> Request {
-        Request::by(8, id, &[clock])
+    pub fn unmark(id: Id) -> Request {
+        Request::by(8, id, &[])
     }
 
     pub fn sweep(clock: u64, maximum: u64) -> Request {
@@ -268,6 +268,10 @@ impl Request {
 
     pub fn release_audits(connection: u64) -> Request {
         Request::new(14, &[connection])
+    }
+
+    pub fn release(id: Id, clock: u64) -> Request {
+        Request::by(15, id, &[clock])
     }
 }
 
@@ -466,6 +470,12 @@ impl Destination {
         self.call(Request::prefetch(id, prefetch, clock))
     }
 
+    /// A transaction is rolled back, first half: the marks of what is in flight go.
+    pub fn unmark(&mut self, id: Id) -> Called<'_> {
+        self.call(Request::unmark(id))
+    }
+
+    /// The second half: what is reserved returns.
     pub fn release(&mut self, id: Id, clock: u64) -> Called<'_> {
         self.call(Request::release(id, clock))
     }
@@ -667,7 +677,8 @@ mod tests {
         same(d, |d| d.prefetch(ID, 3, 43), 7, &[7, M1 - 1, M1 - 2, 3, 43]);
         same(d, |d| d.leave(ID, None, 44), 3, &[7, M1 - 1, M1 - 2, M1, 44]);
         same(d, |d| d.leave(ID, Some(9), 44), 3, &[7, M1 - 1, M1 - 2, 9, 44]);
-        same(d, |d| d.release(ID, 45), 8, &[7, M1 - 1, M1 - 2, 45]);
+        same(d, |d| d.unmark(ID), 8, &[7, M1 - 1, M1 - 2]);
+        same(d, |d| d.release(ID, 45), 15, &[7, M1 - 1, M1 - 2, 45]);
         same(d, |d| d.sweep(46, 512), 9, &[46, 512]);
         same(d, |d| d.clear(), 10, &[]);
         same(d, |d| d.add_producer(ID), 11, &[7, M1 - 1, M1 - 2]);

@@ -1,4 +1,5 @@
-//! Child module of the destination: reads its private fields, and changes nothing.
+//! Child module of the destination: reads its private fields, and changes nothing but transaction marks, for a half
+//! of a release that comes alone.
 
 use std::collections::{BTreeMap, BTreeSet, HashMap};
 use std::time::Instant;
@@ -79,6 +80,26 @@ pub fn snapshot_rows(dest: &Dest, selector: Option<&Selector>, now_ms: i64) -> u
         .values()
         .filter(|e| !e.expired(now_ms) && selector.is_none_or(|s| s.matches(*e)))
         .count()
+}
+
+// -- transaction marks ----------------------------------------------------------
+
+/// Delivery numbers that are marked in a transaction.
+pub fn marks(dest: &Dest, id: &ConsumerId) -> Vec<u64> {
+    let st = dest.state.lock();
+    let own = st.subs.iter().filter(|s| &s.id == id);
+    own.flat_map(|s| s.inflight.iter().filter(|(_, i)| i.tx).map(|(dseq, _)| *dseq))
+        .collect()
+}
+
+/// Marks these delivery numbers of a consumer, and no others.
+pub fn set_marks(dest: &Dest, id: &ConsumerId, marked: &[u64]) {
+    let mut st = dest.state.lock();
+    for sub in st.subs.iter_mut().filter(|s| &s.id == id) {
+        for (dseq, inflight) in &mut sub.inflight {
+            inflight.tx = marked.contains(dseq);
+        }
+    }
 }
 
 // -- a private query ----------------------------------------------------------

@@ -101,13 +101,13 @@ module _ (ws : List ℕ) (h : Words ws) where
   unfolding clocked
   clocked-ok = λ i. unusedFrom 4 ws && (id-ok i && clockOk (at 3 ws))
 
-  pub release-range : is-some (decode 8 ws) ≡ clocked ws
-  unfolding decode read argumentsOk
-  release-range = some-provided _ _ ∙ clocked-ok
-
   pub remove-range : is-some (decode 12 ws) ≡ clocked ws
   unfolding decode read argumentsOk
   remove-range = some-provided _ _ ∙ clocked-ok
+
+  pub release-range : is-some (decode 15 ws) ≡ clocked ws
+  unfolding decode read argumentsOk
+  release-range = some-provided _ _ ∙ clocked-ok
 
   pub sweep-range : is-some (decode 9 ws) ≡ sweeps ws
   unfolding decode read argumentsOk sweeps
@@ -128,9 +128,16 @@ module _ (ws : List ℕ) (h : Words ws) where
   unfolding decode read argumentsOk
   clear-range = some-provided _ _ ∙ and-true (unusedFrom 0 ws)
 
+  named-ok : (unusedFrom 3 ws && idOk (idOf ws)) ≡ unusedFrom 3 ws
+  named-ok = (λ i. unusedFrom 3 ws && id-ok i) ∙ and-true (unusedFrom 3 ws)
+
+  pub unmark-range : is-some (decode 8 ws) ≡ unusedFrom 3 ws
+  unfolding decode read argumentsOk
+  unmark-range = some-provided _ _ ∙ named-ok
+
   pub add-range : is-some (decode 11 ws) ≡ unusedFrom 3 ws
   unfolding decode read argumentsOk
-  add-range = some-provided _ _ ∙ (λ i. unusedFrom 3 ws && id-ok i) ∙ and-true (unusedFrom 3 ws)
+  add-range = some-provided _ _ ∙ named-ok
 
   pub forget-range : is-some (decode 14 ws) ≡ unusedFrom 1 ws
   unfolding decode read argumentsOk

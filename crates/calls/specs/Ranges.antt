@@ -28,7 +28,7 @@ timed ws = unusedFrom 5 ws && leb (at 4 ws) (2 ^ 62)
 unfoldable pub prefetches : List ℕ → Bool
 prefetches ws = unusedFrom 5 ws && isInt (at 3 ws) && leb (at 4 ws) (2 ^ 62)
 
--- codes 8 and 12: identifier, clock
+-- codes 12 and 15: identifier, clock
 unfoldable pub clocked : List ℕ → Bool
 clocked ws = unusedFrom 4 ws && leb (at 3 ws) (2 ^ 62)
 

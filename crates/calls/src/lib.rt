@@ -39,7 +39,7 @@ impl Call {
 
     pub const PREFETCH: u64 = 7;
 
-    pub const RELEASE: u64 = 8;
+    pub const UNMARK: u64 = 8;
 
     pub const SWEEP: u64 = 9;
 
@@ -52,6 +52,8 @@ impl Call {
     pub const DUPLICATE: u64 = 13;
 
     pub const RELEASE_AUDITS: u64 = 14;
+
+    pub const RELEASE: u64 = 15;
 
     pub fn new(code: u64, words: [u64; 8]) -> Call
         ensures { λ r. ⌜ r ≡ newCall code words ⌝ }
@@ -68,7 +70,7 @@ impl Call {
         (w[0] <= 1) & limits & (w[3] <= entry::CLOCK_MOST) & unused(w, 4)
     }
 
-    // Whether the code is one of 1 to 14, and the words are its arguments: in range, and the unused ones 0.
+    // Whether the code is one of 1 to 15, and the words are its arguments: in range, and the unused ones 0.
     pub fn in_range(self) -> bool
         ensures { λ r. ⌜ r ≡ is-some (decode (self .code) (self .words)) ⌝ }
     {
@@ -82,10 +84,10 @@ impl Call {
             Call::ACK => ack_ok(w),
             Call::TIMEOUT | Call::DUPLICATE => unused(w, 4),
             Call::PREFETCH => prefetch_ok(w),
-            Call::RELEASE | Call::REMOVE_PRODUCER => clocked_ok(w),
+            Call::REMOVE_PRODUCER | Call::RELEASE => clocked_ok(w),
             Call::SWEEP => sweep_ok(w),
             Call::CLEAR => unused(w, 0),
-            Call::ADD_PRODUCER => unused(w, 3),
+            Call::UNMARK | Call::ADD_PRODUCER => unused(w, 3),
             Call::RELEASE_AUDITS => unused(w, 1),
             _ => false,
         }

@@ -31,17 +31,17 @@ module _ (n : ℕ) (nine : List ℕ) where
     one-number h v e = rw (ne-eqb n 9 h, e)
 
 module _ (place : ℕ) (ws : List (List ℕ)) where
-  pub by-code : place < 15 → named place ws ≡ gather 1 (set (replicate 9 0) 0 place) ws
+  pub by-code : place < 16 → named place ws ≡ gather 1 (set (replicate 9 0) 0 place) ws
   unfolding named
-  by-code h = rw (le-leb place 14 (omega arith))
+  by-code h = rw (le-leb place 15 (omega arith))
 
-  pub by-raw : place ≡ 15 → named place ws ≡ gather 0 (replicate 9 0) ws
+  pub by-raw : place ≡ 16 → named place ws ≡ gather 0 (replicate 9 0) ws
   unfolding named
-  by-raw e = rw (lt-leb place 14 (omega arith), eq-eqb place 15 e)
+  by-raw e = rw (lt-leb place 15 (omega arith), eq-eqb place 16 e)
 
-  pub unknown : 15 < place → named place ws ≡ without 2
+  pub unknown : 16 < place → named place ws ≡ without 2
   unfolding named
-  unknown h = let n : place ≡ 15 → ⊥ = λ e. omega arith in rw (lt-leb place 14 (omega arith), ne-eqb place 15 n)
+  unknown h = let n : place ≡ 16 → ⊥ = λ e. omega arith in rw (lt-leb place 15 (omega arith), ne-eqb place 16 n)
 
 pub no-call : callIn [] ≡ without 1
 unfolding callIn

@@ -136,16 +136,16 @@ module _ (code n : ℕ) (ws : List ℕ) (eight : length ws ≡ 8) (low : n ≤ 8
 
 -- ---- names
 
-name-place : (k : ℕ) → k < 16 → placeOf (nameAt k) ≡ k
+name-place : (k : ℕ) → k < 17 → placeOf (nameAt k) ≡ k
 unfolding names placeOf placeIn values sameText
 name-place k h =
-    sym (value (λ (j : ℕ). placeOf (nameAt j)) 0 16 k (values (λ (j : ℕ). j) 0 16) refl h) ∙ value (λ (j : ℕ). j) 0 16 k (values (λ (j : ℕ). j) 0 16) refl h
+    sym (value (λ (j : ℕ). placeOf (nameAt j)) 0 17 k (values (λ (j : ℕ). j) 0 17) refl h) ∙ value (λ (j : ℕ). j) 0 17 k (values (λ (j : ℕ). j) 0 17) refl h
 
-name-solid : (k : ℕ) → k < 16 → Solid (nameAt k)
+name-solid : (k : ℕ) → k < 17 → Solid (nameAt k)
 unfolding names values solid
 name-solid k h = (
-  leb-true 1 (length (nameAt k)) (sym (value (λ (j : ℕ). leb 1 (length (nameAt j))) false 16 k (replicate 16 true) refl h) ∙ getD-replicate 16 k true false h),
-  sym (value (λ (j : ℕ). solid (nameAt j)) false 16 k (replicate 16 true) refl h) ∙ getD-replicate 16 k true false h,
+  leb-true 1 (length (nameAt k)) (sym (value (λ (j : ℕ). leb 1 (length (nameAt j))) false 17 k (replicate 17 true) refl h) ∙ getD-replicate 17 k true false h),
+  sym (value (λ (j : ℕ). solid (nameAt j)) false 17 k (replicate 17 true) refl h) ∙ getD-replicate 17 k true false h,
 )
 
 -- ---- the line
@@ -158,7 +158,7 @@ pub text-ends : (c : Call) → callText c ≡ lineText c ++ newline
 unfolding callText lineText
 text-ends c = simp append-assoc
 
-read-line : (place : ℕ) (ws : List (List ℕ)) → place < 16 → Solids ws → lineCall (nameAt place ++ spaced ws) ≡ named place ws
+read-line : (place : ℕ) (ws : List (List ℕ)) → place < 17 → Solids ws → lineCall (nameAt place ++ spaced ws) ≡ named place ws
 unfolding lineCall
 read-line place ws h s =
     let n = name-solid place h in
@@ -199,34 +199,34 @@ module _ (c : Call) (fits : c .code < 2 ^ 64) (words : Words (c .words)) where
 
   -- the words after the name
   after : List (List ℕ)
-  after = if ltb (c .code) 15 then texts else decimal (c .code) ∷ texts
+  after = if ltb (c .code) 16 then texts else decimal (c .code) ∷ texts
 
-  place-low : place < 16
+  place-low : place < 17
   unfolding place
-  place-low = by-test (ltb (c .code) 15)
-      (λ t. omega (arith, ltb-true (c .code) 15 t, place-known (c .code) (ltb-true (c .code) 15 t)))
-      (λ t. omega (arith, place-raw (c .code) (ltb-false (c .code) 15 t)))
+  place-low = by-test (ltb (c .code) 16)
+      (λ t. omega (arith, ltb-true (c .code) 16 t, place-known (c .code) (ltb-true (c .code) 16 t)))
+      (λ t. omega (arith, place-raw (c .code) (ltb-false (c .code) 16 t)))
 
   after-solid : Solids after
   unfolding after texts
-  after-solid = by-test (ltb (c .code) 15)
+  after-solid = by-test (ltb (c .code) 16)
       (λ t. rw t (solids place 0 (take count (c .words)) fit))
       (λ t. rw t (text-read false (c .code) fits .word, solids place 0 (take count (c .words)) fit))
 
   line-words : lineText c ≡ nameAt place ++ spaced after
   unfolding lineText place after spaced
-  line-words = by-test (ltb (c .code) 15)
-      (λ t. rw t (ap (λ (l : List ℕ). nameAt place ++ l) (rw (code-known (c .code) (ltb-true (c .code) 15 t)) shown-text)))
-      (λ t. rw t (ap (λ (l : List ℕ). nameAt place ++ l) (rw (code-raw (c .code) (ltb-false (c .code) 15 t)) (ap (λ (l : List ℕ). field (c .code) ++ l) shown-text))))
+  line-words = by-test (ltb (c .code) 16)
+      (λ t. rw t (ap (λ (l : List ℕ). nameAt place ++ l) (rw (code-known (c .code) (ltb-true (c .code) 16 t)) shown-text)))
+      (λ t. rw t (ap (λ (l : List ℕ). nameAt place ++ l) (rw (code-raw (c .code) (ltb-false (c .code) 16 t)) (ap (λ (l : List ℕ). field (c .code) ++ l) shown-text))))
 
   after-named : named place after ≡ parsed 0 c
   unfolding place after
-  after-named = by-test (ltb (c .code) 15)
+  after-named = by-test (ltb (c .code) 16)
       (λ t.
-      let h : c .code < 15 = ltb-true (c .code) 15 t in
+      let h : c .code < 16 = ltb-true (c .code) 16 t in
       rw t (ap (λ (k : ℕ). named k texts) (sym (place-known (c .code) h)) ∙ by-code (c .code) texts h ∙ gathers))
       (λ t.
-      let p : place ≡ 15 = sym (place-raw (c .code) (ltb-false (c .code) 15 t)) in
+      let p : place ≡ 16 = sym (place-raw (c .code) (ltb-false (c .code) 16 t)) in
       rw t (by-raw place (decimal (c .code) ∷ texts) p ∙ one-number 0 (replicate 9 0) (decimal (c .code)) texts (λ e. omega arith) (c .code) (text-read false (c .code) fits .number) ∙ gathers))
 
   -- what is written is read

@@ -48,21 +48,21 @@ pub name-more : (l : List ℕ) (j : ℕ) → j < length l → take (j + 1) l ≡
 name-more l j h = rw (add-one j, take-suc l j 0 h)
 
 module _ (code : ℕ) where
-  pub place-known : code < 15 → code ≡ placeFor code
+  pub place-known : code < 16 → code ≡ placeFor code
   unfolding placeFor
-  place-known h = rw (le-leb code 14 (omega arith))
+  place-known h = rw (le-leb code 15 (omega arith))
 
-  pub place-raw : 15 ≤ code → 15 ≡ placeFor code
+  pub place-raw : 16 ≤ code → 16 ≡ placeFor code
   unfolding placeFor
-  place-raw h = rw (lt-leb code 14 (omega arith))
+  place-raw h = rw (lt-leb code 15 (omega arith))
 
-  pub code-known : code < 15 → codeField code ≡ []
+  pub code-known : code < 16 → codeField code ≡ []
   unfolding codeField
-  code-known h = rw (le-leb code 14 (omega arith))
+  code-known h = rw (le-leb code 15 (omega arith))
 
-  pub code-raw : 15 ≤ code → codeField code ≡ field code
+  pub code-raw : 16 ≤ code → codeField code ≡ field code
   unfolding codeField
-  code-raw h = rw (lt-leb code 14 (omega arith))
+  code-raw h = rw (lt-leb code 15 (omega arith))
 
 -- ---- words
 

@@ -41,50 +41,51 @@ table =
     ∷ 112 ∷ 117 ∷ 108 ∷ 108 ∷ 0 ∷ 0 ∷ 0 ∷ 0 ∷ 0 ∷ 0 ∷ 0 ∷ 0 ∷ 0 ∷ 0 ∷ 0 ∷ 0
     ∷ 116 ∷ 105 ∷ 109 ∷ 101 ∷ 111 ∷ 117 ∷ 116 ∷ 0 ∷ 0 ∷ 0 ∷ 0 ∷ 0 ∷ 0 ∷ 0 ∷ 0 ∷ 0
     ∷ 112 ∷ 114 ∷ 101 ∷ 102 ∷ 101 ∷ 116 ∷ 99 ∷ 104 ∷ 0 ∷ 0 ∷ 0 ∷ 0 ∷ 0 ∷ 0 ∷ 0 ∷ 0
-    ∷ 114 ∷ 101 ∷ 108 ∷ 101 ∷ 97 ∷ 115 ∷ 101 ∷ 0 ∷ 0 ∷ 0 ∷ 0 ∷ 0 ∷ 0 ∷ 0 ∷ 0 ∷ 0
+    ∷ 117 ∷ 110 ∷ 109 ∷ 97 ∷ 114 ∷ 107 ∷ 0 ∷ 0 ∷ 0 ∷ 0 ∷ 0 ∷ 0 ∷ 0 ∷ 0 ∷ 0 ∷ 0
     ∷ 115 ∷ 119 ∷ 101 ∷ 101 ∷ 112 ∷ 0 ∷ 0 ∷ 0 ∷ 0 ∷ 0 ∷ 0 ∷ 0 ∷ 0 ∷ 0 ∷ 0 ∷ 0
     ∷ 99 ∷ 108 ∷ 101 ∷ 97 ∷ 114 ∷ 0 ∷ 0 ∷ 0 ∷ 0 ∷ 0 ∷ 0 ∷ 0 ∷ 0 ∷ 0 ∷ 0 ∷ 0
     ∷ 97 ∷ 100 ∷ 100 ∷ 95 ∷ 112 ∷ 114 ∷ 111 ∷ 100 ∷ 117 ∷ 99 ∷ 101 ∷ 114 ∷ 0 ∷ 0 ∷ 0 ∷ 0
     ∷ 114 ∷ 101 ∷ 109 ∷ 111 ∷ 118 ∷ 101 ∷ 95 ∷ 112 ∷ 114 ∷ 111 ∷ 100 ∷ 117 ∷ 99 ∷ 101 ∷ 114 ∷ 0
     ∷ 100 ∷ 117 ∷ 112 ∷ 108 ∷ 105 ∷ 99 ∷ 97 ∷ 116 ∷ 101 ∷ 0 ∷ 0 ∷ 0 ∷ 0 ∷ 0 ∷ 0 ∷ 0
     ∷ 114 ∷ 101 ∷ 108 ∷ 101 ∷ 97 ∷ 115 ∷ 101 ∷ 95 ∷ 97 ∷ 117 ∷ 100 ∷ 105 ∷ 116 ∷ 115 ∷ 0 ∷ 0
+    ∷ 114 ∷ 101 ∷ 108 ∷ 101 ∷ 97 ∷ 115 ∷ 101 ∷ 0 ∷ 0 ∷ 0 ∷ 0 ∷ 0 ∷ 0 ∷ 0 ∷ 0 ∷ 0
     ∷ 114 ∷ 97 ∷ 119 ∷ 0 ∷ 0 ∷ 0 ∷ 0 ∷ 0 ∷ 0 ∷ 0 ∷ 0 ∷ 0 ∷ 0 ∷ 0 ∷ 0 ∷ 0
     ∷ []
 
 unfoldable pub lengths : List ℕ
-lengths = 4 ∷ 7 ∷ 4 ∷ 5 ∷ 3 ∷ 4 ∷ 7 ∷ 8 ∷ 7 ∷ 5 ∷ 5 ∷ 12 ∷ 15 ∷ 9 ∷ 14 ∷ 3 ∷ []
+lengths = 4 ∷ 7 ∷ 4 ∷ 5 ∷ 3 ∷ 4 ∷ 7 ∷ 8 ∷ 6 ∷ 5 ∷ 5 ∷ 12 ∷ 15 ∷ 9 ∷ 14 ∷ 7 ∷ 3 ∷ []
 
-pub length-at : (k : ℕ) → k < 16 → getD lengths k 0 ≡ length (nameAt k)
+pub length-at : (k : ℕ) → k < 17 → getD lengths k 0 ≡ length (nameAt k)
 unfolding lengths names values
-length-at k h = value (λ (j : ℕ). length (nameAt j)) 0 16 k lengths refl h
+length-at k h = value (λ (j : ℕ). length (nameAt j)) 0 17 k lengths refl h
 
-pub short : (k : ℕ) → k < 16 → length (nameAt k) ≤ 15
+pub short : (k : ℕ) → k < 17 → length (nameAt k) ≤ 15
 unfolding names values
-short k h = leb-true (length (nameAt k)) 15 (sym (value (λ (j : ℕ). leb (length (nameAt j)) 15) false 16 k (replicate 16 true) refl h) ∙ getD-replicate 16 k true false h)
+short k h = leb-true (length (nameAt k)) 15 (sym (value (λ (j : ℕ). leb (length (nameAt j)) 15) false 17 k (replicate 17 true) refl h) ∙ getD-replicate 17 k true false h)
 
-bytes-at : (k : ℕ) → k < 16 → nameAt k ≡ take (length (nameAt k)) (drop (k * 16) table)
+bytes-at : (k : ℕ) → k < 17 → nameAt k ≡ take (length (nameAt k)) (drop (k * 16) table)
 unfolding names table values
-bytes-at k h = value (λ (j : ℕ). take (length (nameAt j)) (drop (j * 16) table)) [] 16 k names refl h
+bytes-at k h = value (λ (j : ℕ). take (length (nameAt j)) (drop (j * 16) table)) [] 17 k names refl h
 
-pub name-part : (k n : ℕ) → k < 16 → n ≡ length (nameAt k) → take (k * 16 + n - k * 16) (drop (k * 16) table) ≡ nameAt k
+pub name-part : (k n : ℕ) → k < 17 → n ≡ length (nameAt k) → take (k * 16 + n - k * 16) (drop (k * 16) table) ≡ nameAt k
 name-part k n h e = let d : k * 16 + n - k * 16 ≡ length (nameAt k) = omega arith in rw d (sym (bytes-at k h))
 
 -- ---- a name's place
 
 module _ (w : List ℕ) (k : ℕ) where
-  pub place-hit : k < 16 → sameText w (nameAt k) ≡ true → placeIn (drop k names) k w ≡ k
+  pub place-hit : k < 17 → sameText w (nameAt k) ≡ true → placeIn (drop k names) k w ≡ k
   unfolding placeIn names
   place-hit h t = rw (drop-cons names k [] h, t)
 
-  pub place-miss : k < 16 → sameText w (nameAt k) ≡ false → placeIn (drop k names) k w ≡ placeIn (drop (k + 1) names) (k + 1) w
+  pub place-miss : k < 17 → sameText w (nameAt k) ≡ false → placeIn (drop k names) k w ≡ placeIn (drop (k + 1) names) (k + 1) w
   unfolding placeIn names
   place-miss h t = rw (add-one k, drop-cons names k [] h, t)
 
-  pub place-end : k ≡ 16 → placeIn (drop k names) k w ≡ k
+  pub place-end : k ≡ 17 → placeIn (drop k names) k w ≡ k
   unfolding placeIn names
   place-end e = rw e
 
 -- ---- bytes of a name
 
-pub byte-at : (k j : ℕ) → k < 16 → j < length (nameAt k) → getD table (k * 16 + j) 0 ≡ getD (nameAt k) j 0
+pub byte-at : (k j : ℕ) → k < 17 → j < length (nameAt k) → getD table (k * 16 + j) 0 ≡ getD (nameAt k) j 0
 byte-at k j h g = sym (ap (λ (l : List ℕ). getD l j 0) (bytes-at k h) ∙ getD-take (length (nameAt k)) (drop (k * 16) table) j 0 g ∙ getD-drop (k * 16) table j 0)

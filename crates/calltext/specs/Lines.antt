@@ -49,7 +49,7 @@ gather n nine (w ∷ ws) = if eqb n 9 then without 4 else withNumber (numberOf w
 
 -- a name gives the code; `raw` leaves it to the first number
 unfoldable pub named : ℕ → List (List ℕ) → Parsed
-named place ws = if leb place 14 then gather 1 (set (replicate 9 0) 0 place) ws else if eqb place RAW then gather 0 (replicate 9 0) ws else without 2
+named place ws = if leb place 15 then gather 1 (set (replicate 9 0) 0 place) ws else if eqb place RAW then gather 0 (replicate 9 0) ws else without 2
 
 unfoldable pub callIn : List (List ℕ) → Parsed
 callIn [] = without 1

@@ -9,7 +9,7 @@ use Rattle.textwords.specs.Text.{sameText}
 
 -- a call of an unknown code is written `raw`, its code and its words
 abbrev pub RAW : ℕ
-RAW = 15
+RAW = 16
 
 unfoldable pub names : List (List ℕ)
 names =
@@ -29,8 +29,8 @@ names =
     ∷ (116 ∷ 105 ∷ 109 ∷ 101 ∷ 111 ∷ 117 ∷ 116 ∷ [])
     -- prefetch
     ∷ (112 ∷ 114 ∷ 101 ∷ 102 ∷ 101 ∷ 116 ∷ 99 ∷ 104 ∷ [])
-    -- release
-    ∷ (114 ∷ 101 ∷ 108 ∷ 101 ∷ 97 ∷ 115 ∷ 101 ∷ [])
+    -- unmark
+    ∷ (117 ∷ 110 ∷ 109 ∷ 97 ∷ 114 ∷ 107 ∷ [])
     -- sweep
     ∷ (115 ∷ 119 ∷ 101 ∷ 101 ∷ 112 ∷ [])
     -- clear
@@ -43,6 +43,8 @@ names =
     ∷ (100 ∷ 117 ∷ 112 ∷ 108 ∷ 105 ∷ 99 ∷ 97 ∷ 116 ∷ 101 ∷ [])
     -- release_audits
     ∷ (114 ∷ 101 ∷ 108 ∷ 101 ∷ 97 ∷ 115 ∷ 101 ∷ 95 ∷ 97 ∷ 117 ∷ 100 ∷ 105 ∷ 116 ∷ 115 ∷ [])
+    -- release
+    ∷ (114 ∷ 101 ∷ 108 ∷ 101 ∷ 97 ∷ 115 ∷ 101 ∷ [])
     -- raw
     ∷ (114 ∷ 97 ∷ 119 ∷ [])
     ∷ []
@@ -60,7 +62,7 @@ placeOf word = placeIn names 0 word
 
 -- the name of a code
 unfoldable pub placeFor : ℕ → ℕ
-placeFor code = if leb code 14 then code else RAW
+placeFor code = if leb code 15 then code else RAW
 
 -- what a word holds, eight to a name: 0 nothing, 1 an unsigned number, 2 a signed one
 unfoldable pub kinds : List ℕ
@@ -73,13 +75,14 @@ kinds =
     ∷ 1 ∷ 2 ∷ 2 ∷ 2 ∷ 1 ∷ 0 ∷ 0 ∷ 0  -- pull
     ∷ 1 ∷ 2 ∷ 2 ∷ 1 ∷ 0 ∷ 0 ∷ 0 ∷ 0  -- timeout
     ∷ 1 ∷ 2 ∷ 2 ∷ 2 ∷ 1 ∷ 0 ∷ 0 ∷ 0  -- prefetch
-    ∷ 1 ∷ 2 ∷ 2 ∷ 1 ∷ 0 ∷ 0 ∷ 0 ∷ 0  -- release
+    ∷ 1 ∷ 2 ∷ 2 ∷ 0 ∷ 0 ∷ 0 ∷ 0 ∷ 0  -- unmark
     ∷ 1 ∷ 1 ∷ 0 ∷ 0 ∷ 0 ∷ 0 ∷ 0 ∷ 0  -- sweep
     ∷ 0 ∷ 0 ∷ 0 ∷ 0 ∷ 0 ∷ 0 ∷ 0 ∷ 0  -- clear
     ∷ 1 ∷ 2 ∷ 2 ∷ 0 ∷ 0 ∷ 0 ∷ 0 ∷ 0  -- add_producer
     ∷ 1 ∷ 2 ∷ 2 ∷ 1 ∷ 0 ∷ 0 ∷ 0 ∷ 0  -- remove_producer
     ∷ 1 ∷ 2 ∷ 2 ∷ 2 ∷ 0 ∷ 0 ∷ 0 ∷ 0  -- duplicate
     ∷ 1 ∷ 0 ∷ 0 ∷ 0 ∷ 0 ∷ 0 ∷ 0 ∷ 0  -- release_audits
+    ∷ 1 ∷ 2 ∷ 2 ∷ 1 ∷ 0 ∷ 0 ∷ 0 ∷ 0  -- release
     ∷ 0 ∷ 0 ∷ 0 ∷ 0 ∷ 0 ∷ 0 ∷ 0 ∷ 0  -- raw
     ∷ []
 

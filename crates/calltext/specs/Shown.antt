@@ -22,7 +22,7 @@ fields place ws (suc n) = fields place ws n ++ wordField (minusAt place n) (getD
 
 -- `raw` is followed by the code
 unfoldable pub codeField : ℕ → List ℕ
-codeField code = if leb code 14 then [] else field code
+codeField code = if leb code 15 then [] else field code
 
 abbrev pub shownFields : ℕ → List ℕ → List ℕ
 shownFields place ws = fields place ws (shown place ws 8)

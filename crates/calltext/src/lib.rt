@@ -14,7 +14,7 @@ use textwords::Number;
 use textwords::Stop;
 
 // The names, 16 bytes each, by code; the last is that of a call of any code.
-const NAMES: [u8; 256] = [
+const NAMES: [u8; 272] = [
     111,
     112,
     101,
@@ -143,13 +143,13 @@ const NAMES: [u8; 256] = [
     0,
     0,
     0,
-    114,
-    101,
-    108,
-    101,
+    117,
+    110,
+    109,
     97,
-    115,
-    101,
+    114,
+    107,
+    0,
     0,
     0,
     0,
@@ -256,6 +256,22 @@ const NAMES: [u8; 256] = [
     0,
     0,
     114,
+    101,
+    108,
+    101,
+    97,
+    115,
+    101,
+    0,
+    0,
+    0,
+    0,
+    0,
+    0,
+    0,
+    0,
+    0,
+    114,
     97,
     119,
     0,
@@ -273,10 +289,10 @@ const NAMES: [u8; 256] = [
     0,
 ];
 
-const LENGTHS: [u8; 16] = [4, 7, 4, 5, 3, 4, 7, 8, 7, 5, 5, 12, 15, 9, 14, 3];
+const LENGTHS: [u8; 17] = [4, 7, 4, 5, 3, 4, 7, 8, 6, 5, 5, 12, 15, 9, 14, 7, 3];
 
 // What each of a call's eight words holds: 0 nothing, 1 an unsigned number, 2 a signed one.
-const KINDS: [u8; 128] = [
+const KINDS: [u8; 136] = [
     1,
     1,
     1,
@@ -344,20 +360,52 @@ const KINDS: [u8; 128] = [
     1,
     2,
     2,
+    0,
+    0,
+    0,
+    0,
+    0,
+    1,
+    1,
+    0,
+    0,
+    0,
+    0,
+    0,
+    0,
+    0,
+    0,
+    0,
+    0,
+    0,
+    0,
+    0,
+    0,
+    1,
+    2,
+    2,
+    0,
+    0,
+    0,
+    0,
+    0,
+    1,
+    2,
+    2,
     1,
     0,
     0,
     0,
     0,
     1,
+    2,
+    2,
+    2,
+    0,
+    0,
+    0,
+    0,
     1,
-    0,
-    0,
-    0,
-    0,
-    0,
-    0,
-    0,
     0,
     0,
     0,
@@ -368,31 +416,7 @@ const KINDS: [u8; 128] = [
     1,
     2,
     2,
-    0,
-    0,
-    0,
-    0,
-    0,
     1,
-    2,
-    2,
-    1,
-    0,
-    0,
-    0,
-    0,
-    1,
-    2,
-    2,
-    2,
-    0,
-    0,
-    0,
-    0,
-    1,
-    0,
-    0,
-    0,
     0,
     0,
     0,
@@ -408,7 +432,7 @@ const KINDS: [u8; 128] = [
 ];
 
 // The place of the name for any code.
-const RAW: usize = 15;
+const RAW: usize = 16;
 
 // A line of text: what it is, and the call.
 pub struct Parsed {
@@ -430,7 +454,7 @@ pub const TOO_MANY: u64 = 4;
 // ---- names
 
 fn name_length(place: usize) -> usize
-    requires { ⌜ place < 16 ⌝ }
+    requires { ⌜ place < 17 ⌝ }
     ensures { λ r. ⌜ (r ≡ length (nameAt place)) × (r ≤ 15) ⌝ }
 {
     LENGTHS[place] as usize
@@ -438,7 +462,7 @@ fn name_length(place: usize) -> usize
 
 // Whether a word is the name at a place.
 fn is_name(word: &[u8], place: usize) -> bool
-    requires { ⌜ place < 16 ⌝ }
+    requires { ⌜ place < 17 ⌝ }
     ensures { λ r. ⌜ r ≡ sameText (now (word .entry)) (nameAt place) ⌝ }
 {
     let names = NAMES;
@@ -448,12 +472,12 @@ fn is_name(word: &[u8], place: usize) -> bool
     textwords::same(word, &all[from..to])
 }
 
-// The place of a name, or 16.
+// The place of a name, or 17.
 fn place_of(word: &[u8]) -> usize
     ensures { λ r. ⌜ r ≡ placeOf (now (word .entry)) ⌝ }
 {
     let mut k = 0;
-    while k < 16 {
+    while k < 17 {
         if is_name(word, k) {
             return k;
         }
@@ -555,14 +579,14 @@ fn put(out: &mut [u8], at: usize, b: u8) -> usize
 
 // Byte j of the name at a place.
 fn name_byte(place: usize, j: usize) -> u8
-    requires { ⌜ (place < 16) × (j < length (nameAt place)) ⌝ }
+    requires { ⌜ (place < 17) × (j < length (nameAt place)) ⌝ }
     ensures { λ r. ⌜ r ≡ getD (nameAt place) j 0 ⌝ }
 {
     NAMES[place * 16 + j]
 }
 
 fn put_name(out: &mut [u8], at: usize, place: usize) -> usize
-    requires { do ⌜ (place < 16) × (at + 15 ≤ (← ⟦out.len()⟧)) ⌝ }
+    requires { do ⌜ (place < 17) × (at + 15 ≤ (← ⟦out.len()⟧)) ⌝ }
     ensures { λ r. ⌜ Puts (nameAt place) at (now (out .entry)) r (now (out .exit)) × (r ≤ at + 15) ⌝ }
 {
     let n = name_length(place);
@@ -577,9 +601,9 @@ fn put_name(out: &mut [u8], at: usize, place: usize) -> usize
 
 // The place of the name of a code.
 fn place_for(code: u64) -> usize
-    ensures { λ r. ⌜ (r ≡ placeFor code) × (r < 16) ⌝ }
+    ensures { λ r. ⌜ (r ≡ placeFor code) × (r < 17) ⌝ }
 {
-    if code < 15 {
+    if code < 16 {
         return code as usize;
     }
     RAW
@@ -590,7 +614,7 @@ fn put_code(out: &mut [u8], at: usize, code: u64) -> usize
     requires { do ⌜ at + 128 ≤ (← ⟦out.len()⟧) ⌝ }
     ensures { λ r. ⌜ Puts (codeField code) at (now (out .entry)) r (now (out .exit)) × (r ≤ at + 22) ⌝ }
 {
-    if code < 15 {
+    if code < 16 {
         return at;
     }
     callfile::put_word(out, at, code, false)
@@ -598,7 +622,7 @@ fn put_code(out: &mut [u8], at: usize, code: u64) -> usize
 
 // What word k of a call holds.
 fn kind_at(place: usize, k: usize) -> u8
-    requires { ⌜ (place < 16) × (k < 8) ⌝ }
+    requires { ⌜ (place < 17) × (k < 8) ⌝ }
     ensures { λ r. ⌜ r ≡ kindAt place k ⌝ }
 {
     KINDS[place * 8 + k]
@@ -606,7 +630,7 @@ fn kind_at(place: usize, k: usize) -> u8
 
 // How many words are written.
 fn shown_words(place: usize, w: [u64; 8]) -> usize
-    requires { ⌜ place < 16 ⌝ }
+    requires { ⌜ place < 17 ⌝ }
     ensures { λ r. ⌜ (r ≡ shown place w 8) × (r ≤ 8) ⌝ }
 {
     let mut n = 8;
@@ -623,7 +647,7 @@ fn shown_words(place: usize, w: [u64; 8]) -> usize
 }
 
 fn put_fields(out: &mut [u8], at: usize, place: usize, w: [u64; 8], n: usize) -> usize
-    requires { do ⌜ (place < 16) × (n ≤ 8) × (at + 304 ≤ (← ⟦out.len()⟧)) ⌝ }
+    requires { do ⌜ (place < 17) × (n ≤ 8) × (at + 304 ≤ (← ⟦out.len()⟧)) ⌝ }
     ensures { λ r. ⌜ Puts (fields place w n) at (now (out .entry)) r (now (out .exit)) × (r ≤ at + 176) ⌝ }
 {
     let mut next = at;

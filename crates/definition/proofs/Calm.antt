@@ -12,11 +12,11 @@ use lib.Signed.{ltZ}
 use Rattle.definition.specs.Base.{if_then_else_, keep, find, put, nth, empty}
 use Rattle.definition.specs.Types.{Kind, queue, topic, Id, Entry, Inflight, Sub, Audit, Dest, withPrefetch, withCursor, withTpending, withPending, withSubs, withReserved}
 use Rattle.definition.specs.Consumer.{expired, addExpired, isBrowser, snapshot, hasCredit, send, sendNull, redelivered, ackSub, atRest, dispatchBrowser}
-use Rattle.definition.specs.Destination.{ackAt, pullAt, removeAt, sweepAt, testAt, timeoutAt, visitAt, Out, Look, look, given, visit, scan, turns, rounds, Browsed, browsers, dispatchQueue, serveAll, dispatchTopic, dispatchBy, dispatch, touchIdle, count, isId, subOf, putSub, room, setPrefetch, ack, pulled, pull, pullTimeout, fired, resumed, fanOutAll, stored, fannedOut, enqueueBy, Spec, addSub, holdBackAll, reinsert, heldBy, reservedOf, ackReserved, returning, dropSub, removeSub, noTx, unmarked, releaseReserved, Swept, sweepList, SweptSubs, sweepSubs, sweepExpired, cleared, clear, auditOf, isDuplicate}
+use Rattle.definition.specs.Destination.{ackAt, pullAt, removeAt, sweepAt, testAt, timeoutAt, visitAt, Out, Look, look, given, visit, scan, turns, rounds, Browsed, browsers, dispatchQueue, serveAll, dispatchTopic, dispatchBy, dispatch, touchIdle, count, isId, subOf, putSub, room, setPrefetch, ack, pulled, pull, pullTimeout, fired, resumed, fanOutAll, stored, fannedOut, enqueueBy, Spec, addSub, holdBackAll, reinsert, heldBy, reservedOf, ackReserved, returning, dropSub, removeSub, noTx, unmarked, returnReserved, Swept, sweepList, SweptSubs, sweepSubs, sweepExpired, cleared, clear, auditOf, isDuplicate}
 use Rattle.audit.specs.Audit.{seen}
 use Rattle.definition.proofs.Tests.{or-no-left, by-if, by-test}
 use Rattle.definition.proofs.Lists.{All, all-put, all-find, length-map}
-use Rattle.definition.specs.Calls.{Lengths, Request, acknowledge, pulling, timedOut, prefetching, ask, Call, enqueuing, joining, leaving, asking, releasing, sweeping, clearing, adding, removing, testing, forgetting, discarding, missing, perform, refusal, call}
+use Rattle.definition.specs.Calls.{Lengths, Request, acknowledge, pulling, timedOut, prefetching, ask, Call, enqueuing, joining, leaving, asking, unmarking, releasing, sweeping, clearing, adding, removing, testing, forgetting, discarding, missing, perform, refusal, call}
 use Rattle.definition.proofs.Local.{Rests, RestsTopic, RestsQueue, drained-rests, browsed-rests, alone}
 use Rattle.definition.specs.Orders.{Reached}
 use Rattle.definition.proofs.Made.{isClear, Made, opens, calls, made}
@@ -293,12 +293,12 @@ module _ (b : Bool) where
       same-empty [] = refl
       same-empty (s ∷ m) = refl
 
-  release-calm : (now : ℕ) (i : Id) (t : Dest) → Calm b t → Calm b (releaseReserved now i t .dest)
-  unfolding releaseReserved
+  release-calm : (now : ℕ) (i : Id) (t : Dest) → Calm b t → Calm b (returnReserved now i t .dest)
+  unfolding returnReserved
   release-calm now i t h = by-test (empty (reservedOf i t))
-      (λ c. rw c (unmark-calm i t h))
-      (λ c. rw c (calm-after _ now (reinsert now (map redelivered (reservedOf i t)) (withReserved (keep (λ h. not (heldBy i h)) (t .reserved)) (unmarked i t))) refl
-      (reinsert-idle now (map redelivered (reservedOf i t)) (withReserved (keep (λ h. not (heldBy i h)) (t .reserved)) (unmarked i t)) (unmark-calm i t h .idle))))
+      (λ c. rw c h)
+      (λ c. rw c (calm-after _ now (reinsert now (map redelivered (reservedOf i t)) (withReserved (keep (λ h. not (heldBy i h)) (t .reserved)) t)) refl
+      (reinsert-idle now (map redelivered (reservedOf i t)) (withReserved (keep (λ h. not (heldBy i h)) (t .reserved)) t) (h .idle))))
 
   -- sweep
   swept-nil : (budget now : ℕ) → sweepList budget now [] .list ≡ []
@@ -377,6 +377,7 @@ module _ (b : Bool) where
   perform-calm (joining p now) t h = join-calm now p t
   perform-calm (leaving i last now) t h = leave-calm now i last t h
   perform-calm (asking i q) t h = ask-calm i q t h
+  perform-calm (unmarking i) t h = unmark-calm i t h
   perform-calm (releasing i now) t h = release-calm now i t h
   perform-calm (sweeping now most) t h = sweep-calm now most t h
   perform-calm clearing t h = clear-calm t h

@@ -13,7 +13,7 @@ use Rattle.definition.specs.Types.{Kind, queue, topic, Id, Entry, Audit,
 use Rattle.definition.specs.Consumer.{sameId, addDiscarded, addExpired}
 use Rattle.audit.specs.Audit.{seen, recorded}
 use Rattle.definition.specs.Destination.{Answer, Spec, joined, subOf, enqueueBy, isProducer, addProducer, auditOf, removeProducer, testAt, isDuplicate, releaseAudits}
-use Rattle.definition.specs.Calls.{Lengths, short, entryOk, idOk, word, within, optional, clockOk, bound, seqs, allRows, freeRows, rowsFor, snapshotRows, auditOk, placed, sound, Call, enqueuing, joining, leaving, asking, releasing, sweeping, clearing, adding, removing, testing, forgetting, discarding, missing, specOk, argumentsOk, ownRefusal, perform, refusal, used, call, openOk, opened}
+use Rattle.definition.specs.Calls.{Lengths, short, entryOk, idOk, word, within, optional, clockOk, bound, seqs, allRows, freeRows, rowsFor, snapshotRows, auditOk, placed, sound, Call, enqueuing, joining, leaving, asking, unmarking, releasing, sweeping, clearing, adding, removing, testing, forgetting, discarding, missing, specOk, argumentsOk, ownRefusal, perform, refusal, used, call, openOk, opened}
 use Rattle.definition.specs.Orders.{Reached}
 use Rattle.definition.proofs.Tests.{and-false, by-if, by-test, and-left, and-right}
 use Rattle.definition.proofs.Lists.{keep-length, all-end, all-drop, all-keep, length-put}
@@ -24,7 +24,7 @@ use Rattle.definition.proofs.Whole.{rowsSum, Fine, fine, unfine, fine-m
 use Rattle.definition.proofs.Ops.{once-topic, fine-from, touch-fine, count-fine, ask-fine}
 use Rattle.definition.proofs.Reach.{enqueue-fine}
 use Rattle.definition.proofs.Join.{joined-fine, join-fine}
-use Rattle.definition.proofs.Leave.{leave-fine, release-fine, sweep-fine, clear-fine}
+use Rattle.definition.proofs.Leave.{leave-fine, unmark-fine, release-fine, sweep-fine, clear-fine}
 use Rattle.definition.proofs.Made.{Made, opens, calls, made}
 
 -- ---- what an accepted call is
@@ -160,6 +160,7 @@ perform-fine L U k N (joining p now) t n g a o =
     join-fine L U k N now p t (joins L U k N p now t n g a o)
 perform-fine L U k N (leaving i last now) t n g a o = leave-fine L U k N now i last t (and-right (within (2 ^ 63) last) _ (and-right (idOk i) _ a)) g
 perform-fine L U k N (asking i q) t n g a o = ask-fine L U k N i q t (and-right (idOk i) _ a) g
+perform-fine L U k N (unmarking i) t n g a o = unmark-fine L U k N i t g
 perform-fine L U k N (releasing i now) t n g a o = release-fine L U k N now i t g
 perform-fine L U k N (sweeping now most) t n g a o = sweep-fine L U k N now most t (and-left (clockOk now) _ a) (leb-true most 512 (and-right (clockOk now) _ a)) g
 perform-fine L U k N clearing t n g a o = fine-more L U k (N + 1) (N + 4096) _ (omega arith) (clear-fine L U k N t g)

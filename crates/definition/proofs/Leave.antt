@@ -12,7 +12,7 @@ use borrow.Author.Tests.{leb-false, lt-ltb}
 use Rattle.definition.specs.Base.{if_then_else_, keep, tally, all, find, empty, distinct, ascending}
 use Rattle.definition.specs.Types.{Kind, queue, topic, Id, Entry, Inflight, Sub, Held, Dest, withTpending, withPending, withSubs, withReserved}
 use Rattle.definition.specs.Consumer.{sameId, expired, _⊕_, addExpired, isBrowser, shown, snapshot, redelivered}
-use Rattle.definition.specs.Destination.{count, isId, subOf, insertAll, holdBackAll, room, wasDelivered, returnedFrom, reservedFrom, without, dropSub, returning, removeAt, removeSub, reinsert, heldBy, reservedOf, noTx, unmarked, releaseReserved, Swept, sweepAt, sweepList, soonest, SweptSubs, sweepSubs, sweepExpired, emptied, cleared, clear}
+use Rattle.definition.specs.Destination.{count, isId, subOf, insertAll, holdBackAll, room, wasDelivered, returnedFrom, reservedFrom, without, dropSub, returning, removeAt, removeSub, reinsert, heldBy, reservedOf, noTx, unmarked, returnReserved, Swept, sweepAt, sweepList, soonest, SweptSubs, sweepSubs, sweepExpired, emptied, cleared, clear}
 use Rattle.definition.specs.Calls.{entryOk, idOk, clockOk, seqs, flying, rowsOf, held, distinctIds}
 use Rattle.definition.proofs.Tests.{if-true, if-false, by-if, by-test, and-left, and-right, and-both}
 use Rattle.definition.proofs.Lists.{none-some, some-inj, All, empty-nil, all-append, all-keep}
@@ -197,33 +197,34 @@ module _ (L U : ℕ) where
   held-split f p [] = refl
   held-split f p (h ∷ l) = by-test (p h) (λ c. rw c (omega (arith, held-split f p l))) (λ c. rw c (omega (arith, held-split f p l)))
 
-  release-before : (N : ℕ) (i : Id) (t : Dest) → Fine L U queue N t → Before L U N (N + 1) t (withReserved (keep (λ h. not (heldBy i h)) (t .reserved)) (unmarked i t)) (map redelivered (reservedOf i t))
-  release-before N i t g =
-      let e = unmark-each queue N i t g in
-      record {
-        was = g;
-        kind = g .kind;
-        frame = frame-renewed L U (t .rr) (t .stats) (unmarked i t .subs) (t .pending) (keep (λ h. not (heldBy i h)) (t .reserved)) (t .idle) t (g .frame) (all-keep (λ h. idOk (h .holder)) (λ h. not (heldBy i h)) (t .reserved) (g .frame .holders)) (g .frame .mark);
-        few-subs = omega (arith, g .few-subs, each-length queue 1 N (t .subs) (unmarked i t .subs) e);
-        subs = e .sane;
-        ids = ids-same (t .subs) (unmarked i t .subs) (e .ids) ∙ g .ids;
-        rows = λ f w. omega (arith, held-split f (heldBy i) (t .reserved), sum-thin f w _ _ (thin-redelivered (reservedOf i t)), e .rows f w);
-        taken = λ f w. omega (arith, held-split f (heldBy i) (t .reserved), sum-thin f w _ _ (thin-redelivered (reservedOf i t)), e .taken refl f w);
-        sorted = g .sorted;
-        turn = ap (λ n. ltb (t .rr) n || eqb (t .rr) 0) (each-length queue 1 N (t .subs) (unmarked i t .subs) e) ∙ g .turn;
-        counters = under-same N 1 (t .stats) (g .counters);
-      }
+  release-before : (N : ℕ) (i : Id) (t : Dest) → Fine L U queue N t → Before L U N N t (withReserved (keep (λ h. not (heldBy i h)) (t .reserved)) t) (map redelivered (reservedOf i t))
+  release-before N i t g = record {
+    was = g;
+    kind = g .kind;
+    frame = frame-renewed L U (t .rr) (t .stats) (t .subs) (t .pending) (keep (λ h. not (heldBy i h)) (t .reserved)) (t .idle) t (g .frame) (all-keep (λ h. idOk (h .holder)) (λ h. not (heldBy i h)) (t .reserved) (g .frame .holders)) (g .frame .mark);
+    few-subs = g .few-subs;
+    subs = g .subs;
+    ids = g .ids;
+    rows = λ f w. omega (arith, held-split f (heldBy i) (t .reserved), sum-thin f w _ _ (thin-redelivered (reservedOf i t)));
+    taken = λ f w. omega (arith, held-split f (heldBy i) (t .reserved), sum-thin f w _ _ (thin-redelivered (reservedOf i t)));
+    sorted = g .sorted;
+    turn = g .turn;
+    counters = g .counters;
+  }
 
   pub release-some : (k : Kind) (N now : ℕ) (i : Id) (t : Dest) → empty (reservedOf i t) ≡ false → Fine L U k N t →
-      Fine L U k (N + 1 + 512) (reinsert now (map redelivered (reservedOf i t)) (withReserved (keep (λ h. not (heldBy i h)) (t .reserved)) (unmarked i t)))
+      Fine L U k (N + 512) (reinsert now (map redelivered (reservedOf i t)) (withReserved (keep (λ h. not (heldBy i h)) (t .reserved)) t))
   release-some topic N now i t c g = absurd (true≢false (sym (ap (λ l. empty (map (λ h. h .entry) (keep (heldBy i) l))) (g .once .1)) ∙ c))
-  release-some queue N now i t c g = reinsert-fine L U N (N + 1) now t (withReserved (keep (λ h. not (heldBy i h)) (t .reserved)) (unmarked i t)) (map redelivered (reservedOf i t)) (release-before N i t g)
+  release-some queue N now i t c g = reinsert-fine L U N N now t (withReserved (keep (λ h. not (heldBy i h)) (t .reserved)) t) (map redelivered (reservedOf i t)) (release-before N i t g)
 
-  pub release-fine : (k : Kind) (N now : ℕ) (i : Id) (t : Dest) → Fine L U k N t → Fine L U k (N + 4096) (releaseReserved now i t .dest)
-  unfolding releaseReserved
+  pub unmark-fine : (k : Kind) (N : ℕ) (i : Id) (t : Dest) → Fine L U k N t → Fine L U k (N + 4096) (unmarked i t)
+  unmark-fine k N i t g = fine-more L U k (N + 1) (N + 4096) _ (omega arith) (subs-fine L U k N 1 t (t .stats) (unmarked i t .subs) (t .idle) g (unmark-each k N i t g) (g .frame .mark) (under-same N 1 (t .stats) (g .counters)))
+
+  pub release-fine : (k : Kind) (N now : ℕ) (i : Id) (t : Dest) → Fine L U k N t → Fine L U k (N + 4096) (returnReserved now i t .dest)
+  unfolding returnReserved
   release-fine k N now i t g = by-test (empty (reservedOf i t))
-      (λ c. rw c (fine-more L U k (N + 1) (N + 4096) _ (omega arith) (subs-fine L U k N 1 t (t .stats) (unmarked i t .subs) (t .idle) g (unmark-each k N i t g) (g .frame .mark) (under-same N 1 (t .stats) (g .counters)))))
-      (λ c. rw c (fine-more L U k (N + 1 + 512 + 2048) (N + 4096) _ (omega arith) (kind-fine L U k (N + 1 + 512) now _ (release-some k N now i t c g))))
+      (λ c. rw c (fine-more L U k N (N + 4096) t (omega arith) g))
+      (λ c. rw c (fine-more L U k (N + 512 + 2048) (N + 4096) _ (omega arith) (kind-fine L U k (N + 512) now _ (release-some k N now i t c g))))
 
   -- ---- sweep
 

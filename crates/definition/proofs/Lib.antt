@@ -19,6 +19,7 @@ pub mod Ops
 pub mod Reach
 pub mod Join
 pub mod Leave
+pub mod Halves
 pub mod Kept
 pub mod Order
 pub mod Room

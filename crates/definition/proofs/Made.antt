@@ -8,7 +8,7 @@ use mathlib.Core.Option.{Option, none, some}
 use lib.Dec.{leb, eqb}
 use borrow.Author.Tests.{eqb-true, eqb-false, eq-eqb, ne-eqb}
 use Rattle.definition.specs.Types.{Kind, Id, Dest}
-use Rattle.definition.specs.Calls.{Lengths, short, Request, Call, enqueuing, joining, leaving, asking, releasing, sweeping, clearing, adding, removing, testing, forgetting, discarding, missing, argumentsOk, sound, Result, refused, refusal, call, openOk, opened}
+use Rattle.definition.specs.Calls.{Lengths, short, Request, Call, enqueuing, joining, leaving, asking, unmarking, releasing, sweeping, clearing, adding, removing, testing, forgetting, discarding, missing, argumentsOk, sound, Result, refused, refusal, call, openOk, opened}
 use Rattle.definition.specs.Words.{idOf, provided, read, inRange, decode, kindOf, at, openWords, unusedFrom, openStep, callStep, step}
 use Rattle.definition.specs.Orders.{Reached, opening, calling, discards, misses}
 use Rattle.definition.proofs.Tests.{if-false, by-if, by-test, and-left, and-right}
@@ -20,6 +20,7 @@ isClear (enqueuing e now) = false
 isClear (joining p now) = false
 isClear (leaving i last now) = false
 isClear (asking i q) = false
+isClear (unmarking i) = false
 isClear (releasing i now) = false
 isClear (sweeping now most) = false
 isClear (adding i) = false
@@ -65,7 +66,8 @@ read-right code ws =
     (λ e. by-if (Right code) (eqb code 12) _ _ (λ e. given-right code _ _ (code-is code 12 e))
     (λ e. by-if (Right code) (eqb code 13) _ _ (λ e. given-right code _ _ (code-is code 13 e))
     (λ e. by-if (Right code) (eqb code 14) _ _ (λ e. given-right code _ _ (code-is code 14 e))
-    (λ e c q. absurd (none-some q)))))))))))))))
+    (λ e. by-if (Right code) (eqb code 15) _ _ (λ e. given-right code _ _ (code-is code 15 e))
+    (λ e c q. absurd (none-some q))))))))))))))))
 
 inRange-right : (code : ℕ) (o : Option Call) → Right code o → Right code (inRange o)
 inRange-right code none h = h
@@ -114,6 +116,7 @@ askOf (asking i q) = some q
 askOf (enqueuing e now) = none
 askOf (joining p now) = none
 askOf (leaving i last now) = none
+askOf (unmarking i) = none
 askOf (releasing i now) = none
 askOf (sweeping now most) = none
 askOf clearing = none

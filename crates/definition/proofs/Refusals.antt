@@ -91,7 +91,8 @@ read-own code ws t =
     (λ e. by-if (Own code ws t) (eqb code 12) _ _ (λ e. provided-own code 12 ws t _ _ e refl)
     (λ e. by-if (Own code ws t) (eqb code 13) _ _ (λ e. provided-own code 13 ws t _ _ e refl)
     (λ e. by-if (Own code ws t) (eqb code 14) _ _ (λ e. provided-own code 14 ws t _ _ e refl)
-    (λ e c q. absurd (none-some q)))))))))))))))
+    (λ e. by-if (Own code ws t) (eqb code 15) _ _ (λ e. provided-own code 15 ws t _ _ e refl)
+    (λ e c q. absurd (none-some q))))))))))))))))
 
 inRange-some : (o : Option Call) (c : Call) → inRange o ≡ some c → o ≡ some c
 unfolding provided

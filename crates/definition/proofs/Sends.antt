@@ -13,8 +13,8 @@ use Rattle.definition.specs.Base.{keep, empty}
 use Rattle.definition.specs.Types.{Kind, queue, topic, Id, Entry, Sub, Dest, Event}
 use Rattle.definition.specs.Consumer.{Ack, AckType, Delivered, Poison, Standard, Redelivered, Individual, Unmatched, Expired, Other, ackType}
 use Rattle.audit.specs.Audit.{seen}
-use Rattle.definition.specs.Destination.{Out, Answer, subOf, dispatchBy, touchIdle, stored, fannedOut, enqueueBy, addSub, returning, dropSub, removeAt, removeSub, reservedOf, heldBy, releaseReserved, reservedHit, letters, reservedEvents, ackReserved, ackAt, ack, pullAt, pull, timeoutAt, pullTimeout, setPrefetch, sweepList, sweepSubs, sweepExpired, clear, testAt, isDuplicate}
-use Rattle.definition.specs.Calls.{Lengths, short, bound, idOk, clockOk, within, sound, Request, acknowledge, pulling, timedOut, prefetching, ask, Call, enqueuing, joining, leaving, asking, releasing, sweeping, clearing, adding, removing, testing, forgetting, discarding, missing, argumentsOk, ownRefusal, perform, refusal, Result, call}
+use Rattle.definition.specs.Destination.{Out, Answer, subOf, dispatchBy, touchIdle, stored, fannedOut, enqueueBy, addSub, returning, dropSub, removeAt, removeSub, reservedOf, heldBy, returnReserved, reservedHit, letters, reservedEvents, ackReserved, ackAt, ack, pullAt, pull, timeoutAt, pullTimeout, setPrefetch, sweepList, sweepSubs, sweepExpired, clear, testAt, isDuplicate}
+use Rattle.definition.specs.Calls.{Lengths, short, bound, idOk, clockOk, within, sound, Request, acknowledge, pulling, timedOut, prefetching, ask, Call, enqueuing, joining, leaving, asking, unmarking, releasing, sweeping, clearing, adding, removing, testing, forgetting, discarding, missing, argumentsOk, ownRefusal, perform, refusal, Result, call}
 use Rattle.definition.specs.Words.{decode, openWords, openStep, callStep, step}
 use Rattle.definition.proofs.Tests.{by-if, by-test, and-right}
 use Rattle.definition.proofs.Lists.{length-map, keep-length}
@@ -108,11 +108,11 @@ leave-sends L U k N now i last t none e h g = omega arith
 leave-sends L U k N now i last t (some s) e h g = fine-sends L U k (N + 512 + 1) _ now _ (touch-fine L U k (N + 512) now _ h
     (subst⁻¹ (λ (j : Kind). Fine L U k (N + 512) (returning now s last (dropSub i t) j)) (g .kind) (returning-fine L U k N now i last s t e g)))
 
-release-sends : (L U : ℕ) (k : Kind) (N now : ℕ) (i : Id) (t : Dest) → Fine L U k N t → length (releaseReserved now i t .events) ≤ 545
-unfolding releaseReserved
+release-sends : (L U : ℕ) (k : Kind) (N now : ℕ) (i : Id) (t : Dest) → Fine L U k N t → length (returnReserved now i t .events) ≤ 545
+unfolding returnReserved
 release-sends L U k N now i t g = by-test (empty (reservedOf i t))
     (λ c. rw c (omega arith))
-    (λ c. rw c (fine-sends L U k (N + 1 + 512) _ now _ (release-some L U k N now i t c g)))
+    (λ c. rw c (fine-sends L U k (N + 512) _ now _ (release-some L U k N now i t c g)))
 
 duplicate-sends : (i : Id) (q : ℕ) (t : Dest) (o : Option Rattle.definition.specs.Types.Audit) → length (testAt i q t o .events) ≤ 545
 unfolding testAt
@@ -133,6 +133,7 @@ perform-sends L U k N (enqueuing e now) t n y g a o = subst⁻¹ (λ (j : Kind).
 perform-sends L U k N (joining p now) t n y g a o = fine-sends L U k (N + 513) _ now _ (joins L U k N p now t n g a o)
 perform-sends L U k N (leaving i last now) t n y g a o = leave-sends L U k N now i last t (subOf i t) refl (in-clock i last now a) g
 perform-sends L U k N (asking i q) t n y g a o = asked-sends L U k N i q t (subOf i t) refl y g
+perform-sends L U k N (unmarking i) t n y g a o = omega arith
 perform-sends L U k N (releasing i now) t n y g a o = release-sends L U k N now i t g
 perform-sends L U k N (sweeping now most) t n y g a o = sweep-sends now most t
 perform-sends L U k N clearing t n y g a o = omega arith

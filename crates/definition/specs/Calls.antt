@@ -10,7 +10,7 @@ use Rattle.audit.specs.Audit.{window}
 use Rattle.definition.specs.Base.{if_then_else_, find, tally, all, every, empty, member, distinct, ascending, is-some}
 use Rattle.definition.specs.Types.{Kind, queue, topic, Id, Entry, Sub, Stats, Audit, Dest, Event, withCallsUsed}
 use Rattle.definition.specs.Consumer.{sameId, zeroStats, addDiscarded, addExpired, expired, accepts, selects, Ack, isBrowser, snapshot}
-use Rattle.definition.specs.Destination.{Out, Answer, Spec, subOf, count, enqueue, addSub, setPrefetch, ack, pull, pullTimeout, removeSub, releaseReserved, sweepExpired, clear, isProducer, addProducer, removeProducer, auditOf, isDuplicate, releaseAudits}
+use Rattle.definition.specs.Destination.{Out, Answer, Spec, subOf, count, enqueue, addSub, setPrefetch, ack, pull, pullTimeout, removeSub, unmarked, returnReserved, sweepExpired, clear, isProducer, addProducer, removeProducer, auditOf, isDuplicate, releaseAudits}
 
 -- ---- lent buffers
 
@@ -161,6 +161,8 @@ pub data Call : Type 0 where
   joining : Spec → ℕ → Call
   leaving : Id → ℤ → ℕ → Call  -- last delivered, clock
   asking : Id → Request → Call
+  -- release, in two halves
+  unmarking : Id → Call
   releasing : Id → ℕ → Call
   sweeping : ℕ → ℕ → Call  -- clock, maximum
   clearing : Call
@@ -202,6 +204,7 @@ argumentsOk (enqueuing e now) = entryOk e && clockOk now
 argumentsOk (joining p now) = specOk p && clockOk now
 argumentsOk (leaving i last now) = idOk i && (within (2 ^ 63) last && clockOk now)
 argumentsOk (asking i q) = idOk i && requestOk q
+argumentsOk (unmarking i) = idOk i
 argumentsOk (releasing i now) = idOk i && clockOk now
 argumentsOk (sweeping now most) = clockOk now && leb most 512
 argumentsOk clearing = true
@@ -235,6 +238,7 @@ ownRefusal t (joining p now) =
     else 0
 ownRefusal t (leaving i last now) = 0
 ownRefusal t (asking i q) = 0
+ownRefusal t (unmarking i) = 0
 ownRefusal t (releasing i now) = 0
 ownRefusal t (sweeping now most) = 0
 ownRefusal t clearing = 0
@@ -256,7 +260,8 @@ perform t (enqueuing e now) = let r = enqueue now e t in record { answer = 0; de
 perform t (joining p now) = let r = addSub now p t in record { answer = 0; dest = r .dest; events = r .events }
 perform t (leaving i last now) = removeSub now i last t
 perform t (asking i q) = ask i t q
-perform t (releasing i now) = let r = releaseReserved now i t in record { answer = 0; dest = r .dest; events = r .events }
+perform t (unmarking i) = record { answer = 0; dest = unmarked i t; events = [] }
+perform t (releasing i now) = let r = returnReserved now i t in record { answer = 0; dest = r .dest; events = r .events }
 perform t (sweeping now most) = sweepExpired now most t
 perform t clearing = clear t
 perform t (adding i) = record { answer = 0; dest = addProducer i t; events = [] }

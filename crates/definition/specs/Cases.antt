@@ -13,7 +13,7 @@ use Rattle.definition.specs.Consumer.{expired, Ack, ackRange, ackSub, se
 use Rattle.definition.specs.Destination.{Spec, newSub, destinationOpen}
 use Rattle.audit.specs.Audit.{seen, recorded}
 use Rattle.model.specs.Model.{sameSigned}
-use Rattle.definition.specs.Calls.{Lengths, acknowledge, pulling, timedOut, prefetching, Call, enqueuing, joining, asking, releasing, sweeping, clearing, adding, testing, discarding, missing, ownRefusal, call, opened, sound, callsOpen, leaving}
+use Rattle.definition.specs.Calls.{Lengths, acknowledge, pulling, timedOut, prefetching, Call, enqueuing, joining, asking, unmarking, releasing, sweeping, clearing, adding, testing, discarding, missing, ownRefusal, call, opened, sound, callsOpen, leaving}
 use Rattle.definition.specs.Words.{step, wordsOpen}
 use Rattle.definition.specs.Queries.{Asked, Page, ofKind, consumers, expirations, messages, idle, sequence, query, page, queriesOpen}
 use Rattle.entry.specs.Entry as Rows
@@ -107,6 +107,11 @@ kept = ran (joining (plain 9 (pos 3)) 1 ∷ enqueuing (entry 10 (pos 0)) 1 ∷ e
 -- then a STANDARD with last -1, or a POISON with first and last -1
 abbrev afterwards : ℕ → Option ℕ → Ran
 afterwards type first = ran (asking (consumer 9) (acknowledge (acks type false first (some 18446744073709551615)) 4) ∷ []) (kept .dest)
+
+-- two marked in a transaction, and a release of the present consumer, by halves
+abbrev rolled : List Call → List ℕ
+rolled cs = map (λ s. length (keep (λ i. i .tx) (Sub.inflight s))) (ran (joining (plain 9 (pos 3)) 1 ∷ enqueuing (entry 10 (pos 0)) 1 ∷ enqueuing (entry 20 (pos 0)) 1
+    ∷ asking (consumer 9) (acknowledge (acks 2 true none (some 20)) 2) ∷ cs) (opened queue 0 100 0) .dest .subs)
 
 abbrev acked : List ℕ → List Call
 acked [] = []
@@ -314,11 +319,11 @@ words =
     ∷ sameNumbers (counters (wordExample .dest)) (2 ∷ 1 ∷ 1 ∷ 0 ∷ 1 ∷ [])
     ∷ sound one
     ∷ not (sound zeros)
-    ∷ sameNumbers (got 15 [] zeros) (2 ∷ 0 ∷ [])
+    ∷ sameNumbers (got 16 [] zeros) (2 ∷ 0 ∷ [])
     ∷ sameNumbers (got 0 (2 ∷ []) zeros) (3 ∷ 0 ∷ [])
-    ∷ eqb (step (whole 544) 15 [] zeros .refusal) 1
+    ∷ eqb (step (whole 544) 16 [] zeros .refusal) 1
     ∷ eqb (step (whole 544) 0 (2 ∷ []) zeros .refusal) 1
-    ∷ gets 3 15 (0 ∷ 0 ∷ 0 ∷ 0 ∷ 0 ∷ 0 ∷ 0 ∷ 0 ∷ [])
+    ∷ gets 3 16 (0 ∷ 0 ∷ 0 ∷ 0 ∷ 0 ∷ 0 ∷ 0 ∷ 0 ∷ [])
     ∷ gets 3 10 (0 ∷ 0 ∷ 0 ∷ 0 ∷ 0 ∷ 0 ∷ 0 ∷ 1 ∷ [])
     ∷ gets 3 1 (5 ∷ 0 ∷ 2 ∷ 7 ∷ 0 ∷ 0 ∷ 10 ∷ 0 ∷ [])
     ∷ gets 3 1 (0 ∷ 0 ∷ 1 ∷ 7 ∷ 0 ∷ 0 ∷ 10 ∷ 0 ∷ [])
@@ -338,6 +343,11 @@ words =
     ∷ sameNumbers (got 5 (9 ∷ 1 ∷ 1 ∷ 5 ∷ 31 ∷ 0 ∷ 0 ∷ 0 ∷ []) one) (0 ∷ 1 ∷ [])
     ∷ gets 0 6 (9 ∷ 1 ∷ 1 ∷ minus 1 ∷ 0 ∷ 0 ∷ 0 ∷ 0 ∷ [])
     ∷ gets 3 7 (9 ∷ 1 ∷ 1 ∷ 2147483648 ∷ 0 ∷ 0 ∷ 0 ∷ 0 ∷ [])
+    -- 8 has an ID alone, 15 an ID and a clock (document 02 §10)
+    ∷ gets 0 8 (9 ∷ 1 ∷ 1 ∷ 0 ∷ 0 ∷ 0 ∷ 0 ∷ 0 ∷ [])
+    ∷ gets 3 8 (9 ∷ 1 ∷ 1 ∷ 5 ∷ 0 ∷ 0 ∷ 0 ∷ 0 ∷ [])
+    ∷ gets 0 15 (9 ∷ 1 ∷ 1 ∷ 5 ∷ 0 ∷ 0 ∷ 0 ∷ 0 ∷ [])
+    ∷ gets 3 15 (9 ∷ 1 ∷ 1 ∷ 4611686018427387905 ∷ 0 ∷ 0 ∷ 0 ∷ 0 ∷ [])
     ∷ gets 3 9 (0 ∷ 513 ∷ 0 ∷ 0 ∷ 0 ∷ 0 ∷ 0 ∷ 0 ∷ [])
     -- the paper asks no distinct audit numbers, audits or producers
     ∷ withAudit (auditOf2 1 5 ∷ auditOf2 1 (minus 1) ∷ [])
@@ -408,8 +418,13 @@ corners =
     ∷ sameNumbers (counts (left (negsuc 0) .dest .pending)) (1 ∷ 1 ∷ [])
     ∷ sameNumbers (counts (left (pos 10) .dest .pending)) (1 ∷ 0 ∷ [])
     ∷ sameNumbers (map (λ h. h .entry .seq) (left (negsuc 0) .dest .reserved)) (30 ∷ [])
-    -- a release returns it, redelivered once more
+    -- a release's second half returns it, redelivered once more; its first half does not
+    ∷ sameNumbers (counts (ran (unmarking (consumer 9) ∷ []) (left (negsuc 0) .dest) .dest .pending)) (1 ∷ 1 ∷ [])
     ∷ sameNumbers (counts (ran (releasing (consumer 9) 5 ∷ []) (left (negsuc 0) .dest) .dest .pending)) (1 ∷ 1 ∷ 1 ∷ [])
+    -- the first half clears a present consumer's marks, the second leaves them
+    ∷ sameNumbers (rolled []) (2 ∷ [])
+    ∷ sameNumbers (rolled (unmarking (consumer 9) ∷ [])) (0 ∷ [])
+    ∷ sameNumbers (rolled (releasing (consumer 9) 5 ∷ [])) (2 ∷ [])
     -- Pull at prefetch 0 with nothing waiting: 5 answers the generation, 1 for the first pull; a second pull makes it 2, and a timeout for 1 then
     -- does nothing; timeout -1 sends a null and answers 0; 0 answers 0 and waits
     ∷ sameNumbers (pulls .seen) (0 ∷ 0 ∷ 0 ∷ 1 ∷ 0 ∷ 2 ∷ 0 ∷ 0 ∷ 0 ∷ 0 ∷ 2 ∷ 9 ∷ 0 ∷ 0 ∷ 2 ∷ 9 ∷ 0 ∷ 0 ∷ [])

@@ -1,12 +1,13 @@
 -- What is claimed of the state and of the sends that accepted calls make; `Orders` has the claim on orders, `Refusals` that on refusals. Assumes nothing.
-use Prim.Native.Nat.{ℕ, _≤_}
+use Prim.Native.Nat.{ℕ, _+_, _≤_}
 use mathlib.Core.Path.{_≡_}
 use mathlib.Core.Bool.{Bool, true}
-use mathlib.Core.List.{List}
+use mathlib.Core.List.{List, []}
 use lib.ListN.{length}
-use Rattle.definition.specs.Types.{Dest}
-use Rattle.definition.specs.Calls.{Lengths, Call, sound, call}
-use Rattle.definition.specs.Words.{step}
+use Rattle.definition.specs.Types.{Id, Dest, withCallsUsed}
+use Rattle.definition.specs.Destination.{releaseReserved}
+use Rattle.definition.specs.Calls.{Lengths, Call, sound, Result, call}
+use Rattle.definition.specs.Words.{at, idOf, step}
 use Rattle.definition.specs.Orders.{Reached}
 
 -- every accepted call leaves a sound state, open too
@@ -27,3 +28,18 @@ StepSends = (lent : Lengths) (code : ℕ) (words : List ℕ) (t : Dest) → leng
 
 abbrev pub CallSends : Type 0
 CallSends = (lent : Lengths) (c : Call) (t : Dest) → length (call lent c t .events) ≤ 545
+
+-- document 02 §10: what the two halves of a release of the consumer i get, on t, is what the whole release does, but that two calls are used
+pub record Halves (now : ℕ) (i : Id) (t : Dest) (first second : Result) : Type 0 where
+  pub first-answers : first .answer ≡ 0
+  pub first-sends : first .events ≡ []
+  pub second-answers : second .answer ≡ 0
+  pub second-sends : second .events ≡ releaseReserved now i t .events
+  pub leaves : second .dest ≡ withCallsUsed (t .callsUsed + 2) (releaseReserved now i t .dest)
+
+-- code 8 and then code 15 with the same ID, where neither is refused
+abbrev pub ReleaseHalves : Type 0
+ReleaseHalves = (lent : Lengths) (words : List ℕ) (late : Lengths) (more : List ℕ) (t : Dest) → idOf more ≡ idOf words →
+    let first = step lent 8 words t in
+    let second = step late 15 more (first .dest) in
+    first .refusal ≡ 0 → second .refusal ≡ 0 → Halves (at 3 more) (idOf words) t first second

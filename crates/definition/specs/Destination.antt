@@ -467,14 +467,20 @@ removeSub now i last t = removeAt now i last t (subOf i t)
 
 -- ---- release
 
--- Dest::release_reserved: `inf.tx = false`
+-- Dest::release_reserved, its first half: `inf.tx = false`, of a present consumer
 abbrev pub noTx : Sub → Sub
 noTx s = withInflight (map (λ i. record { dseq = i .dseq; entry = i .entry; freed = i .freed; tx = false }) (s .inflight)) s
 
 abbrev pub unmarked : Id → Dest → Dest
 unmarked i t = withSubs (map (λ s. if isId i s then noTx s else s) (t .subs)) t
 
--- Dest::release_reserved
+-- Dest::release_reserved, its second half (document 02 §10): what was reserved returns, and if there was any, a dispatch
+unfoldable pub returnReserved : ℕ → Id → Dest → Out
+returnReserved now i t =
+    let r = dispatch now (reinsert now (map redelivered (reservedOf i t)) (withReserved (keep (λ h. not (heldBy i h)) (t .reserved)) t)) in
+    if empty (reservedOf i t) then record { dest = t; events = [] } else r
+
+-- Dest::release_reserved, whole: no call does this any more; `Claims` sets the two halves equal to it
 unfoldable pub releaseReserved : ℕ → Id → Dest → Out
 releaseReserved now i t =
     let u = unmarked i t in
@@ -587,5 +593,5 @@ releaseAudits conn t = withAudits (keep (λ a. not (eqb (a .producer .conn) conn
 
 -- opens the definitions of this file
 unfoldable pub destinationOpen : Unit {0}
-unfolding look given visitAt visit scan rounds browsers dispatchQueue serveAll dispatchTopic dispatchBy touchIdle fanOut fanOutAll enqueueBy addSub setPrefetch reinsert reservedHit reservedCounts reservedEvents ackReserved ackAt ack pulled resumed pullAt pull fired timeoutAt pullTimeout returning removeAt removeSub releaseReserved sweepAt sweepList sweepSubs sweepExpired clear testAt isDuplicate
+unfolding look given visitAt visit scan rounds browsers dispatchQueue serveAll dispatchTopic dispatchBy touchIdle fanOut fanOutAll enqueueBy addSub setPrefetch reinsert reservedHit reservedCounts reservedEvents ackReserved ackAt ack pulled resumed pullAt pull fired timeoutAt pullTimeout returning removeAt removeSub returnReserved releaseReserved sweepAt sweepList sweepSubs sweepExpired clear testAt isDuplicate
 destinationOpen = tt

@@ -12,7 +12,7 @@ use Rattle.definition.specs.Base.{if_then_else_, all}
 use Rattle.definition.specs.Types.{Kind, queue, topic, Id, Entry, Dest}
 use Rattle.definition.specs.Consumer.{bit, Ack}
 use Rattle.definition.specs.Destination.{Spec}
-use Rattle.definition.specs.Calls.{Lengths, short, sound, acknowledge, pulling, timedOut, prefetching, Call, enqueuing, joining, leaving, asking, releasing, sweeping, clearing, adding, removing, testing, forgetting, argumentsOk, Result, refused, call, openOk, opened}
+use Rattle.definition.specs.Calls.{Lengths, short, sound, acknowledge, pulling, timedOut, prefetching, Call, enqueuing, joining, leaving, asking, unmarking, releasing, sweeping, clearing, adding, removing, testing, forgetting, argumentsOk, Result, refused, call, openOk, opened}
 
 -- word k, from 0
 abbrev pub at : ℕ → List ℕ → ℕ
@@ -55,13 +55,14 @@ read code ws =
     else if eqb code 5 then provided (unusedFrom 5 ws) (asking (idOf ws) (pulling (signed (at 3 ws)) (at 4 ws)))
     else if eqb code 6 then provided (unusedFrom 4 ws) (asking (idOf ws) (timedOut (at 3 ws)))
     else if eqb code 7 then provided (unusedFrom 5 ws) (asking (idOf ws) (prefetching (signed (at 3 ws)) (at 4 ws)))
-    else if eqb code 8 then provided (unusedFrom 4 ws) (releasing (idOf ws) (at 3 ws))
+    else if eqb code 8 then provided (unusedFrom 3 ws) (unmarking (idOf ws))
     else if eqb code 9 then provided (unusedFrom 2 ws) (sweeping (at 0 ws) (at 1 ws))
     else if eqb code 10 then provided (unusedFrom 0 ws) clearing
     else if eqb code 11 then provided (unusedFrom 3 ws) (adding (idOf ws))
     else if eqb code 12 then provided (unusedFrom 4 ws) (removing (idOf ws) (at 3 ws))
     else if eqb code 13 then provided (unusedFrom 4 ws) (testing (idOf ws) (at 3 ws))
     else if eqb code 14 then provided (unusedFrom 1 ws) (forgetting (at 0 ws))
+    else if eqb code 15 then provided (unusedFrom 4 ws) (releasing (idOf ws) (at 3 ws))
     else none
 
 -- in range, too

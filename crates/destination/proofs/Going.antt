@@ -1,24 +1,22 @@
--- A leave, a release, a sweep and a clear as parts, and as whole calls. Assumes nothing.
-use mathlib.Core.Path.{_≡_, refl, sym, ap, ap₂, _∙_, subst, subst⁻¹}
-use mathlib.Core.Bool.{Bool, true, false, not, true≢false}
-use mathlib.Core.List.{List, [], _∷_, map}
+-- A leave, the two halves of a release, a sweep and a clear as parts, and as whole calls. Assumes nothing.
+use mathlib.Core.Path.{_≡_, refl, sym, ap, _∙_, subst⁻¹}
+use mathlib.Core.Bool.{Bool, true, false, true≢false}
+use mathlib.Core.List.{List, []}
 use mathlib.Core.Option.{Option, none, some}
 use Prim.Native.Nat.{ℕ, _+_, _-_}
 use native.Mathlib.Omega.{arith}
 use lib.Dec.{ltb}
 use lib.IntN.{ℤ}
 use lib.ListN.{length}
-use Rattle.definition.specs.Base.{keep, is-some, empty}
-use Rattle.definition.specs.Types.{Id, Audit, Entry, Held, Dest, withReserved}
+use Rattle.definition.specs.Base.{is-some, empty}
+use Rattle.definition.specs.Types.{Id, Audit, Dest}
 use Rattle.definition.specs.Types as Def
-use Rattle.definition.specs.Consumer.{redelivered}
 use Rattle.definition.specs.Destination as Destination
-use Rattle.definition.specs.Destination.{Out, subOf, dispatch, reinsert, heldBy, reservedOf, removeAt, removeSub, unmarked, releaseReserved, Swept, SweptSubs, sweepList, sweepSubs, sweepExpired, clear}
-use Rattle.definition.specs.Calls.{Call, leaving, releasing, sweeping, clearing, ownRefusal, perform, bound}
+use Rattle.definition.specs.Destination.{Out, subOf, dispatch, reservedOf, removeAt, removeSub, unmarked, returnReserved, Swept, SweptSubs, sweepList, sweepSubs, sweepExpired, clear}
+use Rattle.definition.specs.Calls.{Call, leaving, unmarking, releasing, sweeping, clearing, ownRefusal, perform, bound}
 use Rattle.definition.specs.Layout.{Row}
 use Rattle.definition.proofs.Tests.{by-test, if-true, if-false}
-use Rattle.definition.proofs.Lists.{empty-nil}
-use Rattle.definition.proofs.Whole.{Fine, fine-more}
+use Rattle.definition.proofs.Whole.{fine-more}
 use Rattle.definition.proofs.Leave.{returning-fine, release-some}
 use Rattle.state.specs.declared.Head.{Head}
 use Rattle.state.specs.declared.Answer.{Answer}
@@ -26,8 +24,8 @@ use Rattle.state.specs.State.{headView, doneAs}
 use Rattle.state.specs.Leaves.{silent, both, LeavesIf}
 use Rattle.state.proofs.Leaves.{leaves-as, leaves-when}
 use Rattle.state.proofs.Ready.{Keeps}
-use Rattle.returns.specs.Returns.{leftAt, left, released}
-use Rattle.returns.proofs.Reinsert.{reinsert-none}
+use Rattle.returns.specs.Returns.{leftAt, left, freed}
+use Rattle.returns.proofs.Freeing.{freed-none}
 use Rattle.expiry.specs.Expiry.{clearOut, sweepOut, Kept, Answers}
 use Rattle.destination.specs.Called.{performed, Performs}
 use Rattle.destination.specs.Requests.{sentOn, Sends}
@@ -148,35 +146,32 @@ module _ (now : ℕ) (i : Id) (last : ℤ) where
   pub left-keeps : (t : Dest) → Keeps 512 t (silent (left now i last) t)
   left-keeps t = left-keeps-at t (subOf i t) refl
 
--- ---- release
+-- ---- the halves of a release
+
+module _ (i : Id) where
+  pub own-unmark : (t : Dest) → ownRefusal t (unmarking i) ≡ 0
+  unfolding ownRefusal
+  own-unmark t = refl
+
+  pub unmark-is : (t : Dest) → perform t (unmarking i) ≡ withAnswer 0 (silent (unmarked i) t)
+  unfolding perform
+  unmark-is t = refl
 
 module _ (now : ℕ) (i : Id) where
   pub own-release : (t : Dest) → ownRefusal t (releasing i now) ≡ 0
   unfolding ownRefusal
   own-release t = refl
 
-  -- none is reserved: all stay
-  all-stay : (l : List Held) → empty (map (λ h. h .entry) (keep (heldBy i) l)) ≡ true → keep (λ h. not (heldBy i h)) l ≡ l
-  all-stay [] e = refl
-  all-stay (h ∷ l) e = by-test (heldBy i h)
-      (λ c. absurd (true≢false (sym (rw c at e))))
-      (λ c. rw c (ap (λ (m : List Held). h ∷ m) (all-stay l (rw c at e))))
-
-  -- then nothing returns, and nothing is sent
-  pub release-none : (t : Dest) → empty (reservedOf i t) ≡ true → perform t (releasing i now) ≡ withAnswer 0 (silent (released now i) t)
-  unfolding perform releaseReserved
+  -- none is reserved: nothing returns, and nothing is sent
+  pub release-none : (t : Dest) → empty (reservedOf i t) ≡ true → perform t (releasing i now) ≡ withAnswer 0 (silent (freed now i) t)
+  unfolding perform returnReserved
   release-none t e =
-      let u : Dest = unmarked i t in
-      let back : List Entry = reservedOf i t in
-      let same : released now i t ≡ u = ap₂ (λ (x : List Entry) (y : List Held). reinsert now (map redelivered x) (withReserved y u)) (empty-nil back e) (all-stay (t .reserved) e) ∙ reinsert-none now u in
-      ap (withAnswer 0) (if-true (silent (unmarked i) t) (dispatch now (released now i t)) e) ∙ ap (λ (x : Dest). withAnswer 0 (silent (λ y. y) x)) (sym same)
+      ap (withAnswer 0) (if-true (silent (λ u. u) t) (dispatch now (freed now i t)) e) ∙ ap (λ (x : Dest). withAnswer 0 (silent (λ y. y) x)) (sym (freed-none now i t e))
 
   -- else the dispatch follows
-  pub release-sends : (t : Dest) → empty (reservedOf i t) ≡ false → perform t (releasing i now) ≡ withAnswer 0 (both (silent (released now i)) (dispatch now) t)
-  unfolding perform releaseReserved
-  release-sends t e = ap (withAnswer 0) (if-false (silent (unmarked i) t) (dispatch now (released now i t)) e)
+  pub release-sends : (t : Dest) → empty (reservedOf i t) ≡ false → perform t (releasing i now) ≡ withAnswer 0 (both (silent (freed now i)) (dispatch now) t)
+  unfolding perform returnReserved
+  release-sends t e = ap (withAnswer 0) (if-false (silent (λ u. u) t) (dispatch now (freed now i t)) e)
 
-  pub released-keeps : (t : Dest) → empty (reservedOf i t) ≡ false → Keeps 513 t (silent (released now i) t)
-  released-keeps t e g =
-      let n : ℕ = bound (t .callsUsed) in
-      subst (λ (m : ℕ). Fine (t .callLimit) (t .callsUsed) (t .kind) m (released now i t)) (omega arith) (release-some (t .callLimit) (t .callsUsed) (t .kind) n now i t e g)
+  pub freed-keeps : (t : Dest) → empty (reservedOf i t) ≡ false → Keeps 512 t (silent (freed now i) t)
+  freed-keeps t e g = release-some (t .callLimit) (t .callsUsed) (t .kind) (bound (t .callsUsed)) now i t e g

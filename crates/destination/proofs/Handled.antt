@@ -1,4 +1,4 @@
--- Codes 1 to 3 and 8 to 10 by their words: the call that they give and its ranges. Assumes nothing.
+-- Codes 1 to 3, 8 to 10 and 15 by their words: the call that they give and its ranges. Assumes nothing.
 use mathlib.Core.Path.{_≡_, refl, sym, ap, _∙_}
 use mathlib.Core.Bool.{Bool, true, _&&_}
 use mathlib.Core.List.{List}
@@ -9,7 +9,7 @@ use lib.Dec.{leb}
 use Rattle.words.specs.Words.{signed, int}
 use Rattle.words.proofs.Words.{int-signed}
 use Rattle.definition.specs.Base.{is-some}
-use Rattle.definition.specs.Calls.{Call, enqueuing, joining, leaving, releasing, sweeping, clearing, idOk, entryOk, specOk, within, clockOk, argumentsOk}
+use Rattle.definition.specs.Calls.{Call, enqueuing, joining, leaving, unmarking, releasing, sweeping, clearing, idOk, entryOk, specOk, within, clockOk, argumentsOk}
 use Rattle.definition.specs.Words.{at, idOf, entryOf, specOf, unusedFrom, read, decode}
 use Rattle.definition.proofs.Tests.{and-left, and-right}
 use Rattle.calls.proofs.Decoded.{Decoded, decoded}
@@ -51,14 +51,9 @@ module _ (w : List ℕ) where
     unfolding argumentsOk
     leave-clock = clock-in (at 4 w) (and-right (within (2 ^ 63) (signed (at 3 w))) (clockOk (at 4 w)) (and-right (idOk (idOf w)) _ (leave-decoded .arguments)))
 
-  module _ (t : is-some (decode 8 w) ≡ true) where
-    pub release-decoded : Decoded 8 w (unusedFrom 4 w) (releasing (idOf w) (at 3 w))
-    unfolding read
-    release-decoded = decoded 8 w (unusedFrom 4 w) (releasing (idOf w) (at 3 w)) refl t
-
-    pub release-clock : at 3 w ≤ 2 ^ 62
-    unfolding argumentsOk
-    release-clock = clock-in (at 3 w) (and-right (idOk (idOf w)) (clockOk (at 3 w)) (release-decoded .arguments))
+  pub unmark-decoded : is-some (decode 8 w) ≡ true → Decoded 8 w (unusedFrom 3 w) (unmarking (idOf w))
+  unfolding read
+  unmark-decoded t = decoded 8 w (unusedFrom 3 w) (unmarking (idOf w)) refl t
 
   module _ (t : is-some (decode 9 w) ≡ true) where
     pub sweep-decoded : Decoded 9 w (unusedFrom 2 w) (sweeping (at 0 w) (at 1 w))
@@ -76,3 +71,12 @@ module _ (w : List ℕ) where
   pub clear-decoded : is-some (decode 10 w) ≡ true → Decoded 10 w (unusedFrom 0 w) clearing
   unfolding read
   clear-decoded t = decoded 10 w (unusedFrom 0 w) clearing refl t
+
+  module _ (t : is-some (decode 15 w) ≡ true) where
+    pub release-decoded : Decoded 15 w (unusedFrom 4 w) (releasing (idOf w) (at 3 w))
+    unfolding read
+    release-decoded = decoded 15 w (unusedFrom 4 w) (releasing (idOf w) (at 3 w)) refl t
+
+    pub release-clock : at 3 w ≤ 2 ^ 62
+    unfolding argumentsOk
+    release-clock = clock-in (at 3 w) (and-right (idOk (idOf w)) (clockOk (at 3 w)) (release-decoded .arguments))

@@ -5,7 +5,7 @@ use mathlib.Core.List.{List, []}
 use mathlib.Core.Option.{Option, none, some}
 use Prim.Native.Nat.{ℕ, _<_, _≤_}
 use native.Mathlib.Omega.{arith}
-use borrow.Author.Tests.{ne-eqb, ltb-true, ltb-false}
+use borrow.Author.Tests.{ne-eqb, eqb-false, ltb-true, ltb-false}
 use lib.Dec.{eqb, ltb}
 use lib.ListN.{length, drop}
 use Rattle.audit.specs.Audit.{seen}
@@ -14,18 +14,18 @@ use Rattle.definition.specs.Types.{Id, Audit, Dest}
 use Rattle.definition.specs.Destination.{Answer, auditOf, testAt, isDuplicate}
 use Rattle.definition.specs.Calls.{Call, adding, removing, testing, forgetting, perform}
 use Rattle.definition.specs.Words.{at, idOf, unusedFrom, read, decode}
-use Rattle.definition.proofs.Tests.{by-test, by-if}
+use Rattle.definition.proofs.Tests.{by-test, by-if, or-no-left, or-no-right}
 use Rattle.calls.proofs.Decoded.{Decoded, decoded}
 use Rattle.state.specs.declared.Head.{Head}
 use Rattle.state.specs.declared.Answer as State
 use Rattle.producers.specs.Producers.{Left, headFits, added, removed, tested, released, Promised}
 use Rattle.producers.proofs.Past.{added-past, removed-past, tested-past, released-past}
-use Rattle.destination.specs.Called.{InHead, HeadBy}
+use Rattle.destination.specs.Called.{InHead, HeadBy, onTables}
 
--- no code above 14 is known
-pub far-code : (n : ℕ) (w : List ℕ) → 14 < n → is-some (decode n w) ≡ false
+-- no code above 15 is known
+pub far-code : (n : ℕ) (w : List ℕ) → 15 < n → is-some (decode n w) ≡ false
 unfolding decode read
-far-code n w h = rw (no 1 (omega arith), no 2 (omega arith), no 3 (omega arith), no 4 (omega arith), no 5 (omega arith), no 6 (omega arith), no 7 (omega arith), no 8 (omega arith), no 9 (omega arith), no 10 (omega arith), no 11 (omega arith), no 12 (omega arith), no 13 (omega arith), no 14 (omega arith))
+far-code n w h = rw (no 1 (omega arith), no 2 (omega arith), no 3 (omega arith), no 4 (omega arith), no 5 (omega arith), no 6 (omega arith), no 7 (omega arith), no 8 (omega arith), no 9 (omega arith), no 10 (omega arith), no 11 (omega arith), no 12 (omega arith), no 13 (omega arith), no 14 (omega arith), no 15 (omega arith))
   where
     no : (k : ℕ) → k < n → eqb n k ≡ false
     no k l = ne-eqb n k (λ e. omega (arith, e, l))
@@ -71,10 +71,10 @@ pub head-code : (m n : ℕ) (w : List ℕ) (d : Head) (h : List ℕ) (a : State.
 head-code m n w d h a k e p = subst⁻¹ (λ (x : ℕ). HeadBy (decode x w) d h a k) e p
 
 -- code 14 is what is left
-pub last-head : (n : ℕ) (w : List ℕ) → 10 < n → (n ≡ 11 → ⊥) → (n ≡ 12 → ⊥) → (n ≡ 13 → ⊥) → is-some (decode n w) ≡ true → n ≡ 14
-last-head n w l a b c t = by-test (ltb 14 n)
-    (λ e. absurd (true≢false (sym t ∙ far-code n w (ltb-true 14 n e))))
-    (λ e. within (ltb-false 14 n e))
+pub last-head : (n : ℕ) (w : List ℕ) → onTables n ≡ false → (n ≡ 11 → ⊥) → (n ≡ 12 → ⊥) → (n ≡ 13 → ⊥) → is-some (decode n w) ≡ true → n ≡ 14
+last-head n w l a b c t = by-test (ltb 15 n)
+    (λ e. absurd (true≢false (sym t ∙ far-code n w (ltb-true 15 n e))))
+    (λ e. within (ltb-false 15 n e) (ltb-false n 11 (or-no-left (ltb n 11) (eqb n 15) l)) (eqb-false n 15 (or-no-right (ltb n 11) (eqb n 15) l)))
   where
-    within : n ≤ 14 → n ≡ 14
-    within m = omega arith
+    within : n ≤ 15 → 11 ≤ n → (n ≡ 15 → ⊥) → n ≡ 14
+    within m k j = omega arith

@@ -1,11 +1,12 @@
 -- From what a part of a call leaves to what the whole call does, and to the call that its words give. Assumes nothing.
 use mathlib.Core.Path.{_≡_, refl, sym, ap, _∙_, subst, subst⁻¹}
-use mathlib.Core.Bool.{Bool, true}
+use mathlib.Core.Bool.{Bool, true, _||_, true≢false}
 use mathlib.Core.List.{List}
 use mathlib.Core.Option.{Option, some}
 use Prim.Native.Nat.{ℕ, _≤_, _<_, _^_}
 use native.Mathlib.Omega.{arith}
-use borrow.Author.Tests.{leb-true}
+use borrow.Author.Tests.{leb-true, ltb-true, ne-eqb}
+use lib.Dec.{ltb}
 use lib.ListN.{length}
 use Rattle.definition.specs.Types.{Id, Audit, Dest}
 use Rattle.definition.specs.Destination.{Out}
@@ -14,12 +15,13 @@ use Rattle.definition.specs.Base.{is-some}
 use Rattle.definition.specs.Calls.{Call, ownRefusal, perform, clockOk}
 use Rattle.definition.specs.Words.{decode}
 use Rattle.definition.specs.Layout.{Row}
+use Rattle.definition.proofs.Tests.{by-test}
 use Rattle.state.specs.declared.Head.{Head}
 use Rattle.state.specs.declared.Answer.{Answer}
 use Rattle.state.specs.State.{headView, doneAs}
 use Rattle.state.specs.Leaves.{Leaves}
 use Rattle.state.proofs.Leaves.{leaves-as}
-use Rattle.destination.specs.Called.{Performs, PerformsBy, performed}
+use Rattle.destination.specs.Called.{Performs, PerformsBy, onTables, performed}
 use Rattle.destination.specs.Requests.{Sends}
 
 pub clock-in : (clock : ℕ) → clockOk clock ≡ true → clock ≤ 2 ^ 62
@@ -70,5 +72,8 @@ above-five n z a b c d e = omega arith
 tenth : (n : ℕ) → 5 < n → n < 11 → (n ≡ 6 → ⊥) → (n ≡ 7 → ⊥) → (n ≡ 8 → ⊥) → (n ≡ 9 → ⊥) → n ≡ 10
 tenth n l y f g h i = omega arith
 
-pub last-code : (n : ℕ) → 0 < n → n < 11 → (n ≡ 1 → ⊥) → (n ≡ 2 → ⊥) → (n ≡ 3 → ⊥) → (n ≡ 4 → ⊥) → (n ≡ 5 → ⊥) → (n ≡ 6 → ⊥) → (n ≡ 7 → ⊥) → (n ≡ 8 → ⊥) → (n ≡ 9 → ⊥) → n ≡ 10
-last-code n z y a b c d e f g h i = tenth n (above-five n z a b c d e) y f g h i
+below : (n : ℕ) → onTables n ≡ true → (n ≡ 15 → ⊥) → n < 11
+below n y j = by-test (ltb n 11) (λ t. ltb-true n 11 t) (λ t. absurd (true≢false (sym y ∙ (λ k. t k || ne-eqb n 15 j k))))
+
+pub last-code : (n : ℕ) → 0 < n → onTables n ≡ true → (n ≡ 1 → ⊥) → (n ≡ 2 → ⊥) → (n ≡ 3 → ⊥) → (n ≡ 4 → ⊥) → (n ≡ 5 → ⊥) → (n ≡ 6 → ⊥) → (n ≡ 7 → ⊥) → (n ≡ 8 → ⊥) → (n ≡ 9 → ⊥) → (n ≡ 15 → ⊥) → n ≡ 10
+last-code n z y a b c d e f g h i j = tenth n (above-five n z a b c d e) (below n y j) f g h i

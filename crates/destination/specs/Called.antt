@@ -1,9 +1,10 @@
 -- What a call leaves of the lent buffers and answers, where q is what its definition gives. Assumes nothing.
 use mathlib.Core.Path.{_≡_}
-use mathlib.Core.Bool.{true}
+use mathlib.Core.Bool.{Bool, true, _||_}
 use mathlib.Core.List.{List, [], map}
 use mathlib.Core.Option.{Option, none, some}
 use Prim.Native.Nat.{ℕ, _≤_}
+use lib.Dec.{eqb, ltb}
 use lib.ListN.{length, take, drop}
 use Rattle.definition.specs.Types.{Id, Audit, Dest}
 use Rattle.definition.specs.Destination.{Out}
@@ -46,6 +47,10 @@ pub record Called (q : Result) (b b′ : Buffers) (events events′ : List Row) 
   pub past : Past b b′ events events′
 
 -- ---- a call whose arguments are c, on a destination by value and in its tables, before one more is counted
+
+-- whether a code changes the tables: 1 to 10 and 15; the codes between change the head's words alone
+abbrev pub onTables : ℕ → Bool
+onTables code = ltb code 11 || eqb code 15
 
 -- what it means
 abbrev pub performed : Call → Dest → Out

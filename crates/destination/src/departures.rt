@@ -1,7 +1,7 @@
-// What goes from a destination (codes 3 and 8 to 10): a consumer, what is reserved for one, expired entries, all of them.
+// What goes from a destination (codes 3, 8 to 10 and 15): a consumer, a transaction's marks, expired entries, all of them, what is reserved.
 ghost use mathlib.Core.Path.{_≡_};
 ghost use Prim.Native.Nat.{_≤_, _^_};
-ghost use Rattle.definition.specs.Calls.{leaving, releasing, sweeping, clearing};
+ghost use Rattle.definition.specs.Calls.{leaving, unmarking, releasing, sweeping, clearing};
 ghost use Rattle.state.specs.Ready.{Ready};
 ghost use Rattle.destination.specs.Called.{Performs};
 use consumers::SubRow;
@@ -32,7 +32,16 @@ pub(crate) fn leave(
     Answer::done(1, sent)
 }
 
-// `Dest::release_reserved`: the dispatch only where something was reserved.
+// `Dest::release_reserved`, its first half: the transaction marks of a present consumer.
+pub(crate) fn unmark(subs: &[SubRow], rows: &mut [Row], events: &[Event], d: Head, id: Id) -> Answer
+    requires { ⌜ Ready d (now subs) (now rows) (now events) ⌝ }
+    ensures { λ r. ⌜ Performs (unmarking id) d r (now (subs .entry)) (now (rows .entry)) (now (events .entry)) (now (subs .entry)) (now (rows .exit)) (now (events .entry)) ⌝ }
+{
+    returns::unmark(subs, rows, events, d, id);
+    Answer::done(0, d)
+}
+
+// `Dest::release_reserved`, its second half: the dispatch only where something was reserved.
 pub(crate) fn release(
     subs: &mut [SubRow],
     rows: &mut [Row],

@@ -1,4 +1,4 @@
-// The other calls on the tables from their words (codes 1 to 3 and 8 to 10).
+// The other calls on the tables from their words (codes 1 to 3, 8 to 10 and 15).
 ghost use mathlib.Core.Path.{_≡_};
 ghost use mathlib.Core.Bool.{true};
 ghost use Rattle.definition.specs.Base.{is-some};
@@ -87,18 +87,18 @@ pub(crate) fn leave(
 }
 
 // Code 8.
-pub(crate) fn release(
-    subs: &mut [SubRow],
+pub(crate) fn unmark(
+    subs: &[SubRow],
     rows: &mut [Row],
-    events: &mut [Event],
+    events: &[Event],
     d: Head,
     w: [u64; 8],
 ) -> Answer
     requires { ⌜ Ready d (now subs) (now rows) (now events) × (is-some (decode 8 w) ≡ true) ⌝ }
-    ensures { λ r. ⌜ PerformsBy (decode 8 w) d r (now (subs .entry)) (now (rows .entry)) (now (events .entry)) (now (subs .exit)) (now (rows .exit)) (now (events .exit)) ⌝ }
+    ensures { λ r. ⌜ PerformsBy (decode 8 w) d r (now (subs .entry)) (now (rows .entry)) (now (events .entry)) (now (subs .entry)) (now (rows .exit)) (now (events .entry)) ⌝ }
 {
     let id = Id::of_words(w[0], w[1], w[2]);
-    departures::release(subs, rows, events, d, id, w[3])
+    departures::unmark(subs, rows, events, d, id)
 }
 
 // Code 9.
@@ -128,4 +128,19 @@ pub(crate) fn clear(
     ensures { λ r. ⌜ PerformsBy (decode 10 w) d r (now (subs .entry)) (now (rows .entry)) (now (events .entry)) (now (subs .exit)) (now (rows .entry)) (now (events .entry)) ⌝ }
 {
     departures::clear(subs, rows, events, d)
+}
+
+// Code 15.
+pub(crate) fn release(
+    subs: &mut [SubRow],
+    rows: &mut [Row],
+    events: &mut [Event],
+    d: Head,
+    w: [u64; 8],
+) -> Answer
+    requires { ⌜ Ready d (now subs) (now rows) (now events) × (is-some (decode 15 w) ≡ true) ⌝ }
+    ensures { λ r. ⌜ PerformsBy (decode 15 w) d r (now (subs .entry)) (now (rows .entry)) (now (events .entry)) (now (subs .exit)) (now (rows .exit)) (now (events .exit)) ⌝ }
+{
+    let id = Id::of_words(w[0], w[1], w[2]);
+    departures::release(subs, rows, events, d, id, w[3])
 }

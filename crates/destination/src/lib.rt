@@ -137,7 +137,7 @@ fn run(
     if d.calls_used == d.call_limit {
         return Outcome::refused(9);
     }
-    if c.code < Call::ADD_PRODUCER {
+    if (c.code < Call::ADD_PRODUCER) | (c.code == Call::RELEASE) {
         let a = perform::perform(subs, rows, events, d, c);
         return finish(head, a);
     }

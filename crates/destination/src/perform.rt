@@ -1,13 +1,13 @@
-// A call by its code: on the tables (codes 1 to 10), or in the head's words (codes 11 to 14).
+// A call by its code: on the tables (codes 1 to 10 and 15), or in the head's words (codes 11 to 14).
 ghost use mathlib.Core.Path.{_≡_};
-ghost use mathlib.Core.Bool.{true};
+ghost use mathlib.Core.Bool.{true, false};
 ghost use Prim.Native.Nat.{_<_};
 ghost use lib.ListN.{length};
 ghost use Rattle.definition.specs.Base.{is-some};
 ghost use Rattle.definition.specs.Words.{decode};
 ghost use Rattle.producers.specs.Producers.{headFits};
 ghost use Rattle.state.specs.Ready.{Ready};
-ghost use Rattle.destination.specs.Called.{PerformsBy, HeadBy};
+ghost use Rattle.destination.specs.Called.{PerformsBy, HeadBy, onTables};
 use crate::asking;
 use crate::handling;
 use calls::Call;
@@ -17,7 +17,7 @@ use state::Answer;
 use state::Event;
 use state::Head;
 
-// Codes 1 to 10.
+// Codes 1 to 10 and 15.
 pub(crate) fn perform(
     subs: &mut [SubRow],
     rows: &mut [Row],
@@ -25,7 +25,7 @@ pub(crate) fn perform(
     d: Head,
     c: Call,
 ) -> Answer
-    requires { ⌜ Ready d (now subs) (now rows) (now events) × (is-some (decode (c .code) (c .words)) ≡ true) × (0 < c .code) × (c .code < 11) ⌝ }
+    requires { ⌜ Ready d (now subs) (now rows) (now events) × (is-some (decode (c .code) (c .words)) ≡ true) × (0 < c .code) × (onTables (c .code) ≡ true) ⌝ }
     ensures { λ r. ⌜ PerformsBy (decode (c .code) (c .words)) d r (now (subs .entry)) (now (rows .entry)) (now (events .entry)) (now (subs .exit)) (now (rows .exit)) (now (events .exit)) ⌝ }
 {
     let code = c.code;
@@ -38,15 +38,16 @@ pub(crate) fn perform(
         Call::PULL => asking::ask_pull(subs, rows, events, d, w),
         Call::TIMEOUT => asking::ask_timeout(subs, rows, events, d, w),
         Call::PREFETCH => asking::ask_prefetch(subs, rows, events, d, w),
-        Call::RELEASE => handling::release(subs, rows, events, d, w),
+        Call::UNMARK => handling::unmark(subs, rows, events, d, w),
         Call::SWEEP => handling::sweep(subs, rows, events, d, w),
+        Call::RELEASE => handling::release(subs, rows, events, d, w),
         _ => handling::clear(subs, rows, events, d, w),
     }
 }
 
 // Codes 11 to 14.
 pub(crate) fn perform_head(head: &mut [u64], d: Head, c: Call) -> Answer
-    requires { ⌜ (headFits (length (now head)) d ≡ true) × (is-some (decode (c .code) (c .words)) ≡ true) × (10 < c .code) ⌝ }
+    requires { ⌜ (headFits (length (now head)) d ≡ true) × (is-some (decode (c .code) (c .words)) ≡ true) × (onTables (c .code) ≡ false) ⌝ }
     ensures { λ r. ⌜ HeadBy (decode (c .code) (c .words)) d (now (head .entry)) r (now (head .exit)) ⌝ }
 {
     let code = c.code;

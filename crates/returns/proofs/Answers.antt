@@ -37,27 +37,27 @@ module _ (now : ℕ) (subs : List Row) (d : Head) (rows events : ℕ) where
   unfolding inBounds
   bounds-fit f h = rw (f, le-leb now (2 ^ 62) h)
 
-  -- the numbers fit the smallest event list too
-  pub fits-least : Fits subs d rows events → Fits subs d rows 545
-  fits-least f = record {
-    subs-long = f .subs-long;
-    rows-long = f .rows-long;
-    events-long = omega arith;
-    consumers = f .consumers;
-    turn = f .turn;
-    reserved = f .reserved;
-    waiting = f .waiting;
-    used = f .used;
-    sent = f .sent;
-    calls = f .calls;
-    enqueued = f .enqueued;
-    dequeued = f .dequeued;
-    expired = f .expired;
-    discarded = f .discarded;
-    dispatched = f .dispatched;
-    rows-used = f .rows-used;
-    fitted = f .fitted;
-  }
+-- the numbers fit the smallest event list too
+pub fits-least : (subs : List Row) (d : Head) (rows events : ℕ) → Fits subs d rows events → Fits subs d rows 545
+fits-least subs d rows events f = record {
+  subs-long = f .subs-long;
+  rows-long = f .rows-long;
+  events-long = omega arith;
+  consumers = f .consumers;
+  turn = f .turn;
+  reserved = f .reserved;
+  waiting = f .waiting;
+  used = f .used;
+  sent = f .sent;
+  calls = f .calls;
+  enqueued = f .enqueued;
+  dequeued = f .dequeued;
+  expired = f .expired;
+  discarded = f .discarded;
+  dispatched = f .dispatched;
+  rows-used = f .rows-used;
+  fitted = f .fitted;
+}
 
 -- ---- whether a consumer is there
 

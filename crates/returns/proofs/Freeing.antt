@@ -11,7 +11,7 @@ use Rattle.definition.specs.Base.{if_then_else_, keep, empty, all}
 use Rattle.definition.specs.Types.{Id, Entry, Held, Audit, Dest, withReserved}
 use Rattle.definition.specs.Types as Def
 use Rattle.definition.specs.Consumer.{redelivered}
-use Rattle.definition.specs.Destination.{reinsert, heldBy, reservedOf, unmarked}
+use Rattle.definition.specs.Destination.{reinsert, heldBy, reservedOf}
 use Rattle.definition.specs.Words.{kindBy}
 use Rattle.definition.specs.Layout.{Row, heldAt, subsAt, subRows, entryStrict}
 use Rattle.definition.proofs.Lists.{all-append}
@@ -22,7 +22,7 @@ use Rattle.state.specs.State as State
 use Rattle.state.specs.State.{headView, strictTables, firstWaiting, firstReserved}
 use Rattle.state.specs.Fits.{Fits}
 use Rattle.state.specs.Leaves.{silent, Leaves}
-use Rattle.returns.specs.Returns.{freed, released}
+use Rattle.returns.specs.Returns.{freed}
 use Rattle.returns.specs.Gaps.{destOf, cut, waitingIn, around, Strict, StrictAround, Open, Moves, Same, Gap}
 use Rattle.returns.proofs.Rows.{slice-front, slice-drop}
 use Rattle.returns.proofs.Reinsert.{reinsert-none, reinsert-more}
@@ -80,7 +80,7 @@ module _ (now : ℕ) (i : Id) (m : ℕ) (t : Dest) (h : Held) (rest : List Held)
       ∙ ap₂ (λ (y : List Entry) (w : List Held). reinsert now y (withReserved (take m l ++ w) t)) (sym one) (sym two)
       ∙ ap (λ (y : List Held). reinsert now (back y i) (withReserved (take m l ++ stays y i) t)) (sym here)
 
--- where nothing is reserved for it, only the marks go, as `releaseReserved` has it
+-- where nothing is reserved for it, nothing changes
 none-for : (i : Id) (l : List Held) → empty (map (λ h. h .entry) (keep (heldBy i) l)) ≡ true → (back l i ≡ []) × (stays l i ≡ l)
 none-for i [] e = (refl, refl)
 none-for i (h ∷ l) e = go (heldBy i h) (none-for i l) e
@@ -91,10 +91,10 @@ none-for i (h ∷ l) e = go (heldBy i h) (none-for i l) e
     go true ih t = absurd (false≢true t)
     go false ih t = let r = ih t in (r .0, ap (λ (x : List Held). h ∷ x) (r .1))
 
-pub released-none : (now : ℕ) (i : Id) (t : Dest) → empty (reservedOf i t) ≡ true → released now i t ≡ unmarked i t
-released-none now i t e =
+pub freed-none : (now : ℕ) (i : Id) (t : Dest) → empty (reservedOf i t) ≡ true → freed now i t ≡ t
+freed-none now i t e =
     let r = none-for i (t .reserved) e in
-    ap₂ (λ (x : List Entry) (y : List Held). reinsert now x (withReserved y (unmarked i t))) (r .0) (r .1) ∙ reinsert-none now (unmarked i t)
+    ap₂ (λ (x : List Entry) (y : List Held). reinsert now x (withReserved y t)) (r .0) (r .1) ∙ reinsert-none now t
 
 -- ---- the reserved rows
 

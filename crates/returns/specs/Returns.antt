@@ -8,7 +8,7 @@ use lib.IntN.{ℤ}
 use Rattle.definition.specs.Base.{if_then_else_, keep}
 use Rattle.definition.specs.Types.{Id, Entry, Inflight, Sub, Held, Dest, withReserved}
 use Rattle.definition.specs.Consumer.{redelivered}
-use Rattle.definition.specs.Destination.{subOf, reinsert, heldBy, reservedOf, wasDelivered, returnedFrom, reservedFrom, dropSub, returning, unmarked}
+use Rattle.definition.specs.Destination.{subOf, reinsert, heldBy, reservedOf, wasDelivered, returnedFrom, reservedFrom, dropSub, returning}
 use Rattle.definition.specs.Layout.{Row}
 use Rattle.state.specs.declared.Head.{Head}
 use Rattle.state.specs.State.{withTurn, withConsumers}
@@ -22,13 +22,9 @@ leftAt now i last t (some s) = returning now s last (dropSub i t) (t .kind)
 abbrev pub left : ℕ → Id → ℤ → Dest → Dest
 left now i last t = leftAt now i last t (subOf i t)
 
--- what was reserved for the consumer i returns
+-- what was reserved for the consumer i returns: `release_reserved` without its marks, before the dispatch
 abbrev pub freed : ℕ → Id → Dest → Dest
 freed now i t = reinsert now (map redelivered (reservedOf i t)) (withReserved (keep (λ h. not (heldBy i h)) (t .reserved)) t)
-
--- Dest::release_reserved before the dispatch
-abbrev pub released : ℕ → Id → Dest → Dest
-released now i t = freed now i (unmarked i t)
 
 -- an entry as it goes back to the queue
 abbrev pub givenBack : ℤ → Entry → Entry

@@ -17,9 +17,9 @@ ghost use Rattle.table.specs.Table.{closeGap, mapRows, unmarkRow};
 ghost use Rattle.consumers.specs.Table.{positionFrom};
 ghost use Rattle.consumers.specs.declared.Found.the-variants.{At};
 ghost use Rattle.state.specs.State.{headView, withReserved, withUsed};
-ghost use Rattle.state.specs.Fits.{Fits};
+ghost use Rattle.state.specs.Fits.{fits, Fits};
 ghost use Rattle.state.specs.Leaves.{silent, Leaves, LeavesIf};
-ghost use Rattle.returns.specs.Returns.{held, givenBack, reserves, gives, left, droppedHead, freed, released, inBounds};
+ghost use Rattle.returns.specs.Returns.{held, givenBack, reserves, gives, left, droppedHead, freed, inBounds};
 ghost use Rattle.returns.specs.Gaps.{Open, Placed, Moves, Gap, Gave};
 use consumers::Sub;
 use consumers::SubRow;
@@ -266,14 +266,7 @@ pub fn leave(
     }
 }
 
-// ---- what was reserved is released
-
-// Whether a row is reserved for a consumer.
-fn is_for(row: Row, id: Id) -> bool
-    ensures { λ r. ⌜ r ≡ heldBy id (heldAt row) ⌝ }
-{
-    Id::of_words(row[6], row[7], row[8]).same(id)
-}
+// ---- the marks of a transaction go
 
 // The transaction is over for a consumer whose rows begin at base, if it has that identifier.
 fn unmark_one(rows: &mut [Row], base: usize, s: Sub, id: Id)
@@ -299,6 +292,26 @@ fn unmark_all(subs: &[SubRow], rows: &mut [Row], d: Head, id: Id)
         base = base + s.inflight + s.held;
         i += 1;
     }
+}
+
+// The transaction marks of a present consumer go: the first half of `release_reserved`. Of numbers that do not fit the tables, nothing
+// happens.
+pub fn unmark(subs: &[SubRow], rows: &mut [Row], events: &[Event], d: Head, id: Id)
+    ensures { λ _. ⌜ LeavesIf (fits (now (subs .entry)) d (length (now (rows .entry))) (length (now (events .entry)))) (Unit {0}) (silent (unmarked id)) d d (now (subs .entry)) (now (rows .entry)) (now (events .entry)) (now (subs .entry)) (now (rows .exit)) (now (events .entry)) ⌝ }
+{
+    if !state::fits(subs, d, rows.len(), events.len()) {
+        return;
+    }
+    unmark_all(subs, rows, d, id);
+}
+
+// ---- what was reserved is released
+
+// Whether a row is reserved for a consumer.
+fn is_for(row: Row, id: Id) -> bool
+    ensures { λ r. ⌜ r ≡ heldBy id (heldAt row) ⌝ }
+{
+    Id::of_words(row[6], row[7], row[8]).same(id)
 }
 
 // A reserved row returns to the queue.
@@ -332,8 +345,8 @@ fn release_rows(subs: &mut [SubRow], rows: &mut [Row], before: Head, id: Id, clo
     d
 }
 
-// What was reserved for a consumer returns to the queue, and its marks go: `release_reserved` before the dispatch. Of numbers that do not
-// fit the tables, or with a clock above 2^62, nothing happens.
+// What was reserved for a consumer returns to the queue: the second half of `release_reserved`, before the dispatch. Of numbers that do
+// not fit the tables, or with a clock above 2^62, nothing happens.
 pub fn release(
     subs: &mut [SubRow],
     rows: &mut [Row],
@@ -342,7 +355,7 @@ pub fn release(
     id: Id,
     clock: u64,
 ) -> Head
-    ensures { λ r. ⌜ LeavesIf (inBounds clock (now (subs .entry)) d (length (now (rows .entry))) (length (now (events .entry)))) (r .events + r .used ≤ 512) (silent (released clock id)) d r (now (subs .entry)) (now (rows .entry)) (now (events .entry)) (now (subs .exit)) (now (rows .exit)) (now (events .entry)) ⌝ }
+    ensures { λ r. ⌜ LeavesIf (inBounds clock (now (subs .entry)) d (length (now (rows .entry))) (length (now (events .entry)))) (r .events + r .used ≤ 512) (silent (freed clock id)) d r (now (subs .entry)) (now (rows .entry)) (now (events .entry)) (now (subs .exit)) (now (rows .exit)) (now (events .entry)) ⌝ }
 {
     if entry::CLOCK_MOST < clock {
         return d;
@@ -350,6 +363,5 @@ pub fn release(
     if !state::fits(subs, d, rows.len(), events.len()) {
         return d;
     }
-    unmark_all(subs, rows, d, id);
     release_rows(subs, rows, d, id, clock)
 }

@@ -13,8 +13,8 @@ use Rattle.audit.specs.Audit.{seen}
 use Rattle.definition.specs.Base.{all, keep, empty}
 use Rattle.definition.specs.Types.{Kind, queue, topic, Id, Entry, Inflight, Sub, Audit, Dest}
 use Rattle.definition.specs.Consumer.{Ack, AckType, Delivered, Poison, Standard, Redelivered, Individual, Unmatched, Expired, Other, ackType, ackRange, isBrowser, snapshot, deadLetters, Step, ackPlain, ackSub}
-use Rattle.definition.specs.Destination.{Out, Answer, count, isId, subOf, putSub, dispatchBy, dispatch, touchIdle, stored, fannedOut, enqueueBy, addSub, setPrefetch, heldBy, reservedOf, reservedHit, letters, reservedEvents, ackReserved, ackAt, ack, pulled, resumed, pullAt, pull, fired, timeoutAt, pullTimeout, returning, dropSub, removeAt, removeSub, releaseReserved, sweepList, sweepSubs, sweepExpired, clear, testAt, isDuplicate}
-use Rattle.definition.specs.Calls.{Lengths, short, bound, within, idOk, entryOk, clockOk, ackOk, flying, rowsOf, held, Request, acknowledge, pulling, timedOut, prefetching, requestOk, ask, Call, enqueuing, joining, leaving, asking, releasing, sweeping, clearing, adding, removing, testing, forgetting, discarding, missing, argumentsOk, ownRefusal, perform, refusal, Result, refused, call}
+use Rattle.definition.specs.Destination.{Out, Answer, count, isId, subOf, putSub, dispatchBy, dispatch, touchIdle, stored, fannedOut, enqueueBy, addSub, setPrefetch, heldBy, reservedOf, reservedHit, letters, reservedEvents, ackReserved, ackAt, ack, pulled, resumed, pullAt, pull, fired, timeoutAt, pullTimeout, returning, dropSub, removeAt, removeSub, returnReserved, sweepList, sweepSubs, sweepExpired, clear, testAt, isDuplicate}
+use Rattle.definition.specs.Calls.{Lengths, short, bound, within, idOk, entryOk, clockOk, ackOk, flying, rowsOf, held, Request, acknowledge, pulling, timedOut, prefetching, requestOk, ask, Call, enqueuing, joining, leaving, asking, unmarking, releasing, sweeping, clearing, adding, removing, testing, forgetting, discarding, missing, argumentsOk, ownRefusal, perform, refusal, Result, refused, call}
 use Rattle.definition.specs.Words.{decode, openWords, openStep, callStep, step}
 use Rattle.definition.specs.Layout.{Buffers, view, formed, lengthsOf, bufferStep}
 use Rattle.definition.proofs.Tests.{by-if, and-left, and-right}
@@ -161,11 +161,11 @@ module _ (L U : ℕ) (k : Kind) where
   leaves N now i last t (some s) e h g = fine-fits (N + 512 + 1) _ now _ (touch-fine L U k (N + 512) now _ h
       (subst⁻¹ (λ (j : Kind). Fine L U k (N + 512) (returning now s last (dropSub i t) j)) (g .kind) (returning-fine L U k N now i last s t e g)))
 
-  releases : (N now : ℕ) (i : Id) (t : Dest) → Fine L U k N t → Fits (releaseReserved now i t .events)
-  unfolding releaseReserved
+  releases : (N now : ℕ) (i : Id) (t : Dest) → Fine L U k N t → Fits (returnReserved now i t .events)
+  unfolding returnReserved
   releases N now i t g = by-if (λ (r : Out). Fits (r .events)) (empty (reservedOf i t)) _ _
       (λ c. tt)
-      (λ c. fine-fits (N + 1 + 512) _ now _ (release-some L U k N now i t c g))
+      (λ c. fine-fits (N + 512) _ now _ (release-some L U k N now i t c g))
 
 enqueues : (L U : ℕ) (k : Kind) (N now : ℕ) (e : Entry) (t : Dest) → Fine L U k N t → Stores k e t → Fits (enqueueBy now e t k .events)
 unfolding enqueueBy dispatchBy
@@ -187,6 +187,7 @@ performs L U k N (enqueuing e now) t n g a o = subst⁻¹ (λ (j : Kind). Fits (
 performs L U k N (joining p now) t n g a o = fine-fits L U k (N + 513) _ now _ (joins L U k N p now t n g a o)
 performs L U k N (leaving i last now) t n g a o = leaves L U k N now i last t (subOf i t) refl (and-right (within (2 ^ 63) last) _ (and-right (idOk i) _ a)) g
 performs L U k N (asking i q) t n g a o = asks L U k N i q t (and-right (idOk i) _ a) g
+performs L U k N (unmarking i) t n g a o = tt
 performs L U k N (releasing i now) t n g a o = releases L U k N now i t g
 performs L U k N (sweeping now most) t n g a o = sweeps now most t
 performs L U k N clearing t n g a o = tt

@@ -62,13 +62,13 @@ unfolding shown
 shown-most place ws zero = omega arith
 shown-most place ws (suc n) = by-test (eqb (kindAt place n) 0 && eqb (getD ws n 0) 0) (λ t. rw t (omega (arith, shown-most place ws n))) (λ t. rw t (omega arith))
 
-place-known : (code : ℕ) → placeFor code < 16
+place-known : (code : ℕ) → placeFor code < 17
 unfolding placeFor
-place-known code = by-test (leb code 14) (λ t. rw t (omega (arith, leb-true code 14 t))) (λ t. rw t (omega arith))
+place-known code = by-test (leb code 15) (λ t. rw t (omega (arith, leb-true code 15 t))) (λ t. rw t (omega arith))
 
 code-length : (code : ℕ) → length (codeField code) ≤ 21
 unfolding codeField
-code-length code = by-test (leb code 14) (λ t. rw t (omega arith)) (λ t. rw t (omega (arith, word-length code)))
+code-length code = by-test (leb code 15) (λ t. rw t (omega arith)) (λ t. rw t (omega (arith, word-length code)))
 
 pub text-length : (c : Call) → length (callText c) ≤ 512
 unfolding callText

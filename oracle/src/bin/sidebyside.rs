@@ -40,8 +40,9 @@ fn main() -> ExitCode {
         calls: 0,
         files: 0,
         different: 0,
-        codes: [[0; 2]; 16],
+        codes: [[0; 2]; 17],
         refusals: [0; 10],
+        halves: [0; 3],
         seen: Vec::new(),
     };
     match run.all(&arguments) {
@@ -59,9 +60,11 @@ struct Run {
     calls: u64,
     files: u64,
     different: u64,
-    /// By code, 15 being any other: accepted, refused.
-    codes: [[u64; 2]; 16],
+    /// By code, 16 being any other: accepted, refused.
+    codes: [[u64; 2]; 17],
     refusals: [u64; 10],
+    /// Releases in two halves by the broker's one call, and marks that the harness cleared or put back.
+    halves: [u64; 3],
     /// Conditions, and after how many calls they held.
     seen: Vec<(&'static str, u64)>,
 }
@@ -137,6 +140,9 @@ impl Run {
                 return;
             }
         }
+        for (sum, more) in self.halves.iter_mut().zip(sides.halves()) {
+            *sum += more;
+        }
     }
 
     /// Counts a call, and spoils what it has left if that is asked.
@@ -152,7 +158,7 @@ impl Run {
     fn count(&mut self, call: &Call, both: &Both) {
         self.calls += 1;
         let refused = both.reply.refusal != refusal::NONE;
-        self.codes[call.code.min(15) as usize][usize::from(refused)] += 1;
+        self.codes[call.code.min(16) as usize][usize::from(refused)] += 1;
         self.refusals[usize::from(both.reply.refusal)] += 1;
         for (name, holds) in conditions(call, both) {
             match self.seen.iter_mut().find(|(seen, _)| *seen == name) {
@@ -166,12 +172,15 @@ impl Run {
         println!("code accepted refused");
         for (code, [accepted, refused]) in self.codes.iter().enumerate() {
             match code {
-                15 => println!("other {accepted} {refused}"),
+                16 => println!("other {accepted} {refused}"),
                 _ => println!("{code} {accepted} {refused}"),
             }
         }
         let refusals: Vec<String> = self.refusals.iter().map(u64::to_string).collect();
         println!("refusals 0 to 9: {}", refusals.join(" "));
+        let [both, first, second] = self.halves;
+        println!("releases, both halves: {both}");
+        println!("halves alone, of a consumer with marks: {first} first, {second} second");
         for (name, times) in &self.seen {
             println!("{name}: {times}");
         }

@@ -59,13 +59,14 @@ fn ranges(call: &Call) -> Option<Vec<Range>> {
         code::PULL => vec![Any, Any, Any, Any, CLOCK],
         code::TIMEOUT => vec![Any, Any, Any, Any],
         code::PREFETCH => vec![Any, Any, Any, Int32, CLOCK],
-        code::RELEASE => vec![Any, Any, Any, CLOCK],
+        code::UNMARK => vec![Any, Any, Any],
         code::SWEEP => vec![CLOCK, Within(0, ROWS)],
         code::CLEAR => vec![],
         code::ADD_PRODUCER => vec![Any, Any, Any],
         code::REMOVE_PRODUCER => vec![Any, Any, Any, CLOCK],
         code::DUPLICATE => vec![Any, Any, Any, Any],
         code::RELEASE_AUDITS => vec![Any],
+        code::RELEASE => vec![Any, Any, Any, CLOCK],
         _ => return None,
     })
 }

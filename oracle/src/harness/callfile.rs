@@ -16,13 +16,14 @@ pub mod code {
     pub const PULL: u64 = 5;
     pub const TIMEOUT: u64 = 6;
     pub const PREFETCH: u64 = 7;
-    pub const RELEASE: u64 = 8;
+    pub const UNMARK: u64 = 8;
     pub const SWEEP: u64 = 9;
     pub const CLEAR: u64 = 10;
     pub const ADD_PRODUCER: u64 = 11;
     pub const REMOVE_PRODUCER: u64 = 12;
     pub const DUPLICATE: u64 = 13;
     pub const RELEASE_AUDITS: u64 = 14;
+    pub const RELEASE: u64 = 15;
 }
 
 /// Bits of an acknowledgement's type word, above the type byte.

@@ -106,12 +106,47 @@ pub struct Opened {
     pub calls_used: u64,
     /// The broker's idle mark, and the clock of the call that set it.
     idle: Option<(Instant, u64)>,
+    /// Whose marks are cleared, though the broker still has them: the first half of a release that waits for
+    /// its second.
+    unmarked: Option<Id>,
 }
 
 impl Opened {
     /// The idle mark as a clock.
     pub fn idle_clock(&self) -> Option<u64> {
         self.idle.map(|(_, clock)| clock)
+    }
+
+    /// The consumer whose marks count as cleared.
+    pub fn unmarked(&self) -> Option<Id> {
+        self.unmarked
+    }
+
+    /// Before an accepted call: the first half of a release that waits. Its second half has the broker do both;
+    /// before any other call the harness clears the marks itself.
+    fn settle(&mut self, call: &Call) -> Half {
+        match self.unmarked.take() {
+            None => Half::None,
+            Some(id) if call.code == code::RELEASE && id_of(call) == id => Half::Both,
+            Some(id) if probe::marks(&self.dest, &host::consumer_id(id)).is_empty() => Half::None,
+            Some(id) => {
+                probe::set_marks(&self.dest, &host::consumer_id(id), &[]);
+                Half::First
+            }
+        }
+    }
+
+    /// An accepted second half of a release. Where it comes alone, the broker's release clears marks that have to
+    /// stay, and the harness puts them back.
+    fn second_half(&mut self, call: &Call, prepared: &mut Prepared) -> Half {
+        let id = host::consumer_id(id_of(call));
+        let marks = probe::marks(&self.dest, &id);
+        prepared.run(&self.dest);
+        if marks.is_empty() {
+            return Half::None;
+        }
+        probe::set_marks(&self.dest, &id, &marks);
+        Half::Second
     }
 
     /// Reads the broker's idle mark; a new one was set at the call's clock.
@@ -127,8 +162,23 @@ impl Opened {
     }
 }
 
+/// What a release in two halves (document 02 §10) has needed, as the broker has one call for both.
+#[derive(Clone, Copy, PartialEq)]
+pub enum Half {
+    /// The broker alone.
+    None,
+    /// A first half, then at once its second: the broker's call.
+    Both,
+    /// A first half alone, of a consumer with marks: the harness has cleared them.
+    First,
+    /// A second half alone, of a consumer with marks: the harness has put them back.
+    Second,
+}
+
 pub struct Engine {
     opened: Option<Opened>,
+    /// How often each was needed.
+    pub halves: [u64; 4],
     /// One connection for all consumers keeps the sends in order.
     conn: Arc<ConnHandle>,
     sends: mpsc::UnboundedReceiver<Out>,
@@ -148,6 +198,7 @@ impl Engine {
         let address = ([127, 0, 0, 1], 0).into();
         Engine {
             opened: None,
+            halves: [0; 4],
             conn: Arc::new(ConnHandle::new(1, address, tx)),
             sends,
             memory: Arc::new(Memory::new(0)),
@@ -176,7 +227,17 @@ impl Engine {
         }
         let mut prepared = self.prepare(call);
         let opened = self.opened.as_mut().expect("an accepted call has a destination");
-        let (answer, effects) = prepared.run(&opened.dest);
+        let half = opened.settle(call);
+        self.halves[half as usize] += 1;
+        let (answer, effects) = if call.code == code::RELEASE && half != Half::Both {
+            self.halves[opened.second_half(call, &mut prepared) as usize] += 1;
+            (0, Vec::new())
+        } else {
+            prepared.run(&opened.dest)
+        };
+        if call.code == code::UNMARK {
+            opened.unmarked = Some(id_of(call));
+        }
         opened.calls_used += 1;
         opened.follow_idle(call);
         let mut events: Vec<Event> = effects.into_iter().map(dead_letter).collect();
@@ -223,6 +284,7 @@ impl Engine {
             call_limit,
             calls_used: 0,
             idle,
+            unmarked: None,
         });
     }
 
@@ -321,13 +383,14 @@ impl Engine {
             code::PULL => Prepared::Pull(consumer(), a[3] as i64, now(4)),
             code::TIMEOUT => Prepared::Timeout(consumer(), a[3]),
             code::PREFETCH => Prepared::Prefetch(consumer(), a[3] as i32, now(4)),
-            code::RELEASE => Prepared::Release(consumer(), now(3)),
+            code::UNMARK => Prepared::Unmark,
             code::SWEEP => Prepared::Sweep(now(0), a[1] as usize),
             code::CLEAR => Prepared::Clear,
             code::ADD_PRODUCER => Prepared::AddProducer(Some((producer(), meta_of(a[0])))),
             code::REMOVE_PRODUCER => Prepared::RemoveProducer(producer()),
             code::DUPLICATE => Prepared::Duplicate(Box::new(host::audited_message(id_of(call), a[3] as i64))),
             code::RELEASE_AUDITS => Prepared::ReleaseAudits(host::connection_text(a[0])),
+            code::RELEASE => Prepared::Release(consumer(), now(3)),
             other => unreachable!("code {other} was accepted"),
         }
     }
@@ -359,6 +422,8 @@ pub enum Prepared {
     Pull(ConsumerId, i64, i64),
     Timeout(ConsumerId, u64),
     Prefetch(ConsumerId, i32, i64),
+    /// The first half of a release; the broker does it with the second.
+    Unmark,
     Release(ConsumerId, i64),
     Sweep(i64, usize),
     Clear,
@@ -384,6 +449,7 @@ impl Prepared {
             }
             Prepared::Timeout(id, generation) => dest.pull_timeout(id, *generation),
             Prepared::Prefetch(id, prefetch, now) => dest.set_prefetch(id, *prefetch, *now),
+            Prepared::Unmark => {}
             Prepared::Release(id, now) => dest.release_reserved(id, *now),
             Prepared::Sweep(now, most) => return (dest.sweep_expired(*now, *most) as u64, Vec::new()),
             Prepared::Clear => return (dest.clear() as u64, Vec::new()),

@@ -13,8 +13,8 @@ pub use profiles::{names, Profile};
 /// Makes a call file of a profile: the same for the same seed, profile and number of calls.
 pub fn file(seed: u64, profile: &'static Profile, calls: usize) -> Vec<u8> {
     let mut maker = Maker::new(seed, profile);
-    for _ in 0..calls {
-        maker.step();
+    while maker.calls.len() < calls {
+        maker.step(calls);
     }
     let blocks = maker.blocks();
     if profile.damaged {
@@ -63,8 +63,12 @@ impl Maker {
         self.engine.opened().map(|o| probe::view(&o.dest))
     }
 
-    fn step(&mut self) {
-        let code = self.next_code();
+    fn step(&mut self, calls: usize) {
+        let mut code = self.next_code();
+        // A pair is not cut by the file's end.
+        if code == code::UNMARK && !self.profile.halves && self.calls.len() + 1 == calls {
+            code = code::SWEEP;
+        }
         let view = self.view();
         self.tick();
         let mut call = build::call(self, code, view.as_ref());
@@ -80,11 +84,15 @@ impl Maker {
     }
 
     fn next_code(&mut self) -> u64 {
+        let first = self.calls.last().is_some_and(|c| c.code == code::UNMARK);
+        if first && !self.profile.halves {
+            return code::RELEASE;
+        }
         if self.engine.opened().is_none() {
             // A few calls come too early in profiles that spoil words.
             let early = self.profile.bad_words > 0 && self.calls.len() < 5;
             if early && self.random.chance(1, 2) {
-                return self.random.below(15);
+                return self.random.below(16);
             }
             return code::OPEN;
         }

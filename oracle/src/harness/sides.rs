@@ -50,6 +50,12 @@ impl Sides {
         self.both(reply, outcome, before)
     }
 
+    /// Releases by the broker's call for both halves, and first and second halves that the harness did alone.
+    pub fn halves(&self) -> [u64; 3] {
+        let [_, both, first, second] = self.engine.halves;
+        [both, first, second]
+    }
+
     fn both(&self, reply: Reply, outcome: Outcome, before: Option<Lent>) -> Both {
         let opened = self.engine.opened();
         if self.calls.is_multiple_of(DERIVED_EVERY) {

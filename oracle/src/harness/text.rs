@@ -15,7 +15,7 @@ use super::arguments;
 use super::callfile::{self, Call, BLOCK, CALLS};
 
 /// Names of calls, by code.
-const NAMES: [&str; 15] = [
+const NAMES: [&str; 16] = [
     "open",
     "enqueue",
     "join",
@@ -24,13 +24,14 @@ const NAMES: [&str; 15] = [
     "pull",
     "timeout",
     "prefetch",
-    "release",
+    "unmark",
     "sweep",
     "clear",
     "add_producer",
     "remove_producer",
     "duplicate",
     "release_audits",
+    "release",
 ];
 
 /// A call file being written.

@@ -74,6 +74,7 @@ fn transactions(rows: usize, calls: usize) -> Traffic {
         if flow.turns % 16 == 15 {
             flow.call(code::LEAVE, &[id[0], id[1], id[2], -1i64 as u64, flow.clock]);
             flow.sent.retain(|(to, _)| *to != id);
+            flow.call(code::UNMARK, &id);
             flow.call(code::RELEASE, &[id[0], id[1], id[2], flow.clock]);
             flow.join(id, PREFETCH, NO_SELECTOR, 0);
         } else if let Some(last) = held.last() {

@@ -85,6 +85,10 @@ impl Whole {
                 .collect(),
         };
         whole.arrange();
+        // The broker clears these with the second half.
+        for sub in whole.subs.iter_mut().filter(|s| opened.unmarked() == Some(s.id)) {
+            sub.inflight.iter_mut().for_each(|i| i.tx = false);
+        }
         whole
     }
 

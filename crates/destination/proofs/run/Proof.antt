@@ -1,5 +1,4 @@
 -- `destination::run` meets its contract. Assumes nothing.
-use native.Mathlib.Omega.{arith}
 use denote.Ref.{now}
 use Rattle.destination.proofs.Ran.{spent-run, ready-run, fit-run, tables-run, head-run}
 use borrow.Author.Needs.{needs}
@@ -32,9 +31,9 @@ returns c =
 -- src/lib.rt:134:13
 perform-requires : tie.Need-perform-requires
 perform-requires c κs =
-    let a = c .before .before .before .before .before .before .before .before .before .before .before .args in
-    let p = c .before .before .before .before .before .before .before .before .before .before .before .pre in
-    (ready-run (now (a .head)) (now (a .subs)) (now (a .rows)) (now (a .events)) (a .c .code) (a .c .words) (p .0) (p .1) (p .2) (p .3) (c .before .before .before .before .before .before .before .load .result) (c .before .before .before .before .before .before .before .load .ensures) (c .before .before .before .before .before .if1 .left), p .3, p .2, c .before .before .before .if2 .taken)
+    let a = c .before .before .before .before .before .before .before .before .before .before .before .before .args in
+    let p = c .before .before .before .before .before .before .before .before .before .before .before .before .pre in
+    (ready-run (now (a .head)) (now (a .subs)) (now (a .rows)) (now (a .events)) (a .c .code) (a .c .words) (p .0) (p .1) (p .2) (p .3) (c .before .before .before .before .before .before .before .before .load .result) (c .before .before .before .before .before .before .before .before .load .ensures) (c .before .before .before .before .before .before .if1 .left), p .3, p .2, c .before .before .before .if2 .taken)
 
 -- src/lib.rt:135:9
 finish-requires : tie.Need-finish-requires
@@ -59,18 +58,18 @@ same-length-6 c = search needs
 -- src/lib.rt:135:9
 returns-2 : tie.Need-returns-2
 returns-2 c =
-    let a = c .before .before .before .before .before .before .before .before .before .before .before .before .before .before .before .before .before .before .before .args in
-    let p = c .before .before .before .before .before .before .before .before .before .before .before .before .before .before .before .before .before .before .before .pre in
+    let a = c .before .before .before .before .before .before .before .before .before .before .before .before .before .before .before .before .before .before .before .before .args in
+    let p = c .before .before .before .before .before .before .before .before .before .before .before .before .before .before .before .before .before .before .before .before .pre in
     let k = c .before .before .before .before .before .before .before .perform in
     let f = c .before .before .finish in
-    tables-run (now (a .head)) (now (a .subs)) (now (a .rows)) (now (a .events)) (a .c .code) (a .c .words) (p .0) (p .1) (p .2) (p .3) (c .before .before .before .before .before .before .before .before .before .before .before .before .before .before .before .load .result) (c .before .before .before .before .before .before .before .before .before .before .before .before .before .before .before .load .ensures) (c .before .before .before .before .before .before .before .before .before .before .before .before .before .if1 .left) (k .result) (f .result) (f .ensures .0) (k .last .0) (k .last .1 .0) (k .last .1 .1 .0) (f .last .0) (f .ensures .1) (k .ensures)
+    tables-run (now (a .head)) (now (a .subs)) (now (a .rows)) (now (a .events)) (a .c .code) (a .c .words) (p .0) (p .1) (p .2) (p .3) (c .before .before .before .before .before .before .before .before .before .before .before .before .before .before .before .before .load .result) (c .before .before .before .before .before .before .before .before .before .before .before .before .before .before .before .before .load .ensures) (c .before .before .before .before .before .before .before .before .before .before .before .before .before .before .if1 .left) (k .result) (f .result) (f .ensures .0) (k .last .0) (k .last .1 .0) (k .last .1 .1 .0) (f .last .0) (f .ensures .1) (k .ensures)
 
 -- src/lib.rt:137:9
 perform-head-requires : tie.Need-perform-head-requires
 perform-head-requires c κs =
-    let a = c .before .before .before .before .before .before .before .before .before .args in
-    let p = c .before .before .before .before .before .before .before .before .before .pre in
-    (fit-run (now (a .head)) (now (a .subs)) (now (a .rows)) (now (a .events)) (a .c .code) (a .c .words) (p .0) (p .1) (p .2) (p .3) (c .before .before .before .before .before .load .result) (c .before .before .before .before .before .load .ensures) (c .before .before .before .if1 .left), p .3, omega (arith, c .before .if2 .left))
+    let a = c .before .before .before .before .before .before .before .before .before .before .args in
+    let p = c .before .before .before .before .before .before .before .before .before .before .pre in
+    (fit-run (now (a .head)) (now (a .subs)) (now (a .rows)) (now (a .events)) (a .c .code) (a .c .words) (p .0) (p .1) (p .2) (p .3) (c .before .before .before .before .before .before .load .result) (c .before .before .before .before .before .before .load .ensures) (c .before .before .before .before .if1 .left), p .3, c .before .if2 .left)
 
 -- src/lib.rt:138:5
 finish-requires-2 : tie.Need-finish-requires-2
@@ -87,11 +86,11 @@ same-length-8 c = search needs
 -- src/lib.rt:119:1
 returns-3 : tie.Need-returns-3
 returns-3 c =
-    let a = c .before .before .before .before .before .before .before .before .before .before .before .before .before .before .before .before .args in
-    let p = c .before .before .before .before .before .before .before .before .before .before .before .before .before .before .before .before .pre in
+    let a = c .before .before .before .before .before .before .before .before .before .before .before .before .before .before .before .before .before .args in
+    let p = c .before .before .before .before .before .before .before .before .before .before .before .before .before .before .before .before .before .pre in
     let k = c .before .before .before .before .before .before .perform-head in
     let f = c .before .before .finish2 in
-    head-run (now (a .head)) (now (a .subs)) (now (a .rows)) (now (a .events)) (a .c .code) (a .c .words) (p .0) (p .1) (p .2) (p .3) (c .before .before .before .before .before .before .before .before .before .before .before .before .load .result) (c .before .before .before .before .before .before .before .before .before .before .before .before .load .ensures) (c .before .before .before .before .before .before .before .before .before .before .if1 .left) (k .result) (f .result) (f .ensures .0) (k .last .0) (f .last .0) (f .ensures .1) (k .ensures)
+    head-run (now (a .head)) (now (a .subs)) (now (a .rows)) (now (a .events)) (a .c .code) (a .c .words) (p .0) (p .1) (p .2) (p .3) (c .before .before .before .before .before .before .before .before .before .before .before .before .before .load .result) (c .before .before .before .before .before .before .before .before .before .before .before .before .before .load .ensures) (c .before .before .before .before .before .before .before .before .before .before .before .if1 .left) (k .result) (f .result) (f .ensures .0) (k .last .0) (f .last .0) (f .ensures .1) (k .ensures)
 
 pub run-spec : {M : Type 1} → statement M
 run-spec =

@@ -45,7 +45,7 @@ leave-at-requires c κs =
     let f = fits-facts (now (a .subs)) (a .d) (length (now (a .rows))) (length (now (a .events))) (sym (c .before .before .before .before .before .before .before .before .fits2 .ensures) ∙ not-false _ (c .before .before .before .before .before .before .before .if2 .left)) in
     let e = sym (c .before .before .before .before .before .position .ensures) ∙ c .before .before .before .found .given .1 in
     let w = position-within (a .id) (take (a .d .consumers) (now (a .subs))) _ e in
-    (fits-least (a .clock) (now (a .subs)) (a .d) (length (now (a .rows))) (length (now (a .events))) f, omega (arith, w, length-take-le (a .d .consumers) (now (a .subs)) (omega (arith, f .consumers, f .subs-long))), c .before .before .before .before .before .before .before .before .before .before .if1 .left)
+    (fits-least (now (a .subs)) (a .d) (length (now (a .rows))) (length (now (a .events))) f, omega (arith, w, length-take-le (a .d .consumers) (now (a .subs)) (omega (arith, f .consumers, f .subs-long))), c .before .before .before .before .before .before .before .before .before .before .if1 .left)
 
 enum-told : tie.Need-enum-told
 enum-told c = search needs

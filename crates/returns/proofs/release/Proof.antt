@@ -1,16 +1,11 @@
 -- `returns::release` meets its contract. Assumes nothing.
-use mathlib.Core.Path.{sym, _∙_, subst⁻¹}
-use Prim.Native.Nat.{ℕ}
+use mathlib.Core.Path.{sym, _∙_}
 use borrow.Author.Tests.{not-true, not-false}
 use denote.Ref.{now}
 use lib.ListN.{length}
-use Rattle.definition.specs.Destination.{unmarked}
-use Rattle.state.specs.Fits.{Fits}
-use Rattle.state.specs.Leaves.{silent}
 use Rattle.state.proofs.Fitting.{fits-facts}
 use Rattle.state.proofs.Answers.{leaves-no}
-use Rattle.state.proofs.Leaves.{when-leaves, leaves-both}
-use Rattle.returns.specs.Returns.{freed}
+use Rattle.state.proofs.Leaves.{when-leaves}
 use Rattle.returns.proofs.Answers.{bounds-late, bounds-unfit, bounds-fit, fits-least}
 use borrow.Author.Needs.{needs}
 use Rattle.returns.proofs.release.Statement.{statement}
@@ -32,17 +27,11 @@ returns-2 c =
     let a = c .before .before .before .before .args in
     leaves-no _ _ _ (a .d) (now (a .subs)) (now (a .rows)) (now (a .events)) (bounds-unfit (a .clock) (now (a .subs)) (a .d) (length (now (a .rows))) (length (now (a .events))) (sym (c .before .fits2 .ensures) ∙ not-true _ (c .if2 .taken)))
 
-unmark-all-requires : tie.Need-unmark-all-requires
-unmark-all-requires c κs =
-    let a = c .before .before .before .before .before .before .args in
-    let f = fits-facts (now (a .subs)) (a .d) (length (now (a .rows))) (length (now (a .events))) (sym (c .before .before .before .fits2 .ensures) ∙ not-false _ (c .before .before .if2 .left)) in
-    fits-least (a .clock) (now (a .subs)) (a .d) (length (now (a .rows))) (length (now (a .events))) f
-
 release-rows-requires : tie.Need-release-rows-requires
 release-rows-requires c κs =
-    let a = c .before .before .before .before .before .before .before .before .before .before .args in
-    let f = fits-facts (now (a .subs)) (a .d) (length (now (a .rows))) (length (now (a .events))) (sym (c .before .before .before .before .before .before .before .fits2 .ensures) ∙ not-false _ (c .before .before .before .before .before .before .if2 .left)) in
-    (subst⁻¹ (λ (n : ℕ). Fits (now (a .subs)) (a .d) n 545) (c .before .before .before .unmark-all .ensures (now (a .events)) .rows-length) (fits-least (a .clock) (now (a .subs)) (a .d) (length (now (a .rows))) (length (now (a .events))) f), c .before .before .before .before .before .before .before .before .before .if1 .left)
+    let a = c .before .before .before .before .before .before .args in
+    let f = fits-facts (now (a .subs)) (a .d) (length (now (a .rows))) (length (now (a .events))) (sym (c .before .before .before .fits2 .ensures) ∙ not-false _ (c .before .before .if2 .left)) in
+    (fits-least (now (a .subs)) (a .d) (length (now (a .rows))) (length (now (a .events))) f, c .before .before .before .before .before .if1 .left)
 
 same-length-2 : tie.Need-same-length-2
 same-length-2 c = search needs
@@ -52,12 +41,10 @@ same-length-3 c = search needs
 
 returns-3 : tie.Need-returns-3
 returns-3 c =
-    let a = c .before .before .before .before .before .before .before .before .before .before .before .before .before .args in
-    let t = bounds-fit (a .clock) (now (a .subs)) (a .d) (length (now (a .rows))) (length (now (a .events))) (sym (c .before .before .before .before .before .before .before .before .before .before .fits2 .ensures) ∙ not-false _ (c .before .before .before .before .before .before .before .before .before .if2 .left)) (c .before .before .before .before .before .before .before .before .before .before .before .before .if1 .left) in
-    let u = c .before .before .before .before .before .before .unmark-all .ensures (now (a .events)) in
+    let a = c .before .before .before .before .before .before .before .before .before .args in
+    let t = bounds-fit (a .clock) (now (a .subs)) (a .d) (length (now (a .rows))) (length (now (a .events))) (sym (c .before .before .before .before .before .before .fits2 .ensures) ∙ not-false _ (c .before .before .before .before .before .if2 .left)) (c .before .before .before .before .before .before .before .before .if1 .left) in
     let v = c .before .before .release-rows .ensures in
-    when-leaves _ _ _ (a .d) _ (now (a .subs)) (now (a .rows)) (now (a .events)) _ _ (now (a .events)) t
-    (leaves-both (silent (unmarked (a .id))) (silent (freed (a .clock) (a .id))) (a .d) (a .d) _ (now (a .subs)) (now (a .rows)) (now (a .events)) (now (a .subs)) _ (now (a .events)) _ _ (now (a .events)) u (v .0 (now (a .events))), v .1)
+    when-leaves _ _ _ (a .d) _ (now (a .subs)) (now (a .rows)) (now (a .events)) _ _ (now (a .events)) t (v .0 (now (a .events)), v .1)
 
 pub release-spec : {M : Type 1} → statement M
 release-spec =
@@ -67,7 +54,6 @@ release-spec =
     fits-requires
     same-length
     returns-2
-    unmark-all-requires
     release-rows-requires
     same-length-2
     same-length-3

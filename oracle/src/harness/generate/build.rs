@@ -49,8 +49,17 @@ pub fn call(maker: &mut Maker, code: u64, view: Option<&View>) -> Call {
             let prefetch = prefetch(maker);
             with_id(code, id, &[prefetch as u64, clock])
         }
-        code::RELEASE => {
+        code::UNMARK => {
             let id = reserved(maker, view);
+            with_id(code, id, &[])
+        }
+        code::RELEASE => {
+            let id = match maker.calls.last() {
+                Some(first) if !maker.profile.halves && first.code == code::UNMARK => {
+                    [first.args[0], first.args[1], first.args[2]]
+                }
+                _ => reserved(maker, view),
+            };
             with_id(code, id, &[clock])
         }
         code::SWEEP => {
@@ -402,7 +411,12 @@ fn duplicate(maker: &mut Maker) -> Call {
 pub fn spoil(maker: &mut Maker, call: &mut Call) {
     let random = &mut maker.random;
     if random.chance(1, 6) {
-        call.code = random.pick(&[15, 16, 255, 256, 1 << 32, 1 << 63, u64::MAX]);
+        call.code = random.pick(&[16, 17, 255, 256, 1 << 32, 1 << 63, u64::MAX]);
+        return;
+    }
+    // A release as it was before document 02 §10: its identifier and its clock.
+    if call.code == code::UNMARK && random.chance(1, 3) {
+        call.args[3] = maker.clock.max(1);
         return;
     }
     let used = arguments::words_used(call.code).unwrap_or(8);

@@ -8,7 +8,7 @@ pub struct Profile {
     pub kinds: &'static [u64],
     pub topic_limits: &'static [u64],
     pub call_limits: &'static [u64],
-    /// Codes with their weights.
+    /// Codes with their weights. A first half of a release is followed by its second.
     pub weights: &'static [(u64, u64)],
     /// How many different consumers there are.
     pub consumers: u64,
@@ -29,6 +29,8 @@ pub struct Profile {
     pub fill: bool,
     /// Of a hundred calls, how many have a spoilt word or code.
     pub bad_words: u64,
+    /// The halves of a release come apart, each by itself.
+    pub halves: bool,
     /// One block is broken.
     pub damaged: bool,
 }
@@ -49,7 +51,7 @@ const MIXED: Profile = Profile {
         (PULL, 25),
         (TIMEOUT, 10),
         (PREFETCH, 15),
-        (RELEASE, 10),
+        (UNMARK, 10),
         (SWEEP, 8),
         (CLEAR, 1),
         (ADD_PRODUCER, 8),
@@ -68,6 +70,7 @@ const MIXED: Profile = Profile {
     wild: true,
     fill: false,
     bad_words: 2,
+    halves: false,
     damaged: false,
 };
 
@@ -80,7 +83,7 @@ const QUEUE: Profile = Profile {
         (LEAVE, 4),
         (ACK, 40),
         (PREFETCH, 3),
-        (RELEASE, 1),
+        (UNMARK, 1),
     ],
     prefetches: &[1, 2, 3, 5, 10, 1000],
     browsers: 0,
@@ -141,7 +144,7 @@ const TX: Profile = Profile {
         (JOIN, 16),
         (LEAVE, 14),
         (ACK, 60),
-        (RELEASE, 10),
+        (UNMARK, 10),
         (PREFETCH, 3),
         (SWEEP, 1),
     ],
@@ -181,7 +184,7 @@ const EXPIRY: Profile = Profile {
         (ACK, 40),
         (PULL, 8),
         (PREFETCH, 5),
-        (RELEASE, 4),
+        (UNMARK, 4),
         (SWEEP, 4),
         (ADD_PRODUCER, 1),
         (REMOVE_PRODUCER, 2),
@@ -203,7 +206,7 @@ const ROWS: Profile = Profile {
         (ACK, 20),
         (PREFETCH, 4),
         (PULL, 4),
-        (RELEASE, 3),
+        (UNMARK, 3),
         (SWEEP, 1),
     ],
     consumers: 36,
@@ -227,7 +230,7 @@ const CONSUMERS: Profile = Profile {
         (ACK, 20),
         (PULL, 6),
         (PREFETCH, 4),
-        (RELEASE, 2),
+        (UNMARK, 2),
         (TIMEOUT, 2),
     ],
     consumers: 40,
@@ -248,7 +251,7 @@ const LIMITS: Profile = Profile {
         (PULL, 8),
         (TIMEOUT, 6),
         (PREFETCH, 6),
-        (RELEASE, 6),
+        (UNMARK, 6),
         (SWEEP, 6),
         (CLEAR, 6),
         (ADD_PRODUCER, 6),
@@ -291,7 +294,7 @@ const SWEEP_MANY: Profile = Profile {
         (LEAVE, 6),
         (ACK, 10),
         (SWEEP, 20),
-        (RELEASE, 2),
+        (UNMARK, 2),
     ],
     prefetches: &[0, 0, 1, 2],
     expiring: 8,
@@ -310,7 +313,7 @@ const CLEAR_MANY: Profile = Profile {
         (PULL, 8),
         (TIMEOUT, 2),
         (PREFETCH, 6),
-        (RELEASE, 3),
+        (UNMARK, 3),
         (CLEAR, 7),
     ],
     browsers: 4,
@@ -336,15 +339,40 @@ const PRODUCERS: Profile = Profile {
     ..MIXED
 };
 
+const HALVES: Profile = Profile {
+    name: "halves",
+    kinds: &[0, 0, 0, 1],
+    weights: &[
+        (ENQUEUE, 40),
+        (JOIN, 24),
+        (LEAVE, 18),
+        (ACK, 60),
+        (UNMARK, 12),
+        (RELEASE, 12),
+        (PREFETCH, 3),
+        (SWEEP, 1),
+        (CLEAR, 1),
+    ],
+    prefetches: &[1, 3, 5, 10, 100],
+    consumers: 4,
+    browsers: 1,
+    transacted: 7,
+    expiring: 2,
+    wild: false,
+    bad_words: 0,
+    halves: true,
+    ..MIXED
+};
+
 const DAMAGED: Profile = Profile {
     name: "damaged",
     damaged: true,
     ..MIXED
 };
 
-static PROFILES: [Profile; 16] = [
+static PROFILES: [Profile; 17] = [
     QUEUE, TOPIC, BROWSER, TX, PULLS, EXPIRY, ROWS, CONSUMERS, LIMITS, BADWORDS, AUDITS, SWEEP_MANY,
-    CLEAR_MANY, PRODUCERS, DAMAGED, MIXED,
+    CLEAR_MANY, PRODUCERS, HALVES, DAMAGED, MIXED,
 ];
 
 impl Profile {

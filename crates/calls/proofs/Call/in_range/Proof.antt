@@ -93,7 +93,7 @@ returns-7 c =
     let code : ℕ = c .before .before .before .before .args .self .code in
     let ws : List ℕ = c .before .before .before .before .args .self .words in
     let h : Words ws = c .before .before .words-fit .ensures in
-    ⊎-elim (R.arm code 8 ws _ _ (R.release-range ws h) (c .clocked-ok .ensures)) (R.arm code 12 ws _ _ (R.remove-range ws h) (c .clocked-ok .ensures)) (c .before .match .keys7)
+    ⊎-elim (R.arm code 12 ws _ _ (R.remove-range ws h) (c .clocked-ok .ensures)) (R.arm code 15 ws _ _ (R.release-range ws h) (c .clocked-ok .ensures)) (c .before .match .keys7)
 
 returns-8 : tie.Need-returns-8
 returns-8 c =
@@ -114,7 +114,7 @@ returns-10 c =
     let code : ℕ = c .before .before .before .before .args .self .code in
     let ws : List ℕ = c .before .before .before .before .args .self .words in
     let h : Words ws = c .before .before .words-fit .ensures in
-    R.arm code 11 ws _ _ (R.add-range ws h) (c .unused3 .ensures) (c .before .match .keys10)
+    ⊎-elim (R.arm code 8 ws _ _ (R.unmark-range ws h) (c .unused3 .ensures)) (R.arm code 11 ws _ _ (R.add-range ws h) (c .unused3 .ensures)) (c .before .match .keys10)
 
 returns-11 : tie.Need-returns-11
 returns-11 c =
@@ -136,13 +136,14 @@ returns-12 c =
       ne-eqb code 5 (λ e. (n .0 .0 .0 .0 .0 .0 .0 .0 .1) (inr e)),
       ne-eqb code 6 (λ e. (n .0 .0 .0 .0 .0 .0 .1) (inl e)),
       ne-eqb code 7 (n .0 .0 .0 .0 .0 .1),
-      ne-eqb code 8 (λ e. (n .0 .0 .0 .0 .1) (inl e)),
+      ne-eqb code 8 (λ e. (n .0 .1) (inl e)),
       ne-eqb code 9 (n .0 .0 .0 .1),
       ne-eqb code 10 (n .0 .0 .1),
-      ne-eqb code 11 (n .0 .1),
-      ne-eqb code 12 (λ e. (n .0 .0 .0 .0 .1) (inr e)),
+      ne-eqb code 11 (λ e. (n .0 .1) (inr e)),
+      ne-eqb code 12 (λ e. (n .0 .0 .0 .0 .1) (inl e)),
       ne-eqb code 13 (λ e. (n .0 .0 .0 .0 .0 .0 .1) (inr e)),
       ne-eqb code 14 (n .1),
+      ne-eqb code 15 (λ e. (n .0 .0 .0 .0 .1) (inr e)),
     )
 
 pub in-range-spec : {M : Type 1} → statement M

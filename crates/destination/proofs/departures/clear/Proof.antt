@@ -9,15 +9,12 @@ use borrow.Author.Needs.{needs}
 use Rattle.destination.proofs.departures.clear.Statement.{statement}
 use Rattle.destination.proofs.departures.clear.Tie as tie
 
--- src/departures.rt:76:5
 clear-requires : tie.Need-clear-requires
 clear-requires c κs = search needs
 
--- src/departures.rt:72:1
 same-length : tie.Need-same-length
 same-length c = search needs
 
--- src/departures.rt:72:1
 returns : tie.Need-returns
 returns c =
     let a = c .before .before .before .args in

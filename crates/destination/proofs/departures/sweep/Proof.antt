@@ -12,19 +12,15 @@ use borrow.Author.Needs.{needs}
 use Rattle.destination.proofs.departures.sweep.Statement.{statement}
 use Rattle.destination.proofs.departures.sweep.Tie as tie
 
--- src/departures.rt:68:5
 sweep-requires : tie.Need-sweep-requires
 sweep-requires c κs = search needs
 
--- src/departures.rt:57:1
 same-length : tie.Need-same-length
 same-length c = search needs
 
--- src/departures.rt:57:1
 same-length-2 : tie.Need-same-length-2
 same-length-2 c = search needs
 
--- src/departures.rt:57:1
 returns : tie.Need-returns
 returns c =
     let a = c .before .before .before .before .before .args in

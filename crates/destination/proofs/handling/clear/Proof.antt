@@ -17,15 +17,12 @@ use borrow.Author.Needs.{needs}
 use Rattle.destination.proofs.handling.clear.Statement.{statement}
 use Rattle.destination.proofs.handling.clear.Tie as tie
 
--- src/handling.rt:130:5
 clear-requires : tie.Need-clear-requires
 clear-requires c κs = search needs
 
--- src/handling.rt:120:1
 same-length : tie.Need-same-length
 same-length c = search needs
 
--- src/handling.rt:120:1
 returns : tie.Need-returns
 returns c =
     let a = c .before .before .before .args in

@@ -17,52 +17,42 @@ use borrow.Author.Needs.{needs}
 use Rattle.destination.proofs.handling.release.Statement.{statement}
 use Rattle.destination.proofs.handling.release.Tie as tie
 
--- src/handling.rt:100:27
 array-read-of-words : tie.Need-array-read-of-words
 array-read-of-words c = search needs
 
--- src/handling.rt:100:33
 array-read-of-words-2 : tie.Need-array-read-of-words-2
 array-read-of-words-2 c = search needs
 
--- src/handling.rt:100:39
 array-read-of-words-3 : tie.Need-array-read-of-words-3
 array-read-of-words-3 c = search needs
 
--- src/handling.rt:100:9
 of-words-requires : tie.Need-of-words-requires
 of-words-requires c κs = search needs
 
--- src/handling.rt:101:52
 array-read-release : tie.Need-array-read-release
 array-read-release c = search needs
 
--- src/handling.rt:101:5
 release-requires : tie.Need-release-requires
 release-requires c κs =
     let a = c .before .before .before .before .args in
     let p = c .before .before .before .before .pre in
     (p .0, release-clock (a .t5) (p .1))
 
--- src/handling.rt:90:1
 same-length : tie.Need-same-length
 same-length c = search needs
 
--- src/handling.rt:90:1
 same-length-2 : tie.Need-same-length-2
 same-length-2 c = search needs
 
--- src/handling.rt:90:1
 same-length-3 : tie.Need-same-length-3
 same-length-3 c = search needs
 
--- src/handling.rt:90:1
 returns : tie.Need-returns
 returns c =
     let a = c .before .before .before .before .before .before .before .before .args in
     let p = c .before .before .before .before .before .before .before .before .pre in
     let k = c .before .before .before .release in
-    performs-as (releasing (idOf (a .t5)) (at 3 (a .t5))) (a .d) (k .result) (now (a .subs)) (now (a .rows)) (now (a .events)) (k .last .0) (k .last .1 .0) (k .last .1 .1 .0) (decode 8 (a .t5)) (releasing (c .before .before .before .before .before .before .before .of-words .result) (at 3 (a .t5)))
+    performs-as (releasing (idOf (a .t5)) (at 3 (a .t5))) (a .d) (k .result) (now (a .subs)) (now (a .rows)) (now (a .events)) (k .last .0) (k .last .1 .0) (k .last .1 .1 .0) (decode 15 (a .t5)) (releasing (c .before .before .before .before .before .before .before .of-words .result) (at 3 (a .t5)))
     (ap (λ (i : Id). releasing i (at 3 (a .t5))) (c .before .before .before .before .before .before .before .of-words .ensures)) (release-decoded (a .t5) (p .1) .call) (k .ensures)
 
 pub release-spec : {M : Type 1} → statement M

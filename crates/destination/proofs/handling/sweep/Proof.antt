@@ -17,30 +17,24 @@ use borrow.Author.Needs.{needs}
 use Rattle.destination.proofs.handling.sweep.Statement.{statement}
 use Rattle.destination.proofs.handling.sweep.Tie as tie
 
--- src/handling.rt:115:16
 array-read-most : tie.Need-array-read-most
 array-read-most c = search needs
 
--- src/handling.rt:116:52
 array-read-sweep : tie.Need-array-read-sweep
 array-read-sweep c = search needs
 
--- src/handling.rt:116:5
 sweep-requires : tie.Need-sweep-requires
 sweep-requires c κs =
     let a = c .before .before .args in
     let p = c .before .before .pre in
     (p .0, sweep-clock (a .t5) (p .1), sweep-most (a .t5) (p .1))
 
--- src/handling.rt:105:1
 same-length : tie.Need-same-length
 same-length c = search needs
 
--- src/handling.rt:105:1
 same-length-2 : tie.Need-same-length-2
 same-length-2 c = search needs
 
--- src/handling.rt:105:1
 returns : tie.Need-returns
 returns c =
     let a = c .before .before .before .before .before .args in

@@ -7,43 +7,33 @@ use borrow.Author.Needs.{needs}
 use Rattle.destination.proofs.perform.perform_head.Statement.{statement}
 use Rattle.destination.proofs.perform.perform_head.Tie as tie
 
--- src/perform.rt:54:9
 id-of-requires : tie.Need-id-of-requires
 id-of-requires c κs = search needs
 
--- src/perform.rt:56:31
 add-producer-requires : tie.Need-add-producer-requires
 add-producer-requires c κs = search needs
 
--- src/perform.rt:57:74
 array-read-remove-producer : tie.Need-array-read-remove-producer
 array-read-remove-producer c = search needs
 
--- src/perform.rt:57:34
 remove-producer-requires : tie.Need-remove-producer-requires
 remove-producer-requires c κs = search needs
 
--- src/perform.rt:58:65
 array-read-is-duplicate : tie.Need-array-read-is-duplicate
 array-read-is-duplicate c = search needs
 
--- src/perform.rt:58:28
 is-duplicate-requires : tie.Need-is-duplicate-requires
 is-duplicate-requires c κs = search needs
 
--- src/perform.rt:59:49
 array-read-release-audits : tie.Need-array-read-release-audits
 array-read-release-audits c = search needs
 
--- src/perform.rt:59:14
 release-audits-requires : tie.Need-release-audits-requires
 release-audits-requires c κs = search needs
 
--- src/perform.rt:48:1
 same-length : tie.Need-same-length
 same-length c = search needs
 
--- src/perform.rt:48:1
 returns : tie.Need-returns
 returns c =
     let a = c .before .before .before .before .before .before .before .before .args in
@@ -53,11 +43,9 @@ returns c =
     head-code (a .c .code) 11 (a .c .words) (a .d) (now (a .head)) (k .result) (k .last .0) e
     (add-head (a .c .words) (a .d) (now (a .head)) (k .result) (k .last .0) (p .0) (known-code (a .c .code) 11 (a .c .words) e (p .1)) (c .before .before .before .before .before .id-of .result) (c .before .before .before .before .before .id-of .ensures) (k .ensures))
 
--- src/perform.rt:48:1
 same-length-2 : tie.Need-same-length-2
 same-length-2 c = search needs
 
--- src/perform.rt:48:1
 returns-2 : tie.Need-returns-2
 returns-2 c =
     let a = c .before .before .before .before .before .before .before .before .args in
@@ -67,11 +55,9 @@ returns-2 c =
     head-code (a .c .code) 12 (a .c .words) (a .d) (now (a .head)) (k .result) (k .last .0) e
     (remove-head (a .c .words) (a .d) (now (a .head)) (k .result) (k .last .0) (p .0) (known-code (a .c .code) 12 (a .c .words) e (p .1)) (c .before .before .before .before .before .id-of .result) (c .before .before .before .before .before .id-of .ensures) (k .ensures))
 
--- src/perform.rt:48:1
 same-length-3 : tie.Need-same-length-3
 same-length-3 c = search needs
 
--- src/perform.rt:48:1
 returns-3 : tie.Need-returns-3
 returns-3 c =
     let a = c .before .before .before .before .before .before .before .before .args in
@@ -81,11 +67,9 @@ returns-3 c =
     head-code (a .c .code) 13 (a .c .words) (a .d) (now (a .head)) (k .result) (k .last .0) e
     (test-head (a .c .words) (a .d) (now (a .head)) (k .result) (k .last .0) (p .0) (known-code (a .c .code) 13 (a .c .words) e (p .1)) (c .before .before .before .before .before .id-of .result) (c .before .before .before .before .before .id-of .ensures) (k .ensures))
 
--- src/perform.rt:48:1
 same-length-4 : tie.Need-same-length-4
 same-length-4 c = search needs
 
--- src/perform.rt:48:1
 returns-4 : tie.Need-returns-4
 returns-4 c =
     let a = c .before .before .before .before .before .before .before .before .args in
