@@ -1,0 +1,4 @@
+pub mod Layouts
+pub mod Claims
+pub mod Steps
+pub mod Cases

@@ -1,0 +1,4 @@
+pub mod Lines
+pub mod Covers
+pub mod Saying
+pub mod Theorems

@@ -1,0 +1,36 @@
+-- `layouttext::put_accepted` meets its contract. Assumes nothing.
+use Rattle.callfile.proofs.Parts.{then}
+use Rattle.layouttext.specs.Messages.{acceptedText}
+use native.Mathlib.Omega.{arith}
+use borrow.Author.Needs.{needs}
+use Rattle.layouttext.proofs.put_accepted.Statement.{statement}
+use Rattle.layouttext.proofs.put_accepted.Tie as tie
+
+slice-aggregate-put-named : tie.Need-slice-aggregate-put-named
+slice-aggregate-put-named c = search needs
+
+put-named-requires : tie.Need-put-named-requires
+put-named-requires c κs = search needs
+
+put-requires : tie.Need-put-requires
+put-requires c κs = search needs
+
+same-length : tie.Need-same-length
+same-length c = search needs
+
+returns : tie.Need-returns
+unfolding acceptedText
+returns c =
+    let p = c .before .before .before .before .before .before .put-named .ensures in
+    let r = c .before .before .put .ensures in
+    (then (p .0) r, omega (arith, p .1, r .next))
+
+pub put-accepted-spec : {M : Type 1} → statement M
+put-accepted-spec =
+    tie.close
+    (tie.spec
+    slice-aggregate-put-named
+    put-named-requires
+    put-requires
+    same-length
+    returns)

@@ -1,0 +1,20 @@
+-- `layouttext::verdict` meets its contract. Assumes nothing.
+use Rattle.texting.proofs.Showing.{in-front, too-short}
+use borrow.Author.Needs.{needs}
+use Rattle.layouttext.proofs.verdict.Statement.{statement}
+use Rattle.layouttext.proofs.verdict.Tie as tie
+
+returns : tie.Need-returns
+returns c = too-short 512 _ (c .before .before .before .args .out .now) (c .if1 .taken)
+
+put-verdict-requires : tie.Need-put-verdict-requires
+put-verdict-requires c κs = search needs
+
+same-length : tie.Need-same-length
+same-length c = search needs
+
+returns-2 : tie.Need-returns-2
+returns-2 c = in-front 512 (c .before .before .before .before .if1 .left) (c .before .before .put-verdict .ensures)
+
+pub verdict-spec : {M : Type 1} → statement M
+verdict-spec = tie.close (tie.spec returns put-verdict-requires same-length returns-2)
