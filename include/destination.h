@@ -11,7 +11,7 @@
  *
  * The buffers. A state is three arrays of 64-bit words, and beside them there is a list for the events of one call:
  *
- *     head    8,345 words             the destination's own numbers, producers, duplicate windows
+ *     head    8,346 words             the destination's own numbers, producers, duplicate windows
  *     subs       32 of 16 words       a consumer each
  *     rows      512 of  9 words       a copy of an entry each
  *     events    545 of  6 words       what the call has sent, from the first on
@@ -49,7 +49,7 @@ extern "C" {
 
 /* ---- limits */
 
-#define DESTINATION_HEAD_WORDS 8345 /* destination_head_words() says the same */
+#define DESTINATION_HEAD_WORDS 8346 /* destination_head_words() says the same */
 #define DESTINATION_CONSUMERS 32    /* destination_consumers() */
 #define DESTINATION_ROWS 512        /* destination_rows() */
 #define DESTINATION_EVENTS 545      /* destination_events() */
@@ -67,6 +67,7 @@ extern "C" {
 #define DESTINATION_SEQUENCE_MOST (UINT64_MAX >> 1)      /* a sequence number is 1 to this, 2^63 - 1 */
 #define DESTINATION_TOPIC_LIMIT_MOST 512                 /* a topic limit is 0 (off) to this */
 #define DESTINATION_SWEEP_MOST 512                       /* a sweep's maximum is 0 to this */
+#define DESTINATION_ALLOWANCE_MOST 86400000              /* an allowance for slow clocks is 0 to this: a day of milliseconds */
 
 /* ---- refusals, in the order in which they are tested (a join tests 6, 7, 5) */
 
@@ -139,13 +140,14 @@ extern "C" {
 #define DESTINATION_MESSAGE 2     /* send an entry to a consumer: 2, connection, session, value, sequence, redelivery */
 #define DESTINATION_NULL 3        /* send a consumer an empty message: 3, connection, session, value, 0, 0 */
 
-/* head: the words that say how many calls are left */
+/* head: the words that say how many calls are left, and the allowance */
 #define DESTINATION_HEAD_CALL_LIMIT 2
 #define DESTINATION_HEAD_CALLS_USED 3
+#define DESTINATION_HEAD_ALLOWANCE 8345
 
 /* ---- structs */
 
-/* A state and an event list. 133,880 bytes: better not on a small stack. */
+/* A state and an event list. 133,888 bytes: better not on a small stack. */
 struct destination {
     uint64_t head[DESTINATION_HEAD_WORDS];
     uint64_t subs[DESTINATION_CONSUMERS][DESTINATION_SUB_WORDS];
@@ -156,7 +158,7 @@ struct destination {
 /* A call: its code and its eight words, the unused ones 0. Signed numbers are two's complement: (uint64_t)number. 72 bytes.
  * `id` stands for three words: connection, session, value.
  *
- *      0 open              kind, topic limit, call limit, clock
+ *      0 open              kind, topic limit, call limit, clock, allowance
  *      1 enqueue           sequence, expiration, persistent (0 or 1), producer's connection, match word, redelivery, clock
  *      2 join              id, prefetch, selector, flags, clock
  *      3 leave             id, last delivered, clock
@@ -231,7 +233,7 @@ struct destination_id {
 /* An entry, as it is enqueued. */
 struct destination_entry {
     uint64_t sequence;   /* 1 to 2^63 - 1; lower ones go first */
-    int64_t expiration;  /* the clock from which on it is expired; 0 or less: never */
+    int64_t expiration;  /* the clock from which on it is expired, later by the destination's allowance; 0 or less: never */
     bool persistent;     /* a rejected entry becomes a dead letter only if it is */
     uint64_t producer;   /* its producer's connection; 0: none */
     uint64_t match_word; /* bit s says whether selector s accepts it */
@@ -350,9 +352,9 @@ static inline struct destination_request destination_request_id(uint64_t code, s
 }
 
 static inline struct destination_request destination_request_open(uint64_t kind, uint64_t topic_limit, uint64_t call_limit,
-                                                                  uint64_t clock)
+                                                                  uint64_t clock, uint64_t allowance)
 {
-    struct destination_request r = {DESTINATION_OPEN, {kind, topic_limit, call_limit, clock, 0, 0, 0, 0}};
+    struct destination_request r = {DESTINATION_OPEN, {kind, topic_limit, call_limit, clock, allowance, 0, 0, 0}};
     return r;
 }
 
@@ -458,11 +460,12 @@ static inline struct destination_outcome destination_do(struct destination *d, s
                             d->events, DESTINATION_EVENTS, request);
 }
 
-/* Starts an empty queue or topic, whatever d held. call_limit: how many calls it will accept. */
+/* Starts an empty queue or topic, whatever d held. call_limit: how many calls it will accept. allowance: by so much later than its
+ * expiration an entry expires; 0 for none. */
 static inline struct destination_outcome destination_open(struct destination *d, uint64_t kind, uint64_t topic_limit,
-                                                          uint64_t call_limit, uint64_t clock)
+                                                          uint64_t call_limit, uint64_t clock, uint64_t allowance)
 {
-    return destination_do(d, destination_request_open(kind, topic_limit, call_limit, clock));
+    return destination_do(d, destination_request_open(kind, topic_limit, call_limit, clock, allowance));
 }
 
 /* Stores an entry, and sends what can be sent. */

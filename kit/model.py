@@ -72,6 +72,7 @@ class Dest:
     topic_limit: int = 0
     call_limit: int = 0
     calls_used: int = 0
+    allowance: int = 0
     pending: tuple = ()
     subs: tuple = ()
     rr: int = 0
@@ -385,8 +386,14 @@ def dispatch_topic(now, t):
     return events
 
 
+def due(now, t):
+    """The clock that entries expire by."""
+    return max(0, now - t.allowance)
+
+
 def dispatch(now, t):
-    return dispatch_queue(now, t) if pick("dispatchBy", t.kind == "queue", "queue", "topic") else dispatch_topic(now, t)
+    by = due(now, t)
+    return dispatch_queue(by, t) if pick("dispatchBy", t.kind == "queue", "queue", "topic") else dispatch_topic(by, t)
 
 
 def touch_idle(now, t):
@@ -416,9 +423,9 @@ def enqueue(now, e, t):
         t.subs = tuple(hold_back(e.seq, s) for s in t.subs)
         t.pending = insert(e, t.pending)
         t.idle = None
-        return dispatch_queue(now, t)
+        return dispatch_queue(due(now, t), t)
     t.subs = tuple([fan_out(t.topic_limit, e, s, t) for s in each("fanOutAll", t.subs)])
-    return dispatch_topic(now, t)
+    return dispatch_topic(due(now, t), t)
 
 
 def room(prefetch):
@@ -428,7 +435,7 @@ def room(prefetch):
 def add_sub(now, p, t):
     s = Sub(p["id"], room(p["prefetch"]), p["selector"], p["no_local"], None)
     if pick("joined", p["browser"], "browser", "no browser"):
-        live = tuple(e for e in t.pending if not expired(now, e))
+        live = tuple(e for e in t.pending if not expired(due(now, t), e))
         t.count("expired", len(t.pending) - len(live))
         t.pending = live
         s = replace(s, browser=tuple(e for e in live if selects(e.match_word, s.selector)))
@@ -451,7 +458,7 @@ def hold_back_all(entries, s):
 
 
 def reinsert(now, entries, t):
-    live = [e for e in entries if not expired(now, e)]
+    live = [e for e in entries if not expired(due(now, t), e)]
     pick("reinsert", len(live) < len(entries), "some have expired", "all live")
     t.count("expired", len(entries) - len(live))
     for e in each("insertAll", live):
@@ -627,10 +634,10 @@ def sweep_list(budget, now, entries):
 
 
 def sweep_expired(now, most, t):
-    t.pending, gone = sweep_list(most, now, t.pending)
+    t.pending, gone = sweep_list(most, due(now, t), t.pending)
     swept = []
     for s in each("sweepSubs", t.subs):
-        left, more = sweep_list(most - gone, now, s.tpending)
+        left, more = sweep_list(most - gone, due(now, t), s.tpending)
         gone += more
         swept.append(replace(s, tpending=left))
     t.subs = tuple(swept)
@@ -777,6 +784,7 @@ def sound(t):
         and (t.rr < len(t.subs) or t.rr == 0)
         and max(t.stats.values()) <= most
         and optional(clock_ok, t.idle)
+        and t.allowance <= 86400000
         and len(t.audits) <= 8
         and all(len(order) <= 1024 for _, order in t.audits)
     )
@@ -789,7 +797,7 @@ def rows_for(e, t):
 def snapshot_rows(now, p, t):
     if not pick("snapshotRows", p["browser"], "browser", "no browser"):
         return 0
-    return sum(not expired(now, e) and selects(e.match_word, p["selector"]) for e in t.pending)
+    return sum(not expired(due(now, t), e) and selects(e.match_word, p["selector"]) for e in t.pending)
 
 
 def own_refusal(code, ws, t):
@@ -903,14 +911,14 @@ def decode(code, ws):
 
 
 def open_words(ws):
-    return ws[0] <= 1 and ws[1] <= 512 and 1 <= ws[2] <= 1 << 40 and clock_ok(ws[3]) and unused_from(4, ws)
+    return ws[0] <= 1 and ws[1] <= 512 and 1 <= ws[2] <= 1 << 40 and clock_ok(ws[3]) and ws[4] <= 86400000 and unused_from(5, ws)
 
 
 def open_step(ws, t):
     if not pick("openStep", open_words(ws), "opened", "3"):
         return 3, 0, [], t
     kind = "queue" if pick("kindBy", ws[0] == 0, "true", "false") else "topic"
-    return 0, 0, [], Dest(kind=kind, topic_limit=ws[1], call_limit=ws[2], idle=ws[3])
+    return 0, 0, [], Dest(kind=kind, topic_limit=ws[1], call_limit=ws[2], idle=ws[3], allowance=ws[4])
 
 
 def refusal(code, ws, t):

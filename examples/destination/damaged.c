@@ -76,8 +76,9 @@ static uint64_t odd_number(void)
 {
     static const uint64_t ends[] = {0, 1, 2, 3, 4, 8, 9, 32, 33, 64, 65, 512, 513, 1023, 1024, 1025, 4095, 4096, INT32_MAX,
                                     UINT64_C(1) << 31, (uint64_t)INT32_MIN, (uint64_t)INT32_MIN - 1, DESTINATION_CALL_LIMIT_MOST,
-                                    DESTINATION_CALL_LIMIT_MOST + 1, DESTINATION_CLOCK_MOST, DESTINATION_CLOCK_MOST + 1,
-                                    DESTINATION_SEQUENCE_MOST, DESTINATION_SEQUENCE_MOST + 1};
+                                    DESTINATION_CALL_LIMIT_MOST + 1, DESTINATION_ALLOWANCE_MOST, DESTINATION_ALLOWANCE_MOST + 1,
+                                    DESTINATION_CLOCK_MOST, DESTINATION_CLOCK_MOST + 1, DESTINATION_SEQUENCE_MOST,
+                                    DESTINATION_SEQUENCE_MOST + 1};
     switch (below(8)) {
     case 0:
         return any();
@@ -288,7 +289,8 @@ static struct destination_request new_world(void)
     for (uint64_t i = 1; i < 16; i++)
         world.total += world.weights[i];
     uint64_t calls = one_in(5) ? 1 + below(1 + world.left) : DESTINATION_CALL_LIMIT_MOST;
-    struct destination_request r = {0, {world.kind, one_in(2) ? 0 : 1 + below(20), calls, world.clock}};
+    uint64_t allowance = one_in(2) ? 0 : one_in(4) ? DESTINATION_ALLOWANCE_MOST : below(60);
+    struct destination_request r = {0, {world.kind, one_in(2) ? 0 : 1 + below(20), calls, world.clock, allowance}};
     return r;
 }
 
@@ -302,7 +304,7 @@ static uint64_t *some_word(struct buffers *b)
     case 0:
     case 1:
     case 2:
-        return &b->head[below(17)];
+        return &b->head[one_in(18) ? DESTINATION_HEAD_ALLOWANCE : below(17)];
     case 3:
         return &b->head[17 + below(96)];
     case 4:
@@ -348,7 +350,7 @@ static void put(uint64_t *w, uint64_t word)
 static void damage_pair(void)
 {
     uint64_t *audit = work.head + 113 + 1029 * below(8), *c = work.subs[below(clean.head[12] + 1) % DESTINATION_CONSUMERS];
-    switch (below(4)) {
+    switch (below(5)) {
     case 0:
         put(&audit[3], below(2) * (1023 + below(3)));
         put(&audit[4], 1023 + below(3));
@@ -360,6 +362,10 @@ static void damage_pair(void)
     case 2:
         put(&work.head[5], below(2));
         put(&work.head[6], DESTINATION_CLOCK_MOST + below(2));
+        break;
+    case 3:
+        put(&work.head[DESTINATION_HEAD_ALLOWANCE], DESTINATION_ALLOWANCE_MOST + below(2));
+        put(&work.head[2], clean.head[3] + 1 + below(2));
         break;
     default:
         put(&work.head[2], clean.head[3] + below(2));

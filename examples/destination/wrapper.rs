@@ -205,8 +205,8 @@ impl Request {
         Request::new(code, &words)
     }
 
-    pub fn open(kind: Kind, topic_limit: u64, call_limit: u64, clock: u64) -> Request {
-        Request::new(0, &[(kind == Kind::Topic) as u64, topic_limit, call_limit, clock])
+    pub fn open(kind: Kind, topic_limit: u64, call_limit: u64, clock: u64, allowance: u64) -> Request {
+        Request::new(0, &[(kind == Kind::Topic) as u64, topic_limit, call_limit, clock, allowance])
     }
 
     pub fn enqueue(e: Entry, clock: u64) -> Request {
@@ -436,8 +436,9 @@ impl Destination {
         self.done(outcome)
     }
 
-    pub fn open(&mut self, kind: Kind, topic_limit: u64, call_limit: u64, clock: u64) -> Called<'_> {
-        self.call(Request::open(kind, topic_limit, call_limit, clock))
+    /// `allowance`: by so many milliseconds later than its expiration an entry expires.
+    pub fn open(&mut self, kind: Kind, topic_limit: u64, call_limit: u64, clock: u64, allowance: u64) -> Called<'_> {
+        self.call(Request::open(kind, topic_limit, call_limit, clock, allowance))
     }
 
     pub fn enqueue(&mut self, e: Entry, clock: u64) -> Called<'_> {
@@ -664,8 +665,8 @@ mod tests {
     #[test]
     fn words() {
         let d = &mut Destination::new();
-        same(d, |d| d.open(Kind::Topic, 2, 30, 4), 0, &[1, 2, 30, 4]);
-        same(d, |d| d.open(Kind::Queue, 0, 100, 4), 0, &[0, 0, 100, 4]);
+        same(d, |d| d.open(Kind::Topic, 2, 30, 4, 5), 0, &[1, 2, 30, 4, 5]);
+        same(d, |d| d.open(Kind::Queue, 0, 100, 4, 0), 0, &[0, 0, 100, 4]);
         same(d, |d| d.enqueue(ENTRY, 40), 1, &[41, M1, 1, 42, 43, M1 - 1, 40]);
         same(d, |d| d.join(BROWSER, 40), 2, &[8, 1, 2, 5, 5, 3, 40]);
         same(d, |d| d.join(PULLER, 40), 2, &[7, M1 - 1, M1 - 2, M1, 64, 0, 40]);
@@ -691,7 +692,7 @@ mod tests {
     fn many() {
         let requests = [
             Request::clear(),
-            Request::open(Kind::Queue, 0, 100, 0),
+            Request::open(Kind::Queue, 0, 100, 0, 0),
             Request::enqueue(ENTRY, 1),
             Request::enqueue(ENTRY, 1),
             Request::join(Consumer { prefetch: 3, ..PULLER }, 2),
@@ -717,9 +718,9 @@ mod tests {
         assert_eq!(d.is_queue(), Err(Refusal::NotSound));
         assert_eq!(d.counters(), Err(Refusal::NotSound));
         assert_eq!(d.page(0, 1), Err(Refusal::NotSound));
-        d.open(Kind::Topic, 0, 100, 0).expect("accepted");
+        d.open(Kind::Topic, 0, 100, 0, 0).expect("accepted");
         assert_eq!((d.is_queue(), d.has_consumers(), d.has_expiring()), (Ok(false), Ok(false), Ok(false)));
-        d.open(Kind::Queue, 0, 100, 5000).expect("accepted");
+        d.open(Kind::Queue, 0, 100, 5000, 0).expect("accepted");
         assert_eq!((d.idle_for(8000, 3), d.idle_for(7999, 3), d.idle_for(u64::MAX, 3)), (Ok(true), Ok(false), Err(Refusal::Arguments)));
         d.add_discarded().expect("accepted");
         d.expired_before_storing().expect("accepted");

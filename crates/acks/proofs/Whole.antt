@@ -71,6 +71,7 @@ module _ (subs rows events : List Row) (d : Head) (fits : Fits subs d (length ro
         producers = refl;
         audits = refl;
         queue = refl;
+        allowance = refl;
         consumers = fits .consumers;
         used = fits .used;
         rows-used = fits .rows-used;
@@ -259,6 +260,7 @@ module _ (subs rows events : List Row) (d : Head) (fits : Fits subs d (length ro
               kind = k;
               topicLimit = d .«topic_limit»;
               callLimit = d .«call_limit»;
+              allowance = d .allowance;
               callsUsed = d .«calls_used»;
               pending = map entryOf (waits j);
               subs = mine j;
@@ -298,6 +300,7 @@ module _ (subs rows events : List Row) (d : Head) (fits : Fits subs d (length ro
                 producers = same (λ (x : Head). x .producers);
                 audits = same (λ (x : Head). x .audits);
                 queue = same (λ (x : Head). x .queue);
+                allowance = same (λ (x : Head). x .allowance);
                 consumers = omega (arith, fits .consumers);
                 used = omega (arith, fits .used);
                 rows-used = omega (arith, fits .rows-used);

@@ -381,6 +381,7 @@ module _ (now : ℕ) (subs₀ rows₀ events₀ : List Row) (d₀ : Head) (fits 
             kind = kindBy (d₀ .queue);
             topicLimit = d₀ .«topic_limit»;
             callLimit = d₀ .«call_limit»;
+            allowance = d₀ .allowance;
             callsUsed = d₀ .«calls_used»;
             pending = waits j;
             subs = mine j;
@@ -416,6 +417,7 @@ module _ (now : ℕ) (subs₀ rows₀ events₀ : List Row) (d₀ : Head) (fits 
               producers = same (λ (y : Head). y .producers);
               audits = same (λ (y : Head). y .audits);
               queue = same (λ (y : Head). y .queue);
+              allowance = same (λ (y : Head). y .allowance);
               consumers = omega (arith, n, fits .consumers);
               used = omega (arith, r .used, fits .used);
               rows-used = rw e (omega arith);

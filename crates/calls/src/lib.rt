@@ -11,8 +11,10 @@ ghost use Rattle.calls.specs.Ranges.{enqueues, joins, acks, timed, prefe
 use entry::Entry;
 use model::Id;
 
-// No call limit is above 2^40, no sequence number above 2^63 - 1.
+// No call limit is above 2^40, no allowance above a day, no sequence number above 2^63 - 1.
 const CALLS_MOST: u64 = 1099511627776;
+
+const ALLOWANCE_MOST: u64 = 86400000;
 
 const SEQ_END: u64 = 9223372036854775808;
 
@@ -67,7 +69,8 @@ impl Call {
     {
         let w = self.words;
         let limits = (w[1] <= 512) & (1 <= w[2]) & (w[2] <= CALLS_MOST);
-        (w[0] <= 1) & limits & (w[3] <= entry::CLOCK_MOST) & unused(w, 4)
+        let times = (w[3] <= entry::CLOCK_MOST) & (w[4] <= ALLOWANCE_MOST);
+        (w[0] <= 1) & limits & times & unused(w, 5)
     }
 
     // Whether the code is one of 1 to 15, and the words are its arguments: in range, and the unused ones 0.

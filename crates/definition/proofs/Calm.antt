@@ -12,7 +12,7 @@ use lib.Signed.{ltZ}
 use Rattle.definition.specs.Base.{if_then_else_, keep, find, put, nth, empty}
 use Rattle.definition.specs.Types.{Kind, queue, topic, Id, Entry, Inflight, Sub, Audit, Dest, withPrefetch, withCursor, withTpending, withPending, withSubs, withReserved}
 use Rattle.definition.specs.Consumer.{expired, addExpired, isBrowser, snapshot, hasCredit, send, sendNull, redelivered, ackSub, atRest, dispatchBrowser}
-use Rattle.definition.specs.Destination.{ackAt, pullAt, removeAt, sweepAt, testAt, timeoutAt, visitAt, Out, Look, look, given, visit, scan, turns, rounds, Browsed, browsers, dispatchQueue, serveAll, dispatchTopic, dispatchBy, dispatch, touchIdle, count, isId, subOf, putSub, room, setPrefetch, ack, pulled, pull, pullTimeout, fired, resumed, fanOutAll, stored, fannedOut, enqueueBy, Spec, addSub, holdBackAll, reinsert, heldBy, reservedOf, ackReserved, returning, dropSub, removeSub, noTx, unmarked, returnReserved, Swept, sweepList, SweptSubs, sweepSubs, sweepExpired, cleared, clear, auditOf, isDuplicate}
+use Rattle.definition.specs.Destination.{ackAt, pullAt, removeAt, sweepAt, testAt, timeoutAt, visitAt, Out, Look, look, given, visit, scan, turns, rounds, Browsed, browsers, dispatchQueue, serveAll, dispatchTopic, dispatchBy, dispatch, touchIdle, count, isId, subOf, putSub, room, setPrefetch, ack, pulled, pull, pullTimeout, fired, resumed, fanOutAll, stored, fannedOut, enqueueBy, Spec, addSub, holdBackAll, reinsert, heldBy, reservedOf, ackReserved, returning, dropSub, removeSub, noTx, unmarked, returnReserved, Swept, sweepList, SweptSubs, sweepSubs, sweepExpired, cleared, clear, auditOf, isDuplicate, due}
 use Rattle.audit.specs.Audit.{seen}
 use Rattle.definition.proofs.Tests.{or-no-left, by-if, by-test}
 use Rattle.definition.proofs.Lists.{All, all-put, all-find, length-map}
@@ -175,12 +175,12 @@ module _ (b : Bool) where
 
   enqueue-calm : (k : Kind) (now : ℕ) (e : Entry) (t : Dest) → t .kind ≡ k → Calm b t → Calm b (enqueueBy now e t k .dest)
   unfolding enqueueBy dispatchBy
-  enqueue-calm topic now e t q h = calm-after topic now (fannedOut e t) q (λ c. h .idle (sym (fanOutAll-empty (t .topicLimit) e (t .subs)) ∙ c))
-  enqueue-calm queue now e t q h = calm-after queue now (stored e t) q (λ c. refl)
+  enqueue-calm topic now e t q h = calm-after topic _ (fannedOut e t) q (λ c. h .idle (sym (fanOutAll-empty (t .topicLimit) e (t .subs)) ∙ c))
+  enqueue-calm queue now e t q h = calm-after queue _ (stored e t) q (λ c. refl)
 
   join-calm : (now : ℕ) (p : Spec) (t : Dest) → Calm b (addSub now p t .dest)
   unfolding addSub
-  join-calm now p t = calm-after _ now _ refl (λ q. refl)
+  join-calm now p t = calm-after _ _ _ refl (λ q. refl)
 
   put-empty : (p : Sub → Bool) (v : Sub) (l : List Sub) → empty (put p v l) ≡ empty l
   put-empty p v [] = refl
@@ -206,7 +206,7 @@ module _ (b : Bool) where
   put-calm i v t h r = record { subs = λ l. all-put (Rests (t .kind)) (isId i) (t .subs) v (h .subs l) (r l); idle = λ q. h .idle (sym (put-empty (isId i) v (t .subs)) ∙ q) }
 
   put-after : (now : ℕ) (i : Id) (v : Sub) (t : Dest) → Calm b t → Calm b (dispatch now (putSub i v t) .dest)
-  put-after now i v t h = calm-after (t .kind) now (putSub i v t) refl (λ q. h .idle (sym (put-empty (isId i) v (t .subs)) ∙ q))
+  put-after now i v t h = calm-after (t .kind) _ (putSub i v t) refl (λ q. h .idle (sym (put-empty (isId i) v (t .subs)) ∙ q))
 
   fired-calm : (i : Id) (generation : ℕ) (s : Sub) (t : Dest) (o : Option ℕ) → Calm b t → ((t .kind ≡ queue → b ≡ false) → Rests (t .kind) s) → Calm b (fired i generation s t o .dest)
   unfolding fired
@@ -231,8 +231,8 @@ module _ (b : Bool) where
     where
       go : (o : Option Sub) → subOf i t ≡ o → Calm b (ask i t (acknowledge a now) .dest)
       go none e = rw e (by-if (λ (r : Out). Calm b (r .dest)) (a .transacted || empty (reservedOf i t)) _ _ (λ c. h)
-          (λ c. calm-after _ now (touchIdle now (ackReserved i a t (a .last) .dest)) refl (touch-idle now (ackReserved i a t (a .last) .dest))))
-      go (some s) e = rw e (calm-after _ now (touchIdle now (count (ackSub a s .counts) (putSub i (ackSub a s .sub) t))) refl (touch-idle now (count (ackSub a s .counts) (putSub i (ackSub a s .sub) t))))
+          (λ c. calm-after _ _ (touchIdle now (ackReserved i a t (a .last) .dest)) refl (touch-idle now (ackReserved i a t (a .last) .dest))))
+      go (some s) e = rw e (calm-after _ _ (touchIdle now (count (ackSub a s .counts) (putSub i (ackSub a s .sub) t))) refl (touch-idle now (count (ackSub a s .counts) (putSub i (ackSub a s .sub) t))))
   ask-calm i (pulling timeout now) t h = go (subOf i t) refl
     where
       go : (o : Option Sub) → subOf i t ≡ o → Calm b (ask i t (pulling timeout now) .dest)
@@ -247,7 +247,7 @@ module _ (b : Bool) where
   ask-calm i (prefetching p now) t h = go (subOf i t) refl
     where
       go : (o : Option Sub) → subOf i t ≡ o → Calm b (ask i t (prefetching p now) .dest)
-      go none e = rw e (calm-after _ now t refl (h .idle))
+      go none e = rw e (calm-after _ _ t refl (h .idle))
       go (some s) e = rw e (put-after now i (withPrefetch (room p) s) t h)
 
   -- leaving
@@ -257,7 +257,7 @@ module _ (b : Bool) where
     where
       go : (o : Option Sub) → subOf i t ≡ o → Calm b (removeSub now i last t .dest)
       go none e = rw e h
-      go (some s) e = rw e (calm-after _ now (touchIdle now (returning now s last (dropSub i t) (t .kind))) refl (touch-idle now (returning now s last (dropSub i t) (t .kind))))
+      go (some s) e = rw e (calm-after _ _ (touchIdle now (returning now s last (dropSub i t) (t .kind))) refl (touch-idle now (returning now s last (dropSub i t) (t .kind))))
 
   -- consumers changed one by one
   map-calm : (f : Sub → Sub) (t : Dest) → ((s : Sub) → Rests (t .kind) s → Rests (t .kind) (f s)) → Calm b t → Calm b (withSubs (map f (t .subs)) t)
@@ -289,7 +289,7 @@ module _ (b : Bool) where
   unfolding reinsert
   reinsert-idle now l t h = λ q. h (sym (same-empty (t .subs)) ∙ q)
     where
-      same-empty : (m : List Sub) → empty (map (holdBackAll (keep (λ e. not (expired (pos now) e)) l)) m) ≡ empty m
+      same-empty : (m : List Sub) → empty (map (holdBackAll (keep (λ e. not (expired (pos (due now t)) e)) l)) m) ≡ empty m
       same-empty [] = refl
       same-empty (s ∷ m) = refl
 
@@ -297,7 +297,7 @@ module _ (b : Bool) where
   unfolding returnReserved
   release-calm now i t h = by-test (empty (reservedOf i t))
       (λ c. rw c h)
-      (λ c. rw c (calm-after _ now (reinsert now (map redelivered (reservedOf i t)) (withReserved (keep (λ h. not (heldBy i h)) (t .reserved)) t)) refl
+      (λ c. rw c (calm-after _ _ (reinsert now (map redelivered (reservedOf i t)) (withReserved (keep (λ h. not (heldBy i h)) (t .reserved)) t)) refl
       (reinsert-idle now (map redelivered (reservedOf i t)) (withReserved (keep (λ h. not (heldBy i h)) (t .reserved)) t) (h .idle))))
 
   -- sweep
@@ -330,20 +330,20 @@ module _ (b : Bool) where
 
   sweep-calm : (now most : ℕ) (t : Dest) → Calm b t → Calm b (sweepExpired now most t .dest)
   unfolding sweepExpired
-  sweep-calm now most t h = by-test (ltb 0 (sweepList most now (t .pending) .gone + sweepSubs (most - sweepList most now (t .pending) .gone) now (t .subs) .gone))
+  sweep-calm now most t h = by-test (ltb 0 (sweepList most (due now t) (t .pending) .gone + sweepSubs (most - sweepList most (due now t) (t .pending) .gone) (due now t) (t .subs) .gone))
       (λ c. rw c (touch-calm now _ swept))
       (λ c. rw c swept)
     where
       w : Swept
-      w = sweepList most now (t .pending)
+      w = sweepList most (due now t) (t .pending)
 
       r : SweptSubs
-      r = sweepSubs (most - w .gone) now (t .subs)
+      r = sweepSubs (most - w .gone) (due now t) (t .subs)
 
       swept : Calm b (count (addExpired (w .gone + r .gone)) (withPending (w .list) (withSubs (r .subs) t)))
       swept = record {
-        subs = λ l. sweepSubs-rests (t .kind) (most - w .gone) now (t .subs) (h .subs l);
-        idle = λ q. h .idle (sym (sweepSubs-empty (most - w .gone) now (t .subs)) ∙ q);
+        subs = λ l. sweepSubs-rests (t .kind) (most - w .gone) (due now t) (t .subs) (h .subs l);
+        idle = λ q. h .idle (sym (sweepSubs-empty (most - w .gone) (due now t) (t .subs)) ∙ q);
       }
 
   duplicate-calm : (i : Id) (q : ℕ) (t : Dest) → Calm b t → Calm b (isDuplicate i q t .dest)
@@ -393,7 +393,7 @@ module _ (b : Bool) where
   call-calm lent c t z h = rw z (let k = perform-calm c t h in record { subs = k .subs; idle = k .idle })
 
 made-calm : (b : Bool) (t : Dest) → Made b t → Calm b t
-made-calm b t (opens k topicLimit callLimit now e) = record { subs = λ l. tt; idle = λ q. absurd (true≢false q) }
+made-calm b t (opens k topicLimit callLimit now allowance e) = record { subs = λ l. tt; idle = λ q. absurd (true≢false q) }
 made-calm b t (calls {b = d} {t = u} lent c r e) = call-calm d lent c u e (made-calm d u r)
 
 -- as accepted calls left it

@@ -92,7 +92,7 @@ abbrev pub renewed : ℕ → Stats → List Sub → List Entry → List Held →
 renewed r c l p h i t = withRr r (withStats c (withSubs l (withPending p (withReserved h (withIdle i t)))))
 
 pub frame-renewed : (L U r : ℕ) (c : Stats) (l : List Sub) (p : List Entry) (h : List Held) (i : Option ℕ) (t : Dest) → Frame L U t → all (λ h. idOk (h .holder)) h ≡ true → optional clockOk i ≡ true → Frame L U (renewed r c l p h i t)
-frame-renewed L U r c l p h i t f a b = record { limit = f .limit; used = f .used; topic-limit = f .topic-limit; few-producers = f .few-producers; producers = f .producers; few-audits = f .few-audits; audits = f .audits; holders = a; mark = b }
+frame-renewed L U r c l p h i t f a b = record { limit = f .limit; used = f .used; topic-limit = f .topic-limit; allowance = f .allowance; few-producers = f .few-producers; producers = f .producers; few-audits = f .few-audits; audits = f .audits; holders = a; mark = b }
 
 pub thin-once : (k : Kind) (t u : Dest) → Once k t → (k ≡ queue → (f : Entry → ℕ) → Tame f → queueSum f u ≤ queueSum f t) → (k ≡ topic → (u .pending ≡ []) × (u .reserved ≡ [])) → Once k u
 thin-once queue t u h q n = λ x. omega (arith, h x, q refl (occ x) (occ-tame x))

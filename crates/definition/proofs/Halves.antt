@@ -11,7 +11,7 @@ use borrow.Author.Tests.{eqb-true}
 use Rattle.definition.specs.Base.{if_then_else_, keep, empty, nth}
 use Rattle.definition.specs.Types.{Kind, queue, topic, Id, Entry, Sub, Dest, withCallsUsed, withPending, withSubs, withReserved}
 use Rattle.definition.specs.Consumer.{isBrowser, hasCredit, redelivered}
-use Rattle.definition.specs.Destination.{Out, Look, look, given, Turn, visitAt, visit, scan, turns, rounds, browsers, dispatchQueue, dispatchTopic, dispatchBy, dispatch, count, reinsert, heldBy, reservedOf, unmarked, returnReserved, releaseReserved}
+use Rattle.definition.specs.Destination.{Out, Look, look, given, Turn, visitAt, visit, scan, turns, rounds, browsers, dispatchQueue, dispatchTopic, dispatchBy, dispatch, count, reinsert, heldBy, reservedOf, unmarked, returnReserved, releaseReserved, due}
 use Rattle.definition.specs.Calls.{Lengths, Call, unmarking, releasing, argumentsOk, perform, refusal, refused, used, Result, call}
 use Rattle.definition.specs.Words.{at, idOf, unusedFrom, provided, read, inRange, decode, callStep, step}
 use Rattle.definition.specs.Claims.{Halves, ReleaseHalves}
@@ -83,7 +83,7 @@ module _ (n : ℕ) where
   unfolding returnReserved releaseReserved reinsert
   return-used now i t =
       let v = reinsert now (map redelivered (reservedOf i t)) (withReserved (keep (λ h. not (heldBy i h)) (t .reserved)) (unmarked i t)) in
-      ap (λ (r : Out). if empty (reservedOf i t) then record { dest = withCallsUsed n (unmarked i t); events = [] } else r) (dispatch-used now v (v .kind))
+      ap (λ (r : Out). if empty (reservedOf i t) then record { dest = withCallsUsed n (unmarked i t); events = [] } else r) (dispatch-used (due now v) v (v .kind))
       ∙ sym (if-map outUsed (empty (reservedOf i t)) (record { dest = unmarked i t; events = [] }) (dispatch now v))
 
 -- ---- the calls

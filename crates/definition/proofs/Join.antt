@@ -12,7 +12,7 @@ use lib.IntN.{pos}
 use Rattle.definition.specs.Base.{keep, tally, all, find, empty, is-some}
 use Rattle.definition.specs.Types.{Kind, queue, topic, Entry, Sub, Dest, withPending, withSubs, withIdle}
 use Rattle.definition.specs.Consumer.{sameId, expired, selects, _⊕_, addExpired, isBrowser, shown}
-use Rattle.definition.specs.Destination.{count, isId, subOf, Spec, room, newSub, joined, addSub}
+use Rattle.definition.specs.Destination.{count, isId, subOf, Spec, room, newSub, joined, addSub, due}
 use Rattle.definition.specs.Calls.{idOk, specOk, within, rowsOf, distinctIds, snapshotRows}
 use Rattle.definition.proofs.Tests.{if-true, if-false, by-if, by-test, and-left, and-right, and-both}
 use Rattle.definition.proofs.Lists.{All}
@@ -92,7 +92,7 @@ module _ (L U : ℕ) (k : Kind) where
       Fine L U k N (withSubs (t .subs ++ v ∷ []) t)
   more-fine N t v g y n d r c = record {
     kind = g .kind;
-    frame = record { limit = g .frame .limit; used = g .frame .used; topic-limit = g .frame .topic-limit; few-producers = g .frame .few-producers; producers = g .frame .producers; few-audits = g .frame .few-audits; audits = g .frame .audits; holders = g .frame .holders; mark = g .frame .mark };
+    frame = record { limit = g .frame .limit; used = g .frame .used; topic-limit = g .frame .topic-limit; allowance = g .frame .allowance; few-producers = g .frame .few-producers; producers = g .frame .producers; few-audits = g .frame .few-audits; audits = g .frame .audits; holders = g .frame .holders; mark = g .frame .mark };
     few-subs = omega (arith, n, length-append (t .subs) (v ∷ []));
     subs = all-more (Sane k N) (t .subs) v (g .subs) y;
     ids = ids-more (t .subs) v (g .ids) d;
@@ -123,7 +123,7 @@ module _ (L U : ℕ) (k : Kind) where
       (λ c. idle-more N (N + 513) _ (omega arith) (more-fine N t (newSub p none) g (new-sane k N p none n h (omega arith) (λ x. omega arith) (λ e. refl)) m d (omega (arith, r, new-rows one p none)) (λ f. new-count f p none)))
     where
       fresh : Entry → Bool
-      fresh e = not (expired (pos now) e)
+      fresh e = not (expired (pos (due now t)) e)
 
       wanted : Entry → Bool
       wanted e = selects (e .«match_word») (p .selector)
@@ -135,7 +135,7 @@ module _ (L U : ℕ) (k : Kind) where
       chosen = keep wanted live
 
       browsed : Dest
-      browsed = count (addExpired (tally (expired (pos now)) (t .pending))) (withPending live t)
+      browsed = count (addExpired (tally (expired (pos (due now t))) (t .pending))) (withPending live t)
 
       idle-more : (M K : ℕ) (u : Dest) → M + 1 ≤ K → Fine L U k M u → Fine L U k K (withIdle none u)
       idle-more M K u e f = fine-more L U k (M + 1) K (withIdle none u) e (idle-fine L U k M u none refl f)
@@ -144,9 +144,9 @@ module _ (L U : ℕ) (k : Kind) where
       few c = omega (arith, r, if-true (tally (λ e. fresh e && wanted e) (t .pending)) 0 c, keep-keep fresh wanted (t .pending))
 
       seen : Fine L U k (N + 512) browsed
-      seen = keep-fine L U k N 512 t (t .stats ⊕ addExpired (tally (expired (pos now)) (t .pending))) live (t .reserved) (t .idle) g (λ f w. omega (arith, sum-keep f fresh (t .pending)))
+      seen = keep-fine L U k N 512 t (t .stats ⊕ addExpired (tally (expired (pos (due now t))) (t .pending))) live (t .reserved) (t .idle) g (λ f w. omega (arith, sum-keep f fresh (t .pending)))
           (λ e. let o = once-topic k t (g .once) e in (ap (keep fresh) (o .0), o .1)) (thin-ascending _ _ (thin-keep fresh (t .pending)) (g .sorted)) (g .frame .holders) (g .frame .mark)
-          (under-plus N 512 (t .stats) (addExpired (tally (expired (pos now)) (t .pending))) (g .counters) (omega (arith, tally-length (expired (pos now)) (t .pending), g .rows, sum-one (t .pending))))
+          (under-plus N 512 (t .stats) (addExpired (tally (expired (pos (due now t))) (t .pending))) (g .counters) (omega (arith, tally-length (expired (pos (due now t))) (t .pending), g .rows, sum-one (t .pending))))
 
   pub join-fine : (N now : ℕ) (p : Spec) (t : Dest) → Fine L U k (N + 513) (joined now p t) → Fine L U k (N + 4096) (addSub now p t .dest)
   unfolding addSub

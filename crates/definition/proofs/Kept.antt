@@ -61,7 +61,7 @@ tables p a i t = withProducers p (withAudits a (withIdle i t))
 
 tables-fine : (L U : ℕ) (k : Kind) (N : ℕ) (t : Dest) (p : List Id) (a : List Audit) (i : Option ℕ) → Fine L U k N t → leb (length p) 32 ≡ true → all idOk p ≡ true → leb (length a) 8 ≡ true → all auditOk a ≡ true → optional clockOk i ≡ true → Fine L U k N (tables p a i t)
 tables-fine L U k N t p a i g b c d e m = fine-from L U k N N t (tables p a i t) g (g .kind)
-    (record { limit = g .frame .limit; used = g .frame .used; topic-limit = g .frame .topic-limit; few-producers = b; producers = c; few-audits = d; audits = e; holders = g .frame .holders; mark = m })
+    (record { limit = g .frame .limit; used = g .frame .used; topic-limit = g .frame .topic-limit; allowance = g .frame .allowance; few-producers = b; producers = c; few-audits = d; audits = e; holders = g .frame .holders; mark = m })
     (g .few-subs) (g .subs) (g .ids) (λ f w. omega arith) (λ q f w. omega arith) (once-topic k t (g .once)) (g .sorted) (g .turn) (g .counters)
 
 fewer : {A : Type 0} (p : A → Bool) (l : List A) (n : ℕ) → leb (length l) n ≡ true → leb (length (keep p l)) n ≡ true
@@ -185,10 +185,10 @@ call-sound lent c t z =
     (omega (arith, leb-true (t .callsUsed) (t .callLimit) (f .calls), eqb-false (t .callsUsed) (t .callLimit) (q .left))) (omega arith)
     (perform-fine (t .callLimit) (t .callsUsed) (t .kind) (bound (t .callsUsed)) c t (omega arith) (fine t (q .is-sound)) (q .arguments) (q .own)))
 
-open-sound : (k : Kind) (topicLimit callLimit now : ℕ) → openOk k topicLimit callLimit now ≡ true → sound (opened k topicLimit callLimit now) ≡ true
-open-sound k topicLimit callLimit now h =
-    let f = every-all (leb topicLimit 512 ∷ leb 1 callLimit ∷ leb callLimit (2 ^ 40) ∷ clockOk now ∷ []) h in
-    from-facts (opened k topicLimit callLimit now) (record {
+open-sound : (k : Kind) (topicLimit callLimit now allowance : ℕ) → openOk k topicLimit callLimit now allowance ≡ true → sound (opened k topicLimit callLimit now allowance) ≡ true
+open-sound k topicLimit callLimit now allowance h =
+    let f = every-all (leb topicLimit 512 ∷ leb 1 callLimit ∷ leb callLimit (2 ^ 40) ∷ clockOk now ∷ leb allowance 86400000 ∷ []) h in
+    from-facts (opened k topicLimit callLimit now allowance) (record {
       limit-low = f .1 .0;
       limit-high = f .1 .1 .0;
       calls = le-leb 0 callLimit (omega arith);
@@ -208,14 +208,15 @@ open-sound k topicLimit callLimit now h =
       mark = f .1 .1 .1 .0;
       few-audits = refl;
       audits = refl;
+      allowance = f .1 .1 .1 .1 .0;
     })
   where
-    stands : (j : Kind) → placed (opened k topicLimit callLimit now) j ≡ true
+    stands : (j : Kind) → placed (opened k topicLimit callLimit now allowance) j ≡ true
     stands queue = refl
     stands topic = refl
 
 made-sound : (b : Bool) (t : Dest) → Made b t → sound t ≡ true
-made-sound b t (opens k topicLimit callLimit now e) = open-sound k topicLimit callLimit now e
+made-sound b t (opens k topicLimit callLimit now allowance e) = open-sound k topicLimit callLimit now allowance e
 made-sound b t (calls {t = u} lent c r e) = call-sound lent c u e
 
 pub reached-sound : (b : Bool) (t : Dest) → Reached b t → sound t ≡ true

@@ -12,7 +12,7 @@ use borrow.Author.Tests.{leb-false, lt-ltb}
 use Rattle.definition.specs.Base.{if_then_else_, keep, tally, all, find, empty, distinct, ascending}
 use Rattle.definition.specs.Types.{Kind, queue, topic, Id, Entry, Inflight, Sub, Held, Dest, withTpending, withPending, withSubs, withReserved}
 use Rattle.definition.specs.Consumer.{sameId, expired, _⊕_, addExpired, isBrowser, shown, snapshot, redelivered}
-use Rattle.definition.specs.Destination.{count, isId, subOf, insertAll, holdBackAll, room, wasDelivered, returnedFrom, reservedFrom, without, dropSub, returning, removeAt, removeSub, reinsert, heldBy, reservedOf, noTx, unmarked, returnReserved, Swept, sweepAt, sweepList, soonest, SweptSubs, sweepSubs, sweepExpired, emptied, cleared, clear}
+use Rattle.definition.specs.Destination.{count, isId, subOf, insertAll, holdBackAll, room, wasDelivered, returnedFrom, reservedFrom, without, dropSub, returning, removeAt, removeSub, reinsert, heldBy, reservedOf, noTx, unmarked, returnReserved, Swept, sweepAt, sweepList, soonest, SweptSubs, sweepSubs, sweepExpired, emptied, cleared, clear, due}
 use Rattle.definition.specs.Calls.{entryOk, idOk, clockOk, seqs, flying, rowsOf, held, distinctIds}
 use Rattle.definition.proofs.Tests.{if-true, if-false, by-if, by-test, and-left, and-right, and-both}
 use Rattle.definition.proofs.Lists.{none-some, some-inj, All, empty-nil, all-append, all-keep}
@@ -98,19 +98,19 @@ record Before (L U N K : ℕ) (t d : Dest) (es : List Entry) : Type 0 where
 reinsert-fine : (L U N K now : ℕ) (t d : Dest) (es : List Entry) → Before L U N K t d es → Fine L U queue (K + 512) (reinsert now es d)
 unfolding reinsert
 reinsert-fine L U N K now t d es b = fine-from L U queue N (K + 512) t _ (b .was) (b .kind)
-    (frame-renewed L U (d .rr) (d .stats ⊕ addExpired (tally (expired (pos now)) es)) (map (holdBackAll live) (d .subs)) (insertAll live (d .pending)) (d .reserved) (d .idle) d (b .frame) (b .frame .holders) (b .frame .mark))
+    (frame-renewed L U (d .rr) (d .stats ⊕ addExpired (tally (expired (pos (due now d))) es)) (map (holdBackAll live) (d .subs)) (insertAll live (d .pending)) (d .reserved) (d .idle) d (b .frame) (b .frame .holders) (b .frame .mark))
     (omega (arith, b .few-subs, each-length queue 0 K _ _ e))
     (all-map (Sane queue (K + 0)) (Sane queue (K + 512)) (map (holdBackAll live) (d .subs)) (λ s. sane-more queue (K + 0) (K + 512) s (omega arith)) (e .sane))
     (ids-same (d .subs) (map (holdBackAll live) (d .subs)) (e .ids) ∙ b .ids)
-    (λ f w. omega (arith, b .rows f w, sum-insertAll f live (d .pending), sum-keep f (λ x. not (expired (pos now) x)) es, e .rows f w))
-    (λ q f w. omega (arith, b .taken f w, sum-insertAll f live (d .pending), sum-keep f (λ x. not (expired (pos now) x)) es, e .taken refl f w))
+    (λ f w. omega (arith, b .rows f w, sum-insertAll f live (d .pending), sum-keep f (λ x. not (expired (pos (due now d)) x)) es, e .rows f w))
+    (λ q f w. omega (arith, b .taken f w, sum-insertAll f live (d .pending), sum-keep f (λ x. not (expired (pos (due now d)) x)) es, e .taken refl f w))
     (λ q. absurd (not-topic q))
     (insertAll-ascending live (d .pending) (b .sorted))
     (ap (λ n. ltb (d .rr) n || eqb (d .rr) 0) (each-length queue 0 K _ _ e) ∙ b .turn)
-    (under-plus K 512 (d .stats) (addExpired (tally (expired (pos now)) es)) (b .counters) (omega (arith, tally-length (expired (pos now)) es, sum-one es, b .rows one one-tame, b .was .rows)))
+    (under-plus K 512 (d .stats) (addExpired (tally (expired (pos (due now d))) es)) (b .counters) (omega (arith, tally-length (expired (pos (due now d))) es, sum-one es, b .rows one one-tame, b .was .rows)))
   where
     live : List Entry
-    live = keep (λ x. not (expired (pos now) x)) es
+    live = keep (λ x. not (expired (pos (due now d)) x)) es
 
     e : Each queue 0 K (d .subs) (map (holdBackAll live) (d .subs))
     e = each-map queue 0 K (holdBackAll live) (d .subs) (λ s. back-all-eased queue live s) (b .subs)
@@ -295,19 +295,19 @@ module _ (L U : ℕ) where
       (λ c. rw c (fine-more L U k (N + 512) (N + 4096) swept (omega arith) all-swept))
     where
       w : Swept
-      w = sweepList most now (t .pending)
+      w = sweepList most (due now t) (t .pending)
 
       r : SweptSubs
-      r = sweepSubs (most - w .gone) now (t .subs)
+      r = sweepSubs (most - w .gone) (due now t) (t .subs)
 
       swept : Dest
       swept = count (addExpired (w .gone + r .gone)) (withPending (w .list) (withSubs (r .subs) t))
 
       p : Sweeps most (t .pending) w
-      p = sweeps most now (t .pending)
+      p = sweeps most (due now t) (t .pending)
 
-      q : SweptAll k N (most - w .gone) now (t .subs)
-      q = sweep-subs k N (most - w .gone) now (t .subs) (g .subs)
+      q : SweptAll k N (most - w .gone) (due now t) (t .subs)
+      q = sweep-subs k N (most - w .gone) (due now t) (t .subs) (g .subs)
 
       wider : Each k 0 N (t .subs) (r .subs) → Each k 512 N (t .subs) (r .subs)
       wider e = record { ids = e .ids; sane = all-map (Sane k (N + 0)) (Sane k (N + 512)) (r .subs) (λ s. sane-more k (N + 0) (N + 512) s (omega arith)) (e .sane); rows = e .rows; taken = e .taken }

@@ -20,6 +20,7 @@ pub mod Reach
 pub mod Join
 pub mod Leave
 pub mod Halves
+pub mod Slow
 pub mod Kept
 pub mod Order
 pub mod Room

@@ -10,7 +10,7 @@ use lib.IntN.{pos}
 use Rattle.definition.specs.Base.{if_then_else_, find, put, nth}
 use Rattle.definition.specs.Types.{Kind, queue, topic, Id, Entry, Sub, Stats, Dest, withPending, withSubs, withStats}
 use Rattle.definition.specs.Consumer.{expired, zeroStats, _⊕_, Step, isBrowser, snapshot, hasCredit, meetTopic, drainTopic, atRest, serveTopic, Browse, meetBrowser, closeBrowser, drainBrowser, dispatchBrowser}
-use Rattle.definition.specs.Destination.{visitAt, look, Turn, given, visit, scan, turns, rounds, browsers, dispatchQueue, serveAll, dispatchTopic, dispatchBy, dispatch, isId}
+use Rattle.definition.specs.Destination.{visitAt, look, Turn, given, visit, scan, turns, rounds, browsers, dispatchQueue, serveAll, dispatchTopic, dispatchBy, due, dispatch, isId}
 use Rattle.definition.proofs.Tests.{if-false, by-if, by-test}
 use Rattle.definition.proofs.Reorder.{nil-cons}
 use Rattle.definition.proofs.Lists.{none-some, set-nth, put-not-empty, All}
@@ -209,9 +209,9 @@ pub record Resting (t : Dest) : Type 0 where
   pub idle : t .idle ≡ none
 
 pub dispatch-one : (now : ℕ) (i : Id) (v : Sub) (c : Stats) (s : Sub) (t : Dest) (k : Kind) → t .kind ≡ k → All (Rests k) (t .subs) → (k ≡ queue → t .pending ≡ []) → find (isId i) (t .subs) ≡ some s →
-    dispatch now (changed i v c t) ≡ record { dest = changed i (serve k now v .sub) (c ⊕ serve k now v .counts) t; events = serve k now v .events }
+    dispatch now (changed i v c t) ≡ record { dest = changed i (serve k (due now t) v .sub) (c ⊕ serve k (due now t) v .counts) t; events = serve k (due now t) v .events }
 unfolding dispatchBy dispatchTopic dispatchQueue
-dispatch-one now i v c s t topic e h q f = rw (e, serveAll-put now i v (t .subs) s h f) (simp add-assoc)
+dispatch-one now i v c s t topic e h q f = rw (e, serveAll-put (due now t) i v (t .subs) s h f) (simp add-assoc)
 dispatch-one now i v c s t queue e h q f =
-    let b = ap (λ (p : List Entry). browsers now (put (isId i) v (t .subs)) p) (q refl) ∙ browsers-put now i v (t .subs) s h f in
+    let b = ap (λ (p : List Entry). browsers (due now t) (put (isId i) v (t .subs)) p) (q refl) ∙ browsers-put (due now t) i v (t .subs) s h f in
     rw (e, put-not-empty (isId i) (t .subs) s v f, b, rounds-none) (simp (q refl, add-assoc, append-nil))

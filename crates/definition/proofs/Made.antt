@@ -32,7 +32,7 @@ isClear missing = false
 
 -- `Reached`, by the calls' kinds
 pub data Made : Bool → Dest → Type 0 where
-  opens : (k : Kind) (topicLimit callLimit now : ℕ) → openOk k topicLimit callLimit now ≡ true → Made false (opened k topicLimit callLimit now)
+  opens : (k : Kind) (topicLimit callLimit now allowance : ℕ) → openOk k topicLimit callLimit now allowance ≡ true → Made false (opened k topicLimit callLimit now allowance)
   calls : {b : Bool} {t : Dest} (lent : Lengths) (c : Call) → Made b t → refusal lent c t ≡ 0 → Made (isClear c || b) (call lent c t .dest)
 
 -- ---- the words of code 10 alone are a clear
@@ -97,7 +97,7 @@ unfolding openStep
 open-made lent ws t = by-test (short lent)
     (λ e. rw e (λ h. absurd (omega arith)))
     (λ e. by-test (openWords ws)
-    (λ f. rw (e, f) (λ h. opens (kindOf (at 0 ws)) (at 1 ws) (at 2 ws) (at 3 ws) (and-left _ (unusedFrom 4 ws) (and-right (leb (at 0 ws) 1) _ f))))
+    (λ f. rw (e, f) (λ h. opens (kindOf (at 0 ws)) (at 1 ws) (at 2 ws) (at 3 ws) (at 4 ws) (and-left _ (unusedFrom 5 ws) (and-right (leb (at 0 ws) 1) _ f))))
     (λ f. rw (e, f) (λ h. absurd (omega arith))))
 
 pub made : (b : Bool) (t : Dest) → Reached b t → Made b t

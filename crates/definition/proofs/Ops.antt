@@ -13,7 +13,7 @@ use borrow.Author.Tests.{le-leb}
 use Rattle.definition.specs.Base.{keep, all, find, put, empty, ascending}
 use Rattle.definition.specs.Types.{Kind, queue, topic, Id, Entry, Sub, Stats, Held, Dest, withPrefetch, withStats, withIdle}
 use Rattle.definition.specs.Consumer.{_⊕_, isBrowser, sendNull, Ack, AckType, Delivered, Poison, Standard, Redelivered, Individual, Unmatched, Expired, Other, ackType, ackSub}
-use Rattle.definition.specs.Destination.{Out, count, isId, subOf, putSub, room, marked, touchIdle, dispatch, dispatchBy, ack, ackAt, ackReserved, reservedHit, reservedCounts, heldBy, reservedOf, pull, pullAt, pulled, resumed, fired, timeoutAt, pullTimeout, setPrefetch, prefetchAt}
+use Rattle.definition.specs.Destination.{Out, count, isId, subOf, putSub, room, marked, touchIdle, dispatch, dispatchBy, ack, ackAt, ackReserved, reservedHit, reservedCounts, heldBy, reservedOf, pull, pullAt, pulled, resumed, fired, timeoutAt, pullTimeout, setPrefetch, prefetchAt, due}
 use Rattle.definition.specs.Calls.{idOk, within, optional, clockOk, seqs, flying, held, distinctIds, Request, acknowledge, pulling, timedOut, prefetching, requestOk, ackOk, ask}
 use Rattle.definition.proofs.Tests.{if-true, if-false, by-if, by-test, and-left, and-right}
 use Rattle.definition.proofs.Lists.{none-some, some-inj, All, length-map, keep-length, all-keep}
@@ -130,7 +130,7 @@ module _ (L U : ℕ) (k : Kind) where
   count-fine N x c t h g = keep-fine N x t (t .stats ⊕ c) (t .pending) (t .reserved) (t .idle) g (λ f w. omega arith) (once-topic k t (g .once)) (g .sorted) (g .frame .holders) (g .frame .mark) (under-plus N x (t .stats) c (g .counters) h)
 
   pub kind-fine : (N now : ℕ) (t : Dest) → Fine L U k N t → Fine L U k (N + 2048) (dispatch now t .dest)
-  kind-fine N now t g = subst⁻¹ (λ (j : Kind). Fine L U k (N + 2048) (dispatchBy now t j .dest)) (g .kind) (dispatch-fine L U k N now t g)
+  kind-fine N now t g = subst⁻¹ (λ (j : Kind). Fine L U k (N + 2048) (dispatchBy (due now t) t j .dest)) (g .kind) (dispatch-fine L U k N (due now t) t g)
 
   -- ---- reserved entries that an acknowledgement takes
 

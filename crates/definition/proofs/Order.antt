@@ -1,5 +1,5 @@
 -- Codes 4 to 7 change places: document 01's claim on lists of calls. Assumes nothing.
-use Prim.Native.Nat.{ℕ, suc, _+_, _-_, _≤_}
+use Prim.Native.Nat.{ℕ, suc, _+_, _-_, _≤_, _^_}
 use native.Mathlib.Omega.{arith}
 use mathlib.Core.Path.{_≡_, refl, sym, _∙_, ap, subst, subst⁻¹}
 use mathlib.Core.Bool.{Bool, true, false, true≢false}
@@ -7,18 +7,18 @@ use mathlib.Core.List.{List, [], _∷_}
 use mathlib.Core.Option.{Option, none, some}
 use lib.Dec.{eqb}
 use lib.ListN.{length}
-use borrow.Author.Tests.{ne-eqb}
+use borrow.Author.Tests.{ne-eqb, leb-true, le-leb}
 use Rattle.definition.specs.Base.{if_then_else_, find, put, empty, is-some}
 use Rattle.definition.specs.Types.{Kind, Id, Sub, Stats, Dest, withSubs, withStats, withCallsUsed}
 use Rattle.definition.specs.Consumer.{sameId, _⊕_}
 use Rattle.definition.specs.Destination.{isId, subOf}
-use Rattle.definition.specs.Calls.{Lengths, short, Request, asking, Result, refused, used, sound, argumentsOk, ownRefusal, perform, refusal, call}
+use Rattle.definition.specs.Calls.{Lengths, short, within, idOk, clockOk, ackOk, requestOk, Request, acknowledge, pulling, timedOut, prefetching, asking, Result, refused, used, sound, argumentsOk, ownRefusal, perform, refusal, call}
 use Rattle.definition.specs.Words.{callStep}
 use Rattle.definition.specs.Orders.{Lent, caller, Reply, result, reply, left, callsOf, AllPresent, SameRuns, Reordering}
-use Rattle.definition.proofs.Tests.{if-true, if-false, by-test}
+use Rattle.definition.proofs.Tests.{if-true, if-false, by-test, and-left, and-right, and-both}
 use Rattle.definition.proofs.Lists.{find-passes, find-put-same, find-put-other, put-put, All, all-put, all-find}
 use Rattle.definition.proofs.Local.{⊕-assoc, ⊕-comm, Rests, changed, Resting}
-use Rattle.definition.proofs.Own.{Own, same, own, own-id, own-rests, ask-own}
+use Rattle.definition.proofs.Own.{Own, same, own, lessened, own-id, own-rests, ask-own}
 use Rattle.definition.proofs.Calm.{Calm, reached-calm}
 use Rattle.definition.proofs.Sound.{own-sound}
 use Rattle.definition.proofs.Kept.{reached-sound}
@@ -61,27 +61,27 @@ refusal-own k lent i q t r a =
     rw (r .is-sound, a, n)
 
 -- the consumer's own step
-abbrev ownOf : Kind → Sub → Option Request → Own
-ownOf k s none = same s
-ownOf k s (some q) = own k q s
+abbrev ownOf : Kind → ℕ → Sub → Option Request → Own
+ownOf k w s none = same s
+ownOf k w s (some q) = own k (lessened w q) s
 
 abbrev mine : Lent → Sub → Dest → Own
-mine c s t = ownOf (t .kind) s (request c)
+mine c s t = ownOf (t .kind) (t .allowance) s (request c)
 
 abbrev moved : Lent → Sub → Dest → Dest
 moved c s t = used (changed (caller c) (mine c s t .sub) (mine c s t .counts) t)
 
-ownOf-id : (k : Kind) (s : Sub) (o : Option Request) → ownOf k s o .sub .id ≡ s .id
-ownOf-id k s none = refl
-ownOf-id k s (some q) = own-id k q s
+ownOf-id : (k : Kind) (w : ℕ) (s : Sub) (o : Option Request) → ownOf k w s o .sub .id ≡ s .id
+ownOf-id k w s none = refl
+ownOf-id k w s (some q) = own-id k (lessened w q) s
 
-ownOf-rests : (k : Kind) (s : Sub) (o : Option Request) → Rests k s → Rests k (ownOf k s o .sub)
-ownOf-rests k s none h = h
-ownOf-rests k s (some q) h = own-rests k q s h
+ownOf-rests : (k : Kind) (w : ℕ) (s : Sub) (o : Option Request) → Rests k s → Rests k (ownOf k w s o .sub)
+ownOf-rests k w s none h = h
+ownOf-rests k w s (some q) h = own-rests k (lessened w q) s h
 
 -- the step, by what is asked
 asked-own : (k : ℕ) (lent : Lengths) (i : Id) (s : Sub) (t : Dest) (o : Option Request) → ((q : Request) → o ≡ some q → argumentsOk (asking i q) ≡ true) → Ready (suc k) t → subOf i t ≡ some s →
-    callStep lent t (asks i o) ≡ (let m = ownOf (t .kind) s o in let v = if short lent then 1 else if is-some o then 0 else 3 in
+    callStep lent t (asks i o) ≡ (let m = ownOf (t .kind) (t .allowance) s o in let v = if short lent then 1 else if is-some o then 0 else 3 in
     if eqb v 0 then record { refusal = 0; answer = m .answer; events = m .events; dest = used (changed i (m .sub) (m .counts) t) } else refused v t)
 unfolding callStep call perform
 asked-own k lent i s t none a r f = by-test (short lent) (λ e. rw e) (λ e. rw (e, r .is-sound))
@@ -116,7 +116,7 @@ asks-some c e = by-test (short (c .lengths))
     (λ p. by-test (is-some (request c)) (λ q. q) (λ q. absurd (true≢false (sym e ∙ rw (p, q)))))
 
 own-is-id : (c : Lent) (s : Sub) (t : Dest) → subOf (caller c) t ≡ some s → isId (caller c) (mine c s t .sub) ≡ true
-own-is-id c s t f = ap (λ (x : Id). sameId x (caller c)) (ownOf-id (t .kind) s (request c)) ∙ find-passes (isId (caller c)) (t .subs) s f
+own-is-id c s t f = ap (λ (x : Id). sameId x (caller c)) (ownOf-id (t .kind) (t .allowance) s (request c)) ∙ find-passes (isId (caller c)) (t .subs) s f
 
 -- another consumer is not touched
 moved-other : (c : Lent) (s : Sub) (t : Dest) (j : Id) → subOf (caller c) t ≡ some s → sameId (caller c) j ≡ false → subOf j (moved c s t) ≡ subOf j t
@@ -124,15 +124,28 @@ moved-other c s t j f n = find-put-other (isId j) (isId (caller c)) (t .subs) (m
 
 -- ---- ready for the next
 
+clock-less : (now w : ℕ) → clockOk now ≡ true → clockOk (now - w) ≡ true
+clock-less now w h = le-leb (now - w) (2 ^ 62) (omega (arith, leb-true now (2 ^ 62) h))
+
+request-less : (w : ℕ) (q : Request) → requestOk q ≡ true → requestOk (lessened w q) ≡ true
+request-less w (acknowledge a now) h = and-both (ackOk a) _ (and-left (ackOk a) _ h) (clock-less now w (and-right (ackOk a) _ h))
+request-less w (pulling timeout now) h = and-both (within (2 ^ 63) timeout) _ (and-left (within (2 ^ 63) timeout) _ h) (clock-less now w (and-right (within (2 ^ 63) timeout) _ h))
+request-less w (timedOut generation) h = h
+request-less w (prefetching p now) h = and-both (within (2 ^ 31) p) _ (and-left (within (2 ^ 31) p) _ h) (clock-less now w (and-right (within (2 ^ 31) p) _ h))
+
+lessened-ok : (w : ℕ) (i : Id) (q : Request) → argumentsOk (asking i q) ≡ true → argumentsOk (asking i (lessened w q)) ≡ true
+unfolding argumentsOk
+lessened-ok w i q h = and-both (idOk i) _ (and-left (idOk i) _ h) (request-less w q (and-right (idOk i) _ h))
+
 ownOf-sound : (i : Id) (s : Sub) (t : Dest) (o : Option Request) → subOf i t ≡ some s → ((q : Request) → o ≡ some q → argumentsOk (asking i q) ≡ true) → is-some o ≡ true → suc (t .callsUsed) ≤ t .callLimit → sound t ≡ true →
-    sound (used (changed i (ownOf (t .kind) s o .sub) (ownOf (t .kind) s o .counts) t)) ≡ true
+    sound (used (changed i (ownOf (t .kind) (t .allowance) s o .sub) (ownOf (t .kind) (t .allowance) s o .counts) t)) ≡ true
 ownOf-sound i s t none f a e h y = absurd (true≢false (sym e))
-ownOf-sound i s t (some q) f a e h y = own-sound i q s t f (a q refl) h y
+ownOf-sound i s t (some q) f a e h y = own-sound i (lessened (t .allowance) q) s t f (lessened-ok (t .allowance) i q (a q refl)) h y
 
 moved-ready : (k : ℕ) (c : Lent) (s : Sub) (t : Dest) → Ready (suc k) t → Coded c → subOf (caller c) t ≡ some s → eqb (verdict c) 0 ≡ true → Ready k (moved c s t)
 moved-ready k c s t r d f e = record {
   resting = record {
-    subs = all-put (Rests (t .kind)) (isId (caller c)) (t .subs) (mine c s t .sub) (r .resting .subs) (ownOf-rests (t .kind) s (request c) (all-find (Rests (t .kind)) (isId (caller c)) (t .subs) s (r .resting .subs) f));
+    subs = all-put (Rests (t .kind)) (isId (caller c)) (t .subs) (mine c s t .sub) (r .resting .subs) (ownOf-rests (t .kind) (t .allowance) s (request c) (all-find (Rests (t .kind)) (isId (caller c)) (t .subs) s (r .resting .subs) f));
     none-waits = r .resting .none-waits;
     idle = r .resting .idle;
   };

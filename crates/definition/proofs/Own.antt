@@ -1,5 +1,5 @@
 -- What codes 4 to 7 do where every consumer rests: a step of the caller alone, and what that adds to the counters. Assumes nothing.
-use Prim.Native.Nat.{ℕ, _+_}
+use Prim.Native.Nat.{ℕ, _+_, _-_}
 use mathlib.Core.Path.{_≡_, refl, sym, _∙_, ap}
 use mathlib.Core.Bool.{true, true≢false}
 use mathlib.Core.List.{List, [], _∷_, _++_}
@@ -10,7 +10,7 @@ use lib.Signed.{ltZ}
 use Rattle.definition.specs.Base.{if_then_else_, put, empty}
 use Rattle.definition.specs.Types.{Kind, queue, topic, Id, Sub, Stats, Dest, Event, null, withPrefetch, withPull, withGeneration, withSubs, withStats, withIdle}
 use Rattle.definition.specs.Consumer.{ackTransacted, ackPlain, ackType, Delivered, Poison, Standard, Redelivered, Individual, Unmatched, Expired, Other, sameId, zeroStats, _⊕_, Step, isBrowser, hasCredit, sendNull, Ack, AckType, ackSub}
-use Rattle.definition.specs.Destination.{ackAt, pullAt, timeoutAt, Answer, dispatch, touchIdle, isId, subOf, putSub, room, setPrefetch, ack, pulled, pull, pullTimeout, fired, resumed}
+use Rattle.definition.specs.Destination.{ackAt, pullAt, timeoutAt, Answer, dispatch, touchIdle, isId, subOf, putSub, room, setPrefetch, ack, pulled, pull, pullTimeout, fired, resumed, due}
 use Rattle.definition.proofs.Tests.{by-if, by-test}
 use Rattle.definition.proofs.Lists.{find-passes, find-put-same, put-put-same, put-found, put-not-empty}
 use Rattle.definition.specs.Calls.{Request, acknowledge, pulling, timedOut, prefetching, ask}
@@ -54,6 +54,13 @@ own k (pulling timeout now) s =
 own k (timedOut generation) s = ownFired generation s (s .pull)
 own k (prefetching p now) s = after (serve k now (withPrefetch (room p) s))
 
+-- what is asked, with the clock less an allowance
+abbrev pub lessened : ℕ → Request → Request
+lessened w (acknowledge a now) = acknowledge a (now - w)
+lessened w (pulling timeout now) = pulling timeout (now - w)
+lessened w (timedOut generation) = timedOut generation
+lessened w (prefetching p now) = prefetching p (now - w)
+
 -- what the destination answers, then
 abbrev pub outcome : Id → Own → Dest → Answer
 outcome i o t = record { answer = o .answer; dest = changed i (o .sub) (o .counts) t; events = o .events }
@@ -71,11 +78,11 @@ put-changed i v t =
     λ j. withStats (c j) (putSub i v t)
 
 dispatch-put : (now : ℕ) (i : Id) (v s : Sub) (t : Dest) → Resting t → subOf i t ≡ some s →
-    dispatch now (putSub i v t) ≡ record { dest = changed i (serve (t .kind) now v .sub) (serve (t .kind) now v .counts) t; events = serve (t .kind) now v .events }
+    dispatch now (putSub i v t) ≡ record { dest = changed i (serve (t .kind) (due now t) v .sub) (serve (t .kind) (due now t) v .counts) t; events = serve (t .kind) (due now t) v .events }
 dispatch-put now i v s t h f =
     ap (λ (x : Dest). dispatch now x) (put-changed i v t)
     ∙ dispatch-one now i v zeroStats s t (t .kind) refl (h .subs) (h .none-waits) f
-    ∙ ap (λ (c : Stats). record { dest = changed i (serve (t .kind) now v .sub) c t; events = serve (t .kind) now v .events }) (zero-⊕ (serve (t .kind) now v .counts))
+    ∙ ap (λ (c : Stats). record { dest = changed i (serve (t .kind) (due now t) v .sub) c t; events = serve (t .kind) (due now t) v .events }) (zero-⊕ (serve (t .kind) (due now t) v .counts))
 
 touch-one : (now : ℕ) (i : Id) (v s : Sub) (c : Stats) (t : Dest) → t .idle ≡ none → subOf i t ≡ some s → touchIdle now (changed i v c t) ≡ changed i v c t
 unfolding touchIdle
@@ -182,13 +189,13 @@ fired-own i generation s t (some g) f =
     let u : putSub i (sendNull s) t ≡ changed i (sendNull s) zeroStats t = put-changed i (sendNull s) t in
     by-test (eqb g generation) (λ c. rw c (λ j. record { answer = 0; dest = u j; events = null (s .id) ∷ [] })) (λ c. rw c (same-own i s t f))
 
-pub ask-own : (i : Id) (q : Request) (s : Sub) (t : Dest) → Resting t → subOf i t ≡ some s → ask i t q ≡ outcome i (own (t .kind) q s) t
+pub ask-own : (i : Id) (q : Request) (s : Sub) (t : Dest) → Resting t → subOf i t ≡ some s → ask i t q ≡ outcome i (own (t .kind) (lessened (t .allowance) q) s) t
 unfolding ask own ack ackAt pull pullAt resumed pullTimeout timeoutAt setPrefetch
 ask-own i (acknowledge a now) s t h f = rw (f, touch-one now i (ackSub a s .sub) s (ackSub a s .counts) t (h .idle) f, dispatch-one now i (ackSub a s .sub) (ackSub a s .counts) s t (t .kind) refl (h .subs) (h .none-waits) f)
 ask-own i (pulling timeout now) s t h f =
-    let mine : isId i (serve (t .kind) now (pulling-sub s) .sub) ≡ true = is-id i (serve (t .kind) now (pulling-sub s) .sub) s t f (serve-id (t .kind) now (pulling-sub s)) in
+    let mine : isId i (serve (t .kind) (due now t) (pulling-sub s) .sub) ≡ true = is-id i (serve (t .kind) (due now t) (pulling-sub s) .sub) s t f (serve-id (t .kind) (due now t) (pulling-sub s)) in
     by-test (ltb 0 (s .prefetch))
     (λ c. rw (f, c) (same-own i s t f))
-    (λ c. rw (f, c, dispatch-put now i (pulling-sub s) s t h f, find-put-same (isId i) (t .subs) s (serve (t .kind) now (pulling-sub s) .sub) f mine) (pulled-own i timeout (serve (t .kind) now (pulling-sub s)) t (serve (t .kind) now (pulling-sub s) .sub .pull) mine))
+    (λ c. rw (f, c, dispatch-put now i (pulling-sub s) s t h f, find-put-same (isId i) (t .subs) s (serve (t .kind) (due now t) (pulling-sub s) .sub) f mine) (pulled-own i timeout (serve (t .kind) (due now t) (pulling-sub s)) t (serve (t .kind) (due now t) (pulling-sub s) .sub .pull) mine))
 ask-own i (timedOut generation) s t h f = rw f (fired-own i generation s t (s .pull) f)
 ask-own i (prefetching p now) s t h f = rw (f, dispatch-put now i (withPrefetch (room p) s) s t h f)

@@ -11,7 +11,7 @@ use borrow.Author.Tests.{ltb-true, lt-ltb, eqb-true}
 use Rattle.definition.specs.Base.{if_then_else_, tally}
 use Rattle.definition.specs.Types.{Kind, queue, topic, Entry, Sub, Stats, Dest, withCursor, withTpending, withPending}
 use Rattle.definition.specs.Consumer.{accepts, _⊕_, addEnqueued, isBrowser, snapshot}
-use Rattle.definition.specs.Destination.{insert, holdBack, holdBackAll, stored, fanOut, fanOutAll, fannedOut, enqueueBy, dispatchBy}
+use Rattle.definition.specs.Destination.{insert, holdBack, holdBackAll, stored, fanOut, fanOutAll, fannedOut, enqueueBy, dispatchBy, due}
 use Rattle.definition.specs.Calls.{entryOk, flying, rowsOf, rowsFor}
 use Rattle.definition.proofs.Tests.{by-test}
 use Rattle.definition.proofs.Lists.{All, length-map}
@@ -54,7 +54,7 @@ module _ (L U : ℕ) where
   insert-fine : (N : ℕ) (e : Entry) (t : Dest) → Fine L U queue N t → entryOk e ≡ true → rowsSum one t + 1 ≤ 512 → rowsSum (occ (e .seq)) t ≤ 0 → Fine L U queue N (withPending (insert e (t .pending)) t)
   insert-fine N e t g h r o = record {
     kind = g .kind;
-    frame = record { limit = g .frame .limit; used = g .frame .used; topic-limit = g .frame .topic-limit; few-producers = g .frame .few-producers; producers = g .frame .producers; few-audits = g .frame .few-audits; audits = g .frame .audits; holders = g .frame .holders; mark = g .frame .mark };
+    frame = record { limit = g .frame .limit; used = g .frame .used; topic-limit = g .frame .topic-limit; allowance = g .frame .allowance; few-producers = g .frame .few-producers; producers = g .frame .producers; few-audits = g .frame .few-audits; audits = g .frame .audits; holders = g .frame .holders; mark = g .frame .mark };
     few-subs = g .few-subs;
     subs = g .subs;
     ids = g .ids;
@@ -179,7 +179,7 @@ module _ (L U : ℕ) where
       let n : length (fanOutAll (t .topicLimit) e (t .subs) .subs) ≡ length (t .subs) = sym (length-map (λ s. s .id) (fanOutAll (t .topicLimit) e (t .subs) .subs)) ∙ ap length (p .ids) ∙ length-map (λ s. s .id) (t .subs) in
       record {
         kind = g .kind;
-        frame = record { limit = g .frame .limit; used = g .frame .used; topic-limit = g .frame .topic-limit; few-producers = g .frame .few-producers; producers = g .frame .producers; few-audits = g .frame .few-audits; audits = g .frame .audits; holders = g .frame .holders; mark = g .frame .mark };
+        frame = record { limit = g .frame .limit; used = g .frame .used; topic-limit = g .frame .topic-limit; allowance = g .frame .allowance; few-producers = g .frame .few-producers; producers = g .frame .producers; few-audits = g .frame .few-audits; audits = g .frame .audits; holders = g .frame .holders; mark = g .frame .mark };
         few-subs = omega (arith, n, g .few-subs);
         subs = all-map (Sane topic N) (Sane topic (N + 1024)) (fanOutAll (t .topicLimit) e (t .subs) .subs) (λ s. sane-more topic N (N + 1024) s (omega arith)) (p .sane);
         ids = ids-same (t .subs) (fanOutAll (t .topicLimit) e (t .subs) .subs) (p .ids) ∙ g .ids;
@@ -193,5 +193,5 @@ module _ (L U : ℕ) where
 
   pub enqueue-fine : (k : Kind) (N now : ℕ) (e : Entry) (t : Dest) → Fine L U k N t → entryOk e ≡ true → rowsSum one t + rowsFor e t k ≤ 512 → rowsSum (occ (e .seq)) t ≤ 0 → Fine L U k (N + 4096) (enqueueBy now e t k .dest)
   unfolding enqueueBy dispatchBy
-  enqueue-fine queue N now e t g k r o = fine-more L U queue (N + 1 + 2048) (N + 4096) _ (omega arith) (dispatch-fine L U queue (N + 1) now (stored e t) (stored-fine N e t g k r o))
-  enqueue-fine topic N now e t g k r o = fine-more L U topic (N + 1024 + 2048) (N + 4096) _ (omega arith) (dispatch-fine L U topic (N + 1024) now (fannedOut e t) (fanned-fine N e t g k r o))
+  enqueue-fine queue N now e t g k r o = fine-more L U queue (N + 1 + 2048) (N + 4096) _ (omega arith) (dispatch-fine L U queue (N + 1) (due now t) (stored e t) (stored-fine N e t g k r o))
+  enqueue-fine topic N now e t g k r o = fine-more L U topic (N + 1024 + 2048) (N + 4096) _ (omega arith) (dispatch-fine L U topic (N + 1024) (due now t) (fannedOut e t) (fanned-fine N e t g k r o))

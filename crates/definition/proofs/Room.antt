@@ -13,7 +13,7 @@ use borrow.Author.Tests.{leb-true}
 use Rattle.definition.specs.Base.{if_then_else_, keep, find, put, nth, empty}
 use Rattle.definition.specs.Types.{Kind, queue, topic, Id, Entry, Inflight, Sub, Dest, Event, withPending, withSubs, withPrefetch}
 use Rattle.definition.specs.Consumer.{zeroStats, expired, accepts, isBrowser, snapshot, hasCredit, Step, meetTopic, drainTopic, serveTopic, atRest, Browse, meetBrowser, closeBrowser, drainBrowser, dispatchBrowser, AckType, Delivered, Poison, Standard, Redelivered, Individual, Unmatched, Expired, Other, ackType, Ack, ackRange, deadLetters, ackPlain, ackSub}
-use Rattle.definition.specs.Destination.{ackAt, pullAt, timeoutAt, visitAt, Look, look, given, visit, scan, turns, rounds, Browsed, browsers, dispatchQueue, serveAll, dispatchTopic, dispatchBy, count, Out, dispatch, touchIdle, isId, subOf, putSub, room, setPrefetch, ack, pulled, resumed, pull, fired, pullTimeout}
+use Rattle.definition.specs.Destination.{ackAt, pullAt, timeoutAt, visitAt, Look, look, given, visit, scan, turns, rounds, Browsed, browsers, dispatchQueue, serveAll, dispatchTopic, dispatchBy, count, Out, dispatch, touchIdle, isId, subOf, putSub, room, setPrefetch, ack, pulled, resumed, pull, fired, pullTimeout, due}
 use Rattle.definition.specs.Calls.{flying, rowsOf, consumerRows, held, allRows, sound, Request, acknowledge, pulling, timedOut, prefetching, ask, subSound}
 use Rattle.definition.proofs.Tests.{if-true, if-false, by-if, by-test}
 use Rattle.definition.proofs.Lists.{none-some, some-inj, length-map, keep-length, length-put}
@@ -234,7 +234,7 @@ ack-events a s = by-if (λ (t : Step). length (t .events) ≤ length (s .infligh
 
 put-sends : (now : ℕ) (i : Id) (s v : Sub) (t : Dest) → subOf i t ≡ some s → v .tpending ≡ s .tpending → snapshot v ≡ snapshot s →
     length (dispatch now (putSub i v t) .events) ≤ length (t .pending) + waitingRows (t .subs) + length (t .subs)
-put-sends now i s v t f a b = omega (arith, dispatch-sends (t .kind) now (putSub i v t), put-waiting (isId i) (t .subs) s v f a b, length-put (isId i) (t .subs) v)
+put-sends now i s v t f a b = omega (arith, dispatch-sends (t .kind) (due now t) (putSub i v t), put-waiting (isId i) (t .subs) s v f a b, length-put (isId i) (t .subs) v)
 
 pulled-sends : (i : Id) (timeout : ℤ) (s : Sub) (r : Out) (o : Option ℕ) → length (pulled i timeout s r o .events) ≤ length (r .events) + 1
 unfolding pulled
@@ -266,7 +266,7 @@ ask-sends i (acknowledge a now) s t e f =
       c .subs,
       ack-events a s,
       found-flights (isId i) (t .subs) s f,
-      dispatch-sends (touchIdle now u .kind) now (touchIdle now u),
+      dispatch-sends (touchIdle now u .kind) (due now (touchIdle now u)) (touchIdle now u),
       ap length (touch-pending now u),
       ap waitingRows (touch-subs now u),
       ap length (touch-subs now u),

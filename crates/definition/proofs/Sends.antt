@@ -13,7 +13,7 @@ use Rattle.definition.specs.Base.{keep, empty}
 use Rattle.definition.specs.Types.{Kind, queue, topic, Id, Entry, Sub, Dest, Event}
 use Rattle.definition.specs.Consumer.{Ack, AckType, Delivered, Poison, Standard, Redelivered, Individual, Unmatched, Expired, Other, ackType}
 use Rattle.audit.specs.Audit.{seen}
-use Rattle.definition.specs.Destination.{Out, Answer, subOf, dispatchBy, touchIdle, stored, fannedOut, enqueueBy, addSub, returning, dropSub, removeAt, removeSub, reservedOf, heldBy, returnReserved, reservedHit, letters, reservedEvents, ackReserved, ackAt, ack, pullAt, pull, timeoutAt, pullTimeout, setPrefetch, sweepList, sweepSubs, sweepExpired, clear, testAt, isDuplicate}
+use Rattle.definition.specs.Destination.{Out, Answer, subOf, dispatchBy, touchIdle, stored, fannedOut, enqueueBy, addSub, returning, dropSub, removeAt, removeSub, reservedOf, heldBy, returnReserved, reservedHit, letters, reservedEvents, ackReserved, ackAt, ack, pullAt, pull, timeoutAt, pullTimeout, setPrefetch, sweepList, sweepSubs, sweepExpired, clear, testAt, isDuplicate, due}
 use Rattle.definition.specs.Calls.{Lengths, short, bound, idOk, clockOk, within, sound, Request, acknowledge, pulling, timedOut, prefetching, ask, Call, enqueuing, joining, leaving, asking, unmarking, releasing, sweeping, clearing, adding, removing, testing, forgetting, discarding, missing, argumentsOk, ownRefusal, perform, refusal, Result, call}
 use Rattle.definition.specs.Words.{decode, openWords, openStep, callStep, step}
 use Rattle.definition.proofs.Tests.{by-if, by-test, and-right}
@@ -72,7 +72,7 @@ module _ (L U : ℕ) (k : Kind) (N : ℕ) where
       (λ c. let r = took i a t (a .last) in let u = ackReserved i a t (a .last) .dest in simp length-append (omega (
         arith,
         r .events,
-        dispatch-sends (touchIdle now (ackReserved i a t (a .last) .dest) .kind) now (touchIdle now (ackReserved i a t (a .last) .dest)),
+        dispatch-sends (touchIdle now (ackReserved i a t (a .last) .dest) .kind) (due now (touchIdle now (ackReserved i a t (a .last) .dest))) (touchIdle now (ackReserved i a t (a .last) .dest)),
         ap length (touch-pending now (ackReserved i a t (a .last) .dest) ∙ r .pending),
         ap waitingRows (touch-subs now (ackReserved i a t (a .last) .dest) ∙ r .subs),
         ap length (touch-subs now (ackReserved i a t (a .last) .dest) ∙ r .subs),
@@ -89,7 +89,7 @@ module _ (L U : ℕ) (k : Kind) (N : ℕ) where
   absent-sends i (acknowledge a now) t f g = rw f (absent-ack now i a t g)
   absent-sends i (pulling timeout now) t f g = rw f (omega arith)
   absent-sends i (timedOut generation) t f g = rw f (omega arith)
-  absent-sends i (prefetching p now) t f g = rw f (fine-sends (t .kind) now t g)
+  absent-sends i (prefetching p now) t f g = rw f (fine-sends (t .kind) (due now t) t g)
 
   asked-sends : (i : Id) (q : Request) (t : Dest) (o : Option Sub) → subOf i t ≡ o → sound t ≡ true → Fine L U k N t → length (ask i t q .events) ≤ 545
   asked-sends i q t none f e g = absent-sends i q t f g
@@ -99,20 +99,20 @@ module _ (L U : ℕ) (k : Kind) (N : ℕ) where
 
 enqueue-sends : (L U : ℕ) (k : Kind) (N now : ℕ) (e : Entry) (t : Dest) → Fine L U k N t → Stores k e t → length (enqueueBy now e t k .events) ≤ 545
 unfolding enqueueBy dispatchBy
-enqueue-sends L U queue N now e t g y = fine-sends L U queue (N + 1) queue now (stored e t) (stored-fine L U N e t g (y .ok) (y .fits) (y .new))
-enqueue-sends L U topic N now e t g y = fine-sends L U topic (N + 1024) topic now (fannedOut e t) (fanned-fine L U N e t g (y .ok) (y .fits) (y .new))
+enqueue-sends L U queue N now e t g y = fine-sends L U queue (N + 1) queue (due now t) (stored e t) (stored-fine L U N e t g (y .ok) (y .fits) (y .new))
+enqueue-sends L U topic N now e t g y = fine-sends L U topic (N + 1024) topic (due now t) (fannedOut e t) (fanned-fine L U N e t g (y .ok) (y .fits) (y .new))
 
 leave-sends : (L U : ℕ) (k : Kind) (N now : ℕ) (i : Id) (last : ℤ) (t : Dest) (o : Option Sub) → subOf i t ≡ o → clockOk now ≡ true → Fine L U k N t → length (removeAt now i last t o .events) ≤ 545
 unfolding removeAt
 leave-sends L U k N now i last t none e h g = omega arith
-leave-sends L U k N now i last t (some s) e h g = fine-sends L U k (N + 512 + 1) _ now _ (touch-fine L U k (N + 512) now _ h
+leave-sends L U k N now i last t (some s) e h g = fine-sends L U k (N + 512 + 1) _ _ _ (touch-fine L U k (N + 512) now _ h
     (subst⁻¹ (λ (j : Kind). Fine L U k (N + 512) (returning now s last (dropSub i t) j)) (g .kind) (returning-fine L U k N now i last s t e g)))
 
 release-sends : (L U : ℕ) (k : Kind) (N now : ℕ) (i : Id) (t : Dest) → Fine L U k N t → length (returnReserved now i t .events) ≤ 545
 unfolding returnReserved
 release-sends L U k N now i t g = by-test (empty (reservedOf i t))
     (λ c. rw c (omega arith))
-    (λ c. rw c (fine-sends L U k (N + 512) _ now _ (release-some L U k N now i t c g)))
+    (λ c. rw c (fine-sends L U k (N + 512) _ _ _ (release-some L U k N now i t c g)))
 
 duplicate-sends : (i : Id) (q : ℕ) (t : Dest) (o : Option Rattle.definition.specs.Types.Audit) → length (testAt i q t o .events) ≤ 545
 unfolding testAt
@@ -121,7 +121,7 @@ duplicate-sends i q t (some a) = by-if (λ (r : Answer). length (r .events) ≤ 
 
 sweep-sends : (now most : ℕ) (t : Dest) → length (sweepExpired now most t .events) ≤ 545
 unfolding sweepExpired
-sweep-sends now most t = by-test (ltb 0 (sweepList most now (t .pending) .gone + sweepSubs (most - sweepList most now (t .pending) .gone) now (t .subs) .gone)) (λ c. rw c (omega arith)) (λ c. rw c (omega arith))
+sweep-sends now most t = by-test (ltb 0 (sweepList most (due now t) (t .pending) .gone + sweepSubs (most - sweepList most (due now t) (t .pending) .gone) (due now t) (t .subs) .gone)) (λ c. rw c (omega arith)) (λ c. rw c (omega arith))
 
 in-clock : (i : Id) (last : ℤ) (now : ℕ) → argumentsOk (leaving i last now) ≡ true → clockOk now ≡ true
 unfolding argumentsOk
@@ -130,7 +130,7 @@ in-clock i last now a = and-right (within (2 ^ 63) last) _ (and-right (idOk i) _
 perform-sends : (L U : ℕ) (k : Kind) (N : ℕ) (c : Call) (t : Dest) → 1 ≤ N → sound t ≡ true → Fine L U k N t → argumentsOk c ≡ true → ownRefusal t c ≡ 0 → length (perform t c .events) ≤ 545
 unfolding perform addSub removeSub clear isDuplicate
 perform-sends L U k N (enqueuing e now) t n y g a o = subst⁻¹ (λ (j : Kind). length (enqueueBy now e t j .events) ≤ 545) (g .kind) (enqueue-sends L U k N now e t g (stores L U k N e now t g a o))
-perform-sends L U k N (joining p now) t n y g a o = fine-sends L U k (N + 513) _ now _ (joins L U k N p now t n g a o)
+perform-sends L U k N (joining p now) t n y g a o = fine-sends L U k (N + 513) _ _ _ (joins L U k N p now t n g a o)
 perform-sends L U k N (leaving i last now) t n y g a o = leave-sends L U k N now i last t (subOf i t) refl (in-clock i last now a) g
 perform-sends L U k N (asking i q) t n y g a o = asked-sends L U k N i q t (subOf i t) refl y g
 perform-sends L U k N (unmarking i) t n y g a o = omega arith

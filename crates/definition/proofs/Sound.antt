@@ -95,16 +95,17 @@ pub record Facts (t : Dest) : Type 0 where
   pub mark : optional clockOk (t .idle) ≡ true
   pub few-audits : leb (length (t .audits)) 8 ≡ true
   pub audits : all auditOk (t .audits) ≡ true
+  pub allowance : leb (t .allowance) 86400000 ≡ true
 
 pub facts : (t : Dest) → sound t ≡ true → Facts t
 unfolding sound
 facts t e =
     let f = every-all (soundTests t) e in
-    record { limit-low = f .0; limit-high = f .1 .0; calls = f .1 .1 .0; topic-limit = f .1 .1 .1 .0; few-subs = f .1 .1 .1 .1 .0; few-producers = f .1 .1 .1 .1 .1 .0; producers = f .1 .1 .1 .1 .1 .1 .0; few-rows = f .1 .1 .1 .1 .1 .1 .1 .0; entries = f .1 .1 .1 .1 .1 .1 .1 .1 .0; holders = f .1 .1 .1 .1 .1 .1 .1 .1 .1 .0; sorted = f .1 .1 .1 .1 .1 .1 .1 .1 .1 .1 .0; consumers = f .1 .1 .1 .1 .1 .1 .1 .1 .1 .1 .1 .0; ids = f .1 .1 .1 .1 .1 .1 .1 .1 .1 .1 .1 .1 .0; places = f .1 .1 .1 .1 .1 .1 .1 .1 .1 .1 .1 .1 .1 .0; turn = f .1 .1 .1 .1 .1 .1 .1 .1 .1 .1 .1 .1 .1 .1 .0; counters = f .1 .1 .1 .1 .1 .1 .1 .1 .1 .1 .1 .1 .1 .1 .1 .0; mark = f .1 .1 .1 .1 .1 .1 .1 .1 .1 .1 .1 .1 .1 .1 .1 .1 .0; few-audits = f .1 .1 .1 .1 .1 .1 .1 .1 .1 .1 .1 .1 .1 .1 .1 .1 .1 .0; audits = f .1 .1 .1 .1 .1 .1 .1 .1 .1 .1 .1 .1 .1 .1 .1 .1 .1 .1 .0 }
+    record { limit-low = f .0; limit-high = f .1 .0; calls = f .1 .1 .0; topic-limit = f .1 .1 .1 .0; few-subs = f .1 .1 .1 .1 .0; few-producers = f .1 .1 .1 .1 .1 .0; producers = f .1 .1 .1 .1 .1 .1 .0; few-rows = f .1 .1 .1 .1 .1 .1 .1 .0; entries = f .1 .1 .1 .1 .1 .1 .1 .1 .0; holders = f .1 .1 .1 .1 .1 .1 .1 .1 .1 .0; sorted = f .1 .1 .1 .1 .1 .1 .1 .1 .1 .1 .0; consumers = f .1 .1 .1 .1 .1 .1 .1 .1 .1 .1 .1 .0; ids = f .1 .1 .1 .1 .1 .1 .1 .1 .1 .1 .1 .1 .0; places = f .1 .1 .1 .1 .1 .1 .1 .1 .1 .1 .1 .1 .1 .0; turn = f .1 .1 .1 .1 .1 .1 .1 .1 .1 .1 .1 .1 .1 .1 .0; counters = f .1 .1 .1 .1 .1 .1 .1 .1 .1 .1 .1 .1 .1 .1 .1 .0; mark = f .1 .1 .1 .1 .1 .1 .1 .1 .1 .1 .1 .1 .1 .1 .1 .1 .0; few-audits = f .1 .1 .1 .1 .1 .1 .1 .1 .1 .1 .1 .1 .1 .1 .1 .1 .1 .0; audits = f .1 .1 .1 .1 .1 .1 .1 .1 .1 .1 .1 .1 .1 .1 .1 .1 .1 .1 .0; allowance = f .1 .1 .1 .1 .1 .1 .1 .1 .1 .1 .1 .1 .1 .1 .1 .1 .1 .1 .1 .0 }
 
 pub from-facts : (t : Dest) → Facts t → sound t ≡ true
 unfolding sound
-from-facts t f = all-every (soundTests t) (f .limit-low, (f .limit-high, (f .calls, (f .topic-limit, (f .few-subs, (f .few-producers, (f .producers, (f .few-rows, (f .entries, (f .holders, (f .sorted, (f .consumers, (f .ids, (f .places, (f .turn, (f .counters, (f .mark, (f .few-audits, (f .audits, tt)))))))))))))))))))
+from-facts t f = all-every (soundTests t) (f .limit-low, (f .limit-high, (f .calls, (f .topic-limit, (f .few-subs, (f .few-producers, (f .producers, (f .few-rows, (f .entries, (f .holders, (f .sorted, (f .consumers, (f .ids, (f .places, (f .turn, (f .counters, (f .mark, (f .few-audits, (f .audits, (f .allowance, tt))))))))))))))))))))
 
 -- ---- bounds that rise with the calls used
 
@@ -154,6 +155,7 @@ own-sound i q s t found a h e = from-facts (used (changed i v c t)) (record {
   mark = f .mark;
   few-audits = f .few-audits;
   audits = f .audits;
+  allowance = f .allowance;
 })
   where
     v : Sub

@@ -73,6 +73,7 @@ pub record Frame (L U : ℕ) (t : Dest) : Type 0 where
   pub limit : t .callLimit ≡ L
   pub used : t .callsUsed ≡ U
   pub topic-limit : leb (t .topicLimit) 512 ≡ true
+  pub allowance : leb (t .allowance) 86400000 ≡ true
   pub few-producers : leb (length (t .producers)) 32 ≡ true
   pub producers : all idOk (t .producers) ≡ true
   pub few-audits : leb (length (t .audits)) 8 ≡ true
@@ -168,7 +169,7 @@ fine t e =
     let s = sound-sane (t .kind) (t .callsUsed) (t .subs) (f .consumers) in
     record {
       kind = refl;
-      frame = record { limit = refl; used = refl; topic-limit = f .topic-limit; few-producers = f .few-producers; producers = f .producers; few-audits = f .few-audits; audits = f .audits; holders = f .holders; mark = f .mark };
+      frame = record { limit = refl; used = refl; topic-limit = f .topic-limit; allowance = f .allowance; few-producers = f .few-producers; producers = f .producers; few-audits = f .few-audits; audits = f .audits; holders = f .holders; mark = f .mark };
       few-subs = leb-true _ _ (f .few-subs);
       subs = s;
       ids = f .ids;
@@ -203,6 +204,7 @@ unfine L U k N t a b c n f =
       mark = f .frame .mark;
       few-audits = f .frame .few-audits;
       audits = f .frame .audits;
+      allowance = f .frame .allowance;
     })
   where
     again : (j : Kind) → Once j t → Once j (used t)

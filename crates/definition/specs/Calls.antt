@@ -10,7 +10,7 @@ use Rattle.audit.specs.Audit.{window}
 use Rattle.definition.specs.Base.{if_then_else_, find, tally, all, every, empty, member, distinct, ascending, is-some}
 use Rattle.definition.specs.Types.{Kind, queue, topic, Id, Entry, Sub, Stats, Audit, Dest, Event, withCallsUsed}
 use Rattle.definition.specs.Consumer.{sameId, zeroStats, addDiscarded, addExpired, expired, accepts, selects, Ack, isBrowser, snapshot}
-use Rattle.definition.specs.Destination.{Out, Answer, Spec, subOf, count, enqueue, addSub, setPrefetch, ack, pull, pullTimeout, removeSub, unmarked, returnReserved, sweepExpired, clear, isProducer, addProducer, removeProducer, auditOf, isDuplicate, releaseAudits}
+use Rattle.definition.specs.Destination.{Out, Answer, Spec, subOf, count, due, enqueue, addSub, setPrefetch, ack, pull, pullTimeout, removeSub, unmarked, returnReserved, sweepExpired, clear, isProducer, addProducer, removeProducer, auditOf, isDuplicate, releaseAudits}
 
 -- ---- lent buffers
 
@@ -23,7 +23,7 @@ pub record Lengths : Type 0 where
 
 -- a state buffer is short: docs/LAYOUT.md has the sizes
 unfoldable pub stateShort : Lengths → Bool
-stateShort l = ltb (l .head) 8345 || (ltb (l .subs) 32 || ltb (l .rows) 512)
+stateShort l = ltb (l .head) 8346 || (ltb (l .subs) 32 || ltb (l .rows) 512)
 
 -- refusal 1, of a call that may send
 unfoldable pub short : Lengths → Bool
@@ -142,6 +142,7 @@ soundTests t =
     ∷ optional clockOk (t .idle)
     ∷ leb (length (t .audits)) 8
     ∷ all auditOk (t .audits)
+    ∷ leb (t .allowance) 86400000
     ∷ []
 
 unfoldable pub sound : Dest → Bool
@@ -223,7 +224,7 @@ rowsFor e t queue = 1
 rowsFor e t topic = tally (λ s. accepts s e) (t .subs)
 
 abbrev pub snapshotRows : ℕ → Spec → Dest → ℕ
-snapshotRows now p t = if p .browser then tally (λ e. not (expired (pos now) e) && selects (e .«match_word») (p .selector)) (t .pending) else 0
+snapshotRows now p t = if p .browser then tally (λ e. not (expired (pos (due now t)) e) && selects (e .«match_word») (p .selector)) (t .pending) else 0
 
 -- the refusals that are one call's own; 0 for none
 unfoldable pub ownRefusal : Dest → Call → ℕ
@@ -288,14 +289,15 @@ call lent c t =
 
 -- ---- open
 
-abbrev pub openOk : Kind → ℕ → ℕ → ℕ → Bool
-openOk k topicLimit callLimit now = every (leb topicLimit 512 ∷ leb 1 callLimit ∷ leb callLimit (2 ^ 40) ∷ clockOk now ∷ [])
+abbrev pub openOk : Kind → ℕ → ℕ → ℕ → ℕ → Bool
+openOk k topicLimit callLimit now allowance = every (leb topicLimit 512 ∷ leb 1 callLimit ∷ leb callLimit (2 ^ 40) ∷ clockOk now ∷ leb allowance 86400000 ∷ [])
 
-abbrev pub opened : Kind → ℕ → ℕ → ℕ → Dest
-opened k topicLimit callLimit now = record {
+abbrev pub opened : Kind → ℕ → ℕ → ℕ → ℕ → Dest
+opened k topicLimit callLimit now allowance = record {
   kind = k;
   topicLimit = topicLimit;
   callLimit = callLimit;
+  allowance = allowance;
   callsUsed = 0;
   pending = [];
   subs = [];

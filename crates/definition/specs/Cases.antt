@@ -35,7 +35,7 @@ numbers (null i ∷ es) = 2 ∷ i .conn ∷ numbers es
 
 -- the state lent whole, and a list of so many events
 abbrev whole : ℕ → Lengths
-whole events = record { head = 8345; subs = 32; rows = 512; events = events }
+whole events = record { head = 8346; subs = 32; rows = 512; events = events }
 
 abbrev entry : ℕ → ℤ → Entry
 entry s ex = record { seq = s; expiration = ex; persistent = true; producer = 7; «match_word» = 0; redelivery = pos 0 }
@@ -45,6 +45,9 @@ consumer k = record { conn = k; session = pos 1; value = pos 1 }
 
 abbrev plain : ℕ → ℤ → Spec
 plain k p = record { id = consumer k; prefetch = p; selector = 64; noLocal = false; browser = false }
+
+abbrev browsing : ℕ → ℤ → Spec
+browsing k p = record { id = consumer k; prefetch = p; selector = 64; noLocal = false; browser = true }
 
 -- in flight: delivery numbers 1, 2, 3 with sequence numbers 10, 20, 30
 abbrev three : Sub
@@ -76,15 +79,26 @@ counters t = t .stats .enqueued ∷ t .stats .dequeued ∷ t .stats .expired ∷
 
 -- document 01, "The call file": the example
 abbrev example : Ran
-example = ran (enqueuing (entry 5 (pos 0)) 10 ∷ enqueuing (entry 3 (pos 20)) 10 ∷ joining (plain 9 (pos 1)) 30 ∷ asking (consumer 9) (acknowledge (acks 4 false none (some 5)) 31) ∷ []) (opened queue 0 100 0)
+example = ran (enqueuing (entry 5 (pos 0)) 10 ∷ enqueuing (entry 3 (pos 20)) 10 ∷ joining (plain 9 (pos 1)) 30 ∷ asking (consumer 9) (acknowledge (acks 4 false none (some 5)) 31) ∷ []) (opened queue 0 100 0 0)
 
 -- pulls at prefetch 0, with nothing waiting
 abbrev pulls : Ran
-pulls = ran (joining (plain 9 (pos 0)) 1 ∷ asking (consumer 9) (pulling (pos 5) 2) ∷ asking (consumer 9) (pulling (pos 5) 2) ∷ asking (consumer 9) (timedOut 1) ∷ asking (consumer 9) (timedOut 2) ∷ asking (consumer 9) (pulling (negsuc 0) 3) ∷ asking (consumer 9) (pulling (pos 0) 3) ∷ []) (opened queue 0 100 0)
+pulls = ran (joining (plain 9 (pos 0)) 1 ∷ asking (consumer 9) (pulling (pos 5) 2) ∷ asking (consumer 9) (pulling (pos 5) 2) ∷ asking (consumer 9) (timedOut 1) ∷ asking (consumer 9) (timedOut 2) ∷ asking (consumer 9) (pulling (negsuc 0) 3) ∷ asking (consumer 9) (pulling (pos 0) 3) ∷ []) (opened queue 0 100 0 0)
 
 -- topic limit 2, no credit, arrivals 5, 6, 4
 abbrev limited : Ran
-limited = ran (joining (plain 9 (pos 0)) 1 ∷ enqueuing (entry 5 (pos 0)) 1 ∷ enqueuing (entry 6 (pos 0)) 1 ∷ enqueuing (entry 4 (pos 0)) 1 ∷ asking (consumer 9) (prefetching (pos 7) 2) ∷ []) (opened topic 2 100 0)
+limited = ran (joining (plain 9 (pos 0)) 1 ∷ enqueuing (entry 5 (pos 0)) 1 ∷ enqueuing (entry 6 (pos 0)) 1 ∷ enqueuing (entry 4 (pos 0)) 1 ∷ asking (consumer 9) (prefetching (pos 7) 2) ∷ []) (opened topic 2 100 0 0)
+
+-- an allowance of 10: 1 with expiration 20 waits, and goes out at 29 and not at 30; a sweep and a browser do the same; the mark is the call's clock
+abbrev markOf : Option ℕ → ℕ
+markOf none = 0
+markOf (some k) = k
+
+abbrev slow : Dest
+slow = ran (enqueuing (entry 1 (pos 20)) 1 ∷ []) (opened queue 0 100 0 10) .dest
+
+abbrev slowly : Call → List ℕ
+slowly c = let r = ran (c ∷ []) slow in r .seen ++ r .dest .stats .expired ∷ []
 
 -- what returns to the queue, as redelivery counts (each small and not negative)
 abbrev small : ℤ → ℕ
@@ -97,12 +111,12 @@ counts es = map (λ e. small (e .redelivery)) es
 -- a full run: three in flight, the last in a transaction; the consumer leaves
 abbrev left : ℤ → Ran
 left last = ran (joining (plain 9 (pos 3)) 1 ∷ enqueuing (entry 10 (pos 0)) 1 ∷ enqueuing (entry 20 (pos 0)) 1 ∷ enqueuing (entry 30 (pos 0)) 1
-    ∷ asking (consumer 9) (acknowledge (acks 4 true (some 30) (some 30)) 2) ∷ leaving (consumer 9) last 3 ∷ []) (opened queue 0 100 0)
+    ∷ asking (consumer 9) (acknowledge (acks 4 true (some 30) (some 30)) 2) ∷ leaving (consumer 9) last 3 ∷ []) (opened queue 0 100 0 0)
 
 -- three in flight, all acknowledged in a transaction; the consumer leaves, and they stay reserved
 abbrev kept : Ran
 kept = ran (joining (plain 9 (pos 3)) 1 ∷ enqueuing (entry 10 (pos 0)) 1 ∷ enqueuing (entry 20 (pos 0)) 1 ∷ enqueuing (entry 30 (pos 0)) 1
-    ∷ asking (consumer 9) (acknowledge (acks 2 true none (some 30)) 2) ∷ leaving (consumer 9) (negsuc 0) 3 ∷ []) (opened queue 0 100 0)
+    ∷ asking (consumer 9) (acknowledge (acks 2 true none (some 30)) 2) ∷ leaving (consumer 9) (negsuc 0) 3 ∷ []) (opened queue 0 100 0 0)
 
 -- then a STANDARD with last -1, or a POISON with first and last -1
 abbrev afterwards : ℕ → Option ℕ → Ran
@@ -111,7 +125,7 @@ afterwards type first = ran (asking (consumer 9) (acknowledge (acks type false f
 -- two marked in a transaction, and a release of the present consumer, by halves
 abbrev rolled : List Call → List ℕ
 rolled cs = map (λ s. length (keep (λ i. i .tx) (Sub.inflight s))) (ran (joining (plain 9 (pos 3)) 1 ∷ enqueuing (entry 10 (pos 0)) 1 ∷ enqueuing (entry 20 (pos 0)) 1
-    ∷ asking (consumer 9) (acknowledge (acks 2 true none (some 20)) 2) ∷ cs) (opened queue 0 100 0) .dest .subs)
+    ∷ asking (consumer 9) (acknowledge (acks 2 true none (some 20)) 2) ∷ cs) (opened queue 0 100 0 0) .dest .subs)
 
 abbrev acked : List ℕ → List Call
 acked [] = []
@@ -120,7 +134,7 @@ acked (k ∷ ks) = asking (consumer 1) (acknowledge (acks 2 false none (some k))
 -- three consumers, the turn moved by messages, and one leaves
 abbrev turned : List ℕ → ℕ → ℕ
 turned sent gone = ran (joining (plain 1 (pos 9)) 1 ∷ joining (plain 2 (pos 9)) 1 ∷ joining (plain 3 (pos 9)) 1 ∷ (map (λ k. enqueuing (entry k (pos 0)) 1) sent
-    ++ (acked sent ++ leaving (consumer gone) (negsuc 0) 2 ∷ []))) (opened queue 0 100 0) .dest .rr
+    ++ (acked sent ++ leaving (consumer gone) (negsuc 0) 2 ∷ []))) (opened queue 0 100 0 0) .dest .rr
 
 -- an audit's numbers after 0 to 1,023
 abbrev window : List ℕ
@@ -141,7 +155,7 @@ minus n = 18446744073709551616 - n
 
 -- the state before any open
 abbrev zeros : Dest
-zeros = opened queue 0 0 0
+zeros = opened queue 0 0 0 0
 
 abbrev wordsRan : List (ℕ × List ℕ) → Dest → Ran
 wordsRan [] t = record { seen = []; dest = t }
@@ -183,14 +197,11 @@ sent l = map (λ k. enqueuing (entry k (pos 0)) 1) l
 
 -- three in flight with these redelivery counters, and the consumer leaves
 abbrev leftWith : ℤ → ℤ → List Entry
-leftWith r last = ran (joining (plain 9 (pos 3)) 1 ∷ (map (λ k. enqueuing (returned k r) 1) (10 ∷ 20 ∷ 30 ∷ []) ++ leaving (consumer 9) last 3 ∷ [])) (opened queue 0 100 0) .dest .pending
-
-abbrev browsing : ℕ → ℤ → Spec
-browsing k p = record { id = consumer k; prefetch = p; selector = 64; noLocal = false; browser = true }
+leftWith r last = ran (joining (plain 9 (pos 3)) 1 ∷ (map (λ k. enqueuing (returned k r) 1) (10 ∷ 20 ∷ 30 ∷ []) ++ leaving (consumer 9) last 3 ∷ [])) (opened queue 0 100 0 0) .dest .pending
 
 -- 10, 20 and 30 wait; the browser 9 and the consumer 8 have 10 in flight each; then a clear
 abbrev emptied : Ran
-emptied = ran (sent (10 ∷ 20 ∷ 30 ∷ []) ++ (joining (browsing 9 (pos 1)) 2 ∷ joining (plain 8 (pos 1)) 2 ∷ clearing ∷ [])) (opened queue 0 100 0)
+emptied = ran (sent (10 ∷ 20 ∷ 30 ∷ []) ++ (joining (browsing 9 (pos 1)) 2 ∷ joining (plain 8 (pos 1)) 2 ∷ clearing ∷ [])) (opened queue 0 100 0 0)
 
 -- and what one more call gets
 abbrev then : Call → List ℕ
@@ -198,24 +209,24 @@ then c = ran (c ∷ []) (emptied .dest) .seen
 
 abbrev onTopic : Ran
 onTopic = ran (joining (browsing 9 (pos 5)) 1 ∷ (sent (10 ∷ 20 ∷ 30 ∷ []) ++ (asking (consumer 9) (acknowledge (acks 2 false none (some 10)) 2) ∷ asking (consumer 9) (acknowledge (acks 6 false none (some 20)) 2)
-    ∷ asking (consumer 9) (acknowledge (acks 1 false none (some 30)) 2) ∷ []))) (opened topic 0 100 0)
+    ∷ asking (consumer 9) (acknowledge (acks 1 false none (some 30)) 2) ∷ []))) (opened topic 0 100 0 0)
 
 -- 20 expires first, then 10
 abbrev sweeps : Ran
 sweeps = ran (enqueuing (entry 10 (pos 50)) 1 ∷ enqueuing (entry 20 (pos 40)) 1 ∷ enqueuing (entry 30 (pos 0)) 1 ∷ enqueuing (entry 40 (pos 60)) 1
-    ∷ sweeping 55 1 ∷ sweeping 55 512 ∷ sweeping 55 512 ∷ []) (opened queue 0 100 0)
+    ∷ sweeping 55 1 ∷ sweeping 55 512 ∷ sweeping 55 512 ∷ []) (opened queue 0 100 0 0)
 
 -- a producer's audit of 0 to 1,023, and what three tests answer
 abbrev audited : Ran
-audited = ran (testing (consumer 7) 1024 ∷ testing (consumer 7) 1024 ∷ testing (consumer 7) 0 ∷ []) (withAudits (record { producer = consumer 7; order = window } ∷ []) (opened queue 0 100 0))
+audited = ran (testing (consumer 7) 1024 ∷ testing (consumer 7) 1024 ∷ testing (consumer 7) 0 ∷ []) (withAudits (record { producer = consumer 7; order = window } ∷ []) (opened queue 0 100 0 0))
 
 -- two consumers of prefetch 0, nothing waiting
 abbrev bothPull : Ran
-bothPull = ran (joining (plain 8 (pos 0)) 1 ∷ joining (plain 9 (pos 0)) 1 ∷ asking (consumer 8) (pulling (pos 5) 2) ∷ asking (consumer 9) (pulling (pos 5) 2) ∷ []) (opened queue 0 100 0)
+bothPull = ran (joining (plain 8 (pos 0)) 1 ∷ joining (plain 9 (pos 0)) 1 ∷ asking (consumer 8) (pulling (pos 5) 2) ∷ asking (consumer 9) (pulling (pos 5) 2) ∷ []) (opened queue 0 100 0 0)
 
 -- a browser of an empty queue, and one more dispatch
 abbrev browsed : Ran
-browsed = ran (joining (browsing 9 (pos 1)) 1 ∷ asking (consumer 5) (prefetching (pos 1) 2) ∷ []) (opened queue 0 100 0)
+browsed = ran (joining (browsing 9 (pos 1)) 1 ∷ asking (consumer 5) (prefetching (pos 1) 2) ∷ []) (opened queue 0 100 0 0)
 
 abbrev seqsOf : List Entry → List ℕ
 seqsOf es = map (λ e. e .seq) es
@@ -223,16 +234,16 @@ seqsOf es = map (λ e. e .seq) es
 -- ---- refusals of one call, on tables that are nearly full
 
 abbrev filled : ℕ → Dest
-filled k = withPending (map (λ n. entry n (pos 0)) (upFrom 1 k)) (opened queue 0 100 0)
+filled k = withPending (map (λ n. entry n (pos 0)) (upFrom 1 k)) (opened queue 0 100 0 0)
 
 abbrev crowd : ℕ → Dest
-crowd k = withSubs (map (λ n. newSub (plain n (pos 1)) none) (upFrom 1 k)) (opened topic 0 100 0)
+crowd k = withSubs (map (λ n. newSub (plain n (pos 1)) none) (upFrom 1 k)) (opened topic 0 100 0 0)
 
 abbrev known : ℕ → Dest
-known k = withProducers (map consumer (upFrom 1 k)) (opened queue 0 100 0)
+known k = withProducers (map consumer (upFrom 1 k)) (opened queue 0 100 0 0)
 
 abbrev windows : ℕ → Dest
-windows k = withAudits (map (λ n. record { producer = consumer n; order = [] }) (upFrom 1 k)) (opened queue 0 100 0)
+windows k = withAudits (map (λ n. record { producer = consumer n; order = [] }) (upFrom 1 k)) (opened queue 0 100 0 0)
 
 abbrev refusing : ℕ → Dest → Call → Bool
 refusing n t c = eqb (ownRefusal t c) n
@@ -240,7 +251,7 @@ refusing n t c = eqb (ownRefusal t c) n
 -- ---- queries
 
 abbrev waiting : Dest
-waiting = ran (sent (10 ∷ 20 ∷ 30 ∷ [])) (opened queue 0 100 0) .dest
+waiting = ran (sent (10 ∷ 20 ∷ 30 ∷ [])) (opened queue 0 100 0 0) .dest
 
 abbrev answers : ℕ → ℕ → Asked → Bool
 answers refusal answer a = eqb (a .refusal) refusal && eqb (a .answer) answer
@@ -255,7 +266,7 @@ zeroes n = map (λ k. 0) (upFrom 0 n)
 
 -- a queue with one consumer, which has 5 in flight; 6 waits, with redelivery -1
 abbrev lentHead : ℕ → List ℕ
-lentHead waits = 0 ∷ 0 ∷ 100 ∷ 3 ∷ 0 ∷ 0 ∷ 0 ∷ 2 ∷ 0 ∷ 0 ∷ 0 ∷ 1 ∷ 1 ∷ 0 ∷ 0 ∷ 0 ∷ waits ∷ zeroes 8328
+lentHead waits = 0 ∷ 0 ∷ 100 ∷ 3 ∷ 0 ∷ 0 ∷ 0 ∷ 2 ∷ 0 ∷ 0 ∷ 0 ∷ 1 ∷ 1 ∷ 0 ∷ 0 ∷ 0 ∷ waits ∷ zeroes 8329
 
 abbrev lentSub : List ℕ
 lentSub = 9 ∷ 1 ∷ 1 ∷ 1 ∷ 64 ∷ 0 ∷ 0 ∷ 0 ∷ 2 ∷ 5 ∷ 0 ∷ 0 ∷ 0 ∷ 0 ∷ 1 ∷ 0 ∷ []
@@ -323,6 +334,11 @@ words =
     ∷ sameNumbers (got 0 (2 ∷ []) zeros) (3 ∷ 0 ∷ [])
     ∷ eqb (step (whole 544) 16 [] zeros .refusal) 1
     ∷ eqb (step (whole 544) 0 (2 ∷ []) zeros .refusal) 1
+    -- open's fifth argument is at most 86,400,000
+    ∷ sameNumbers (got 0 (0 ∷ 0 ∷ 1 ∷ 0 ∷ 86400000 ∷ 0 ∷ 0 ∷ 0 ∷ []) zeros) (0 ∷ 0 ∷ [])
+    ∷ sameNumbers (got 0 (0 ∷ 0 ∷ 1 ∷ 0 ∷ 86400001 ∷ 0 ∷ 0 ∷ 0 ∷ []) zeros) (3 ∷ 0 ∷ [])
+    ∷ sameNumbers (got 0 (0 ∷ 0 ∷ 1 ∷ 0 ∷ 0 ∷ 1 ∷ 0 ∷ 0 ∷ []) zeros) (3 ∷ 0 ∷ [])
+    ∷ not (sound (opened queue 0 1 0 86400001))
     ∷ gets 3 16 (0 ∷ 0 ∷ 0 ∷ 0 ∷ 0 ∷ 0 ∷ 0 ∷ 0 ∷ [])
     ∷ gets 3 10 (0 ∷ 0 ∷ 0 ∷ 0 ∷ 0 ∷ 0 ∷ 0 ∷ 1 ∷ [])
     ∷ gets 3 1 (5 ∷ 0 ∷ 2 ∷ 7 ∷ 0 ∷ 0 ∷ 10 ∷ 0 ∷ [])
@@ -432,6 +448,15 @@ corners =
     ∷ sameNumbers (bothPull .seen) (0 ∷ 0 ∷ 0 ∷ 0 ∷ 0 ∷ 1 ∷ 0 ∷ 1 ∷ [])
     -- Topic limit 2, no credit, arrivals 5, 6, 4: the copy of 4 is discarded
     ∷ sameNumbers (limited .seen) (0 ∷ 0 ∷ 0 ∷ 0 ∷ 0 ∷ 0 ∷ 0 ∷ 0 ∷ 0 ∷ 0 ∷ 1 ∷ 9 ∷ 5 ∷ 1 ∷ 9 ∷ 6 ∷ [])
+    -- allowance 10, expiration 20: not expired at 29, expired at 30 (document 02 §4)
+    ∷ sameNumbers (slowly (joining (plain 9 (pos 1)) 29)) (0 ∷ 0 ∷ 1 ∷ 9 ∷ 1 ∷ 0 ∷ [])
+    ∷ sameNumbers (slowly (joining (plain 9 (pos 1)) 30)) (0 ∷ 0 ∷ 1 ∷ [])
+    ∷ sameNumbers (slowly (joining (browsing 9 (pos 1)) 29)) (0 ∷ 0 ∷ 1 ∷ 9 ∷ 1 ∷ 0 ∷ [])
+    ∷ sameNumbers (slowly (joining (browsing 9 (pos 1)) 30)) (0 ∷ 0 ∷ 2 ∷ 9 ∷ 1 ∷ [])
+    ∷ sameNumbers (slowly (sweeping 29 512)) (0 ∷ 0 ∷ 0 ∷ [])
+    ∷ sameNumbers (slowly (sweeping 30 512)) (0 ∷ 1 ∷ 1 ∷ [])
+    ∷ sameNumbers (slowly (sweeping 5 512)) (0 ∷ 0 ∷ 0 ∷ [])
+    ∷ eqb (markOf (ran (sweeping 30 512 ∷ []) slow .dest .idle)) 30
     -- Turn at 2, the third leaves: turn 0. Turn at 1, the first leaves: turn stays 1
     ∷ eqb (turned (10 ∷ 20 ∷ []) 3) 0
     ∷ eqb (turned (10 ∷ []) 1) 1
@@ -441,7 +466,7 @@ corners =
     ∷ not (seen 1024 window)
     ∷ eqb (firstOf (recorded 1024 window)) 1
     -- a duplicate test for connection 0 answers 0 and records nothing
-    ∷ sameNumbers (ran (testing (consumer 0) 5 ∷ testing (consumer 0) 5 ∷ []) (opened queue 0 100 0) .seen) (0 ∷ 0 ∷ 0 ∷ 0 ∷ [])
+    ∷ sameNumbers (ran (testing (consumer 0) 5 ∷ testing (consumer 0) 5 ∷ []) (opened queue 0 100 0 0) .seen) (0 ∷ 0 ∷ 0 ∷ 0 ∷ [])
     -- A clear empties browser snapshots without counting them, counts browser entries in flight, and dispatches nothing
     ∷ sameNumbers (emptied .seen) (0 ∷ 0 ∷ 0 ∷ 0 ∷ 0 ∷ 0 ∷ 0 ∷ 0 ∷ 1 ∷ 9 ∷ 10 ∷ 0 ∷ 0 ∷ 1 ∷ 8 ∷ 10 ∷ 0 ∷ 4 ∷ [])
     -- An unfinished browser gets its closing null at a later dispatch; a prefetch change of an absent consumer dispatches
@@ -490,7 +515,7 @@ refusals =
     ∷ refusing 0 (windows 8) (testing (consumer 8) 5)
     ∷ refusing 0 (windows 8) (testing (consumer 0) 5)
     -- 9: calls used equals the call limit
-    ∷ sameNumbers (ran (discarding ∷ missing ∷ []) (opened queue 0 1 0) .seen) (0 ∷ 0 ∷ 9 ∷ 0 ∷ [])
+    ∷ sameNumbers (ran (discarding ∷ missing ∷ []) (opened queue 0 1 0 0) .seen) (0 ∷ 0 ∷ 9 ∷ 0 ∷ [])
     ∷ []
 
 abbrev queries : List Bool
@@ -506,13 +531,13 @@ queries =
     ∷ answers 0 30 (query (whole 0) (sequence 2) waiting)
     ∷ answers 0 0 (query (whole 0) (sequence 3) waiting)
     -- idle time is the clock less the mark, in whole seconds, 0 if the clock went back
-    ∷ answers 0 1 (query (whole 0) (idle 6000 5) (opened queue 0 1 1000))
-    ∷ answers 0 0 (query (whole 0) (idle 5999 5) (opened queue 0 1 1000))
-    ∷ answers 0 1 (query (whole 0) (idle 0 0) (opened queue 0 1 1000))
+    ∷ answers 0 1 (query (whole 0) (idle 6000 5) (opened queue 0 1 1000 0))
+    ∷ answers 0 0 (query (whole 0) (idle 5999 5) (opened queue 0 1 1000 0))
+    ∷ answers 0 1 (query (whole 0) (idle 0 0) (opened queue 0 1 1000 0))
     ∷ answers 0 0 (query (whole 0) (idle 6000 0) waiting)
     ∷ answers 3 0 (query (whole 0) (idle 4611686018427387905 0) waiting)
     ∷ answers 2 0 (query (whole 0) messages zeros)
-    ∷ answers 1 0 (query (record { head = 8344; subs = 32; rows = 512; events = 0 }) messages waiting)
+    ∷ answers 1 0 (query (record { head = 8345; subs = 32; rows = 512; events = 0 }) messages waiting)
     ∷ pages 0 3 (20 ∷ 30 ∷ []) (page (whole 0) 50 1 60 waiting)
     ∷ pages 0 3 (10 ∷ []) (page (whole 0) 50 0 1 waiting)
     ∷ pages 0 3 [] (page (whole 0) 50 3 50 waiting)

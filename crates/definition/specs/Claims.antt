@@ -2,10 +2,13 @@
 use Prim.Native.Nat.{ℕ, _+_, _≤_}
 use mathlib.Core.Path.{_≡_}
 use mathlib.Core.Bool.{Bool, true}
+use mathlib.Core.Logic.{_↔_}
 use mathlib.Core.List.{List, []}
+use lib.IntN.{pos}
 use lib.ListN.{length}
-use Rattle.definition.specs.Types.{Id, Dest, withCallsUsed}
-use Rattle.definition.specs.Destination.{releaseReserved}
+use Rattle.definition.specs.Types.{Id, Entry, Dest, withCallsUsed}
+use Rattle.definition.specs.Consumer.{expired}
+use Rattle.definition.specs.Destination.{due, releaseReserved}
 use Rattle.definition.specs.Calls.{Lengths, Call, sound, Result, call}
 use Rattle.definition.specs.Words.{at, idOf, step}
 use Rattle.definition.specs.Orders.{Reached}
@@ -43,3 +46,11 @@ ReleaseHalves = (lent : Lengths) (words : List ℕ) (late : Lengths) (more : Lis
     let first = step lent 8 words t in
     let second = step late 15 more (first .dest) in
     first .refusal ≡ 0 → second .refusal ≡ 0 → Halves (at 3 more) (idOf words) t first second
+
+-- document 02 §4: by the clock that a call hands on, an entry is expired exactly if its expiration is above 0 and at most the clock less the allowance
+abbrev pub ExpiresBy : Type 0
+ExpiresBy = (now : ℕ) (t : Dest) (e : Entry) → (expired (pos (due now t)) e ≡ true) ↔ ((x : ℕ) × (e .expiration ≡ pos x) × (1 ≤ x) × (x + t .allowance ≤ now))
+
+-- with allowance 0 that clock is the call's own
+abbrev pub NoAllowance : Type 0
+NoAllowance = (now : ℕ) (t : Dest) → t .allowance ≡ 0 → due now t ≡ now

@@ -1,4 +1,5 @@
--- The destination: `impl Dest` of destination.rs. A call's clock is `now`. Assumes nothing.
+-- The destination: `impl Dest` of destination.rs. A call's clock is `now`; entries expire by `due now`, from `dispatch` on, and there `now` is that one.
+-- Assumes nothing.
 use Prim.Native.Nat.{ℕ, zero, suc, _+_, _-_, _%_, min}
 use mathlib.Core.Bool.{Bool, true, false, not, _&&_, _||_}
 use mathlib.Core.List.{List, [], _∷_, _++_, map}
@@ -166,9 +167,13 @@ unfoldable pub dispatchBy : ℕ → Dest → Kind → Out
 dispatchBy now t queue = dispatchQueue now t
 dispatchBy now t topic = dispatchTopic now t
 
+-- the clock that entries expire by: the call's clock less the allowance, or 0 where that is below 0
+abbrev pub due : ℕ → Dest → ℕ
+due now t = now - t .allowance
+
 -- Dest::dispatch
 abbrev pub dispatch : ℕ → Dest → Out
-dispatch now t = dispatchBy now t (t .kind)
+dispatch now t = dispatchBy (due now t) t (t .kind)
 
 -- `idle_since`, set if it is absent
 abbrev pub marked : ℕ → Option ℕ → Option ℕ
@@ -213,8 +218,8 @@ fannedOut e t = let r = fanOutAll (t .topicLimit) e (t .subs) in count (r .count
 
 -- Dest::enqueue
 unfoldable pub enqueueBy : ℕ → Entry → Dest → Kind → Out
-enqueueBy now e t queue = dispatchQueue now (stored e t)
-enqueueBy now e t topic = dispatchTopic now (fannedOut e t)
+enqueueBy now e t queue = dispatchQueue (due now t) (stored e t)
+enqueueBy now e t topic = dispatchTopic (due now t) (fannedOut e t)
 
 -- Dest::enqueue
 abbrev pub enqueue : ℕ → Entry → Dest → Out
@@ -256,9 +261,9 @@ newSub p browser = record {
 -- the consumer in its place, before the dispatch; a browser has its snapshot, and what had expired is gone
 abbrev pub joined : ℕ → Spec → Dest → Dest
 joined now p t =
-    let live = keep (λ e. not (expired (pos now) e)) (t .pending) in
+    let live = keep (λ e. not (expired (pos (due now t)) e)) (t .pending) in
     let chosen = keep (λ e. selects (e .«match_word») (p .selector)) live in
-    let browsed = count (addExpired (tally (expired (pos now)) (t .pending))) (withPending live t) in
+    let browsed = count (addExpired (tally (expired (pos (due now t))) (t .pending))) (withPending live t) in
     withIdle none (if p .browser then withSubs (t .subs ++ newSub p (some chosen) ∷ []) browsed else withSubs (t .subs ++ newSub p none ∷ []) t)
 
 -- Dest::add_sub
@@ -289,8 +294,8 @@ holdBackAll (e ∷ es) s = holdBackAll es (holdBack (e .seq) s)
 -- Dest::reinsert
 unfoldable pub reinsert : ℕ → List Entry → Dest → Dest
 reinsert now es t =
-    let live = keep (λ e. not (expired (pos now) e)) es in
-    count (addExpired (tally (expired (pos now)) es)) (withPending (insertAll live (t .pending)) (withSubs (map (holdBackAll live) (t .subs)) t))
+    let live = keep (λ e. not (expired (pos (due now t)) e)) es in
+    count (addExpired (tally (expired (pos (due now t))) es)) (withPending (insertAll live (t .pending)) (withSubs (map (holdBackAll live) (t .subs)) t))
 
 -- ---- reserved entries
 
@@ -530,8 +535,8 @@ sweepSubs budget now (s ∷ ss) =
 -- Dest::sweep_expired
 unfoldable pub sweepExpired : ℕ → ℕ → Dest → Answer
 sweepExpired now most t =
-    let w = sweepList most now (t .pending) in
-    let r = sweepSubs (most - w .gone) now (t .subs) in
+    let w = sweepList most (due now t) (t .pending) in
+    let r = sweepSubs (most - w .gone) (due now t) (t .subs) in
     let swept = count (addExpired (w .gone + r .gone)) (withPending (w .list) (withSubs (r .subs) t)) in
     if ltb 0 (w .gone + r .gone) then record { answer = w .gone + r .gone; dest = touchIdle now swept; events = [] }
     else record { answer = 0; dest = swept; events = [] }

@@ -82,10 +82,10 @@ abbrev pub kindOf : ℕ → Kind
 kindOf w = kindBy (eqb w 0)
 
 abbrev pub openWords : List ℕ → Bool
-openWords ws = leb (at 0 ws) 1 && (openOk (kindOf (at 0 ws)) (at 1 ws) (at 2 ws) (at 3 ws) && unusedFrom 4 ws)
+openWords ws = leb (at 0 ws) 1 && (openOk (kindOf (at 0 ws)) (at 1 ws) (at 2 ws) (at 3 ws) (at 4 ws) && unusedFrom 5 ws)
 
 abbrev pub openedBy : List ℕ → Dest
-openedBy ws = opened (kindOf (at 0 ws)) (at 1 ws) (at 2 ws) (at 3 ws)
+openedBy ws = opened (kindOf (at 0 ws)) (at 1 ws) (at 2 ws) (at 3 ws) (at 4 ws)
 
 unfoldable pub openStep : Lengths → List ℕ → Dest → Result
 openStep lent ws t =

@@ -11,7 +11,7 @@ use lib.Seq.{length-take-le}
 use Rattle.entry.specs.Entry.{entryOf}
 use Rattle.definition.specs.Base.{if_then_else_, is-some, empty}
 use Rattle.definition.specs.Types.{Kind, queue, topic, Id, Audit, Entry, Dest}
-use Rattle.definition.specs.Destination.{Spec, subOf, dispatchBy, dispatch, stored, fannedOut, enqueueBy, joined, addSub}
+use Rattle.definition.specs.Destination.{Spec, subOf, due, dispatchBy, dispatch, stored, fannedOut, enqueueBy, joined, addSub}
 use Rattle.definition.specs.Calls.{Call, enqueuing, joining, argumentsOk, bound, placed, snapshotRows, ownRefusal, perform}
 use Rattle.definition.specs.Calls as Calls
 use Rattle.definition.specs.Layout.{Row, subRows}
@@ -90,8 +90,8 @@ module _ (now : ℕ) (e : Entry) where
   -- the kind stays, so that it is dispatched by it
   enqueue-at : (t : Dest) (k : Kind) → t .kind ≡ k → dispatch now (storedBy e t k) ≡ enqueueBy now e t k
   unfolding dispatchBy enqueueBy
-  enqueue-at t queue h = ap (dispatchBy now (stored e t)) h
-  enqueue-at t topic h = ap (dispatchBy now (fannedOut e t)) h
+  enqueue-at t queue h = ap (dispatchBy (due now t) (stored e t)) h
+  enqueue-at t topic h = ap (dispatchBy (due now t) (fannedOut e t)) h
 
   pub enqueue-parts : (t : Dest) → both (silent (kept e)) (dispatch now) t ≡ performed (enqueuing e now) t
   unfolding perform

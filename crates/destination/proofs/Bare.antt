@@ -160,6 +160,7 @@ module _ (c : Call) (ok : argumentsOk c ≡ true) (free : (t : Dest) → ownRefu
         producers = refl;
         audits = refl;
         queue = refl;
+        allowance = refl;
         consumers = ready .stands .consumers;
         used = ready .stands .used;
         rows-used = ready .stands .rows-used;

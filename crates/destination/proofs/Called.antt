@@ -7,7 +7,6 @@ use Prim.Native.Nat.{ℕ, suc, _≤_}
 use native.Mathlib.Omega.{arith}
 use lib.Dec.{eqb}
 use lib.ListN.{length, drop}
-use lib.Seq.{drop-drop}
 use Rattle.stats.specs.Counted.{more}
 use Rattle.definition.specs.Types.{Dest}
 use Rattle.definition.specs.Calls.{short, sound, Call, Result, refused, argumentsOk, ownRefusal, perform, used}
@@ -17,7 +16,7 @@ use Rattle.definition.proofs.Tests.{and-both}
 use Rattle.state.specs.declared.Head.{Head}
 use Rattle.state.specs.declared.Answer.{Answer}
 use Rattle.state.specs.State.{headView, loaded, stored, withCallsUsed}
-use Rattle.state.proofs.View.{stored-view, stored-formed, stored-producers, stored-length}
+use Rattle.state.proofs.View.{stored-any, stored-formed, stored-past, stored-length}
 use Rattle.state.proofs.Fitting.{not-short}
 pub use Rattle.sound.specs.Sound.{lent}
 use Rattle.destination.specs.Called.{outcome, Past, Called, Performs, performed}
@@ -82,7 +81,7 @@ module _ (h : List ℕ) (subs rows events : List Row) (code : ℕ) (ws : List �
 
     new-shows : view new ≡ openedBy ws
     unfolding headView openedHead eachSub idsAt auditsAt
-    new-shows = stored-view subs rows (openedHead ws) h (not-short b (length events) roomy .head)
+    new-shows = stored-any subs rows (openedHead ws) h (not-short b (length events) roomy .head)
 
     new-formed : formed new ≡ true
     unfolding openedHead subRows ringsFormed tablesStrict eachSub
@@ -105,7 +104,7 @@ module _ (h : List ℕ) (subs rows events : List Row) (code : ℕ) (ws : List �
           leaves-sound = λ _. new-sound;
           kept = λ n. absurd (n refl);
           past = record {
-            head-past = sym (drop-drop 8328 17 (stored (openedHead ws) h)) ∙ ap (drop 8328) (stored-producers (openedHead ws) h long) ∙ drop-drop 8328 17 h;
+            head-past = stored-past (openedHead ws) h long;
             subs-past = refl;
             rows-past = refl;
             head-length = stored-length (openedHead ws) h long;

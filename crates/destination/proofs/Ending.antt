@@ -21,7 +21,7 @@ use Rattle.state.specs.declared.Head.{Head}
 use Rattle.state.specs.State.{headOf, headView, strictTables, loaded, stored, withCallsUsed}
 use Rattle.state.specs.Leaves.{Leaves}
 use Rattle.state.specs.Ready.{Ready}
-use Rattle.state.proofs.View.{loaded-view, stored-view, stored-formed, stored-producers, stored-length}
+use Rattle.state.proofs.View.{loaded-view, settled, settled-same, stored-view, stored-formed, stored-past, stored-length}
 use Rattle.state.proofs.Counts.{used-view}
 use Rattle.state.proofs.Fitting.{Long, not-short, sound-facts, sound-loaded, sound-strict}
 use Rattle.producers.proofs.Adding.{ids-length}
@@ -125,9 +125,17 @@ module _ (h : List ℕ) (subs rows events : List Row)
         unfolding headOf
         same-audits = l .audits ∙ ap (λ (x : Head). x .audits) d-is
 
+        same-allowance : r .allowance ≡ at 8345 h
+        unfolding headOf
+        same-allowance = l .allowance ∙ ap (λ (x : Head). x .allowance) d-is
+
+        -- what stands after the numbers is as it was
+        after-same : settled last h ≡ drop 17 h
+        after-same = settled-same last h same-allowance
+
         pub shows : view b′ ≡ used (f (view b) .dest)
         shows =
-            stored-view subs′ rows′ last h (long .head)
+            stored-view subs′ rows′ last h (long .head) same-allowance
             ∙ ap₂ (λ (n m : ℕ). headView last subs′ rows′ (idsAt n (drop 17 h)) (auditsAt m (drop 113 h))) same-producers same-audits
             ∙ used-view subs′ rows′ ids rings r few-calls
             ∙ ap used left
@@ -137,8 +145,8 @@ module _ (h : List ℕ) (subs rows events : List Row)
         is-formed =
             let g = every-all (leb (at 12 h) 32 ∷ leb (at 13 h) 32 ∷ leb (at 14 h) 8 ∷ leb (usedRows b) 512 ∷ ringsFormed (at 14 h) (drop 113 h) ∷ strict b ∷ []) (and-left _ _ s) in
             stored-formed subs′ rows′ last h (long .head)
-            ∙ all-every (leb (r .consumers) 32 ∷ leb (r .producers) 32 ∷ leb (r .audits) 8 ∷ leb (subRows (take (r .consumers) subs′) + (r .reserved + r .waiting)) 512 ∷ ringsFormed (r .audits) (drop 113 h) ∷ strictTables r subs′ rows′ ∷ [])
-            (le-leb _ _ (l .consumers), (ap (λ (n : ℕ). leb n 32) same-producers ∙ g .1 .0, (ap (λ (n : ℕ). leb n 8) same-audits ∙ g .1 .1 .0, (le-leb (subRows (take (r .consumers) subs′) + (r .reserved + r .waiting)) 512 (omega (arith, l .rows-used, l .used)), (ap (λ (n : ℕ). ringsFormed n (drop 113 h)) same-audits ∙ g .1 .1 .1 .1 .0, (l .strict strict-words, tt))))))
+            ∙ all-every (leb (r .consumers) 32 ∷ leb (r .producers) 32 ∷ leb (r .audits) 8 ∷ leb (subRows (take (r .consumers) subs′) + (r .reserved + r .waiting)) 512 ∷ ringsFormed (r .audits) (drop 96 (settled last h)) ∷ strictTables r subs′ rows′ ∷ [])
+            (le-leb _ _ (l .consumers), (ap (λ (n : ℕ). leb n 32) same-producers ∙ g .1 .0, (ap (λ (n : ℕ). leb n 8) same-audits ∙ g .1 .1 .0, (le-leb (subRows (take (r .consumers) subs′) + (r .reserved + r .waiting)) 512 (omega (arith, l .rows-used, l .used)), (ap₂ ringsFormed same-audits (ap (drop 96) after-same ∙ drop-drop 96 17 h) ∙ g .1 .1 .1 .1 .0, (l .strict strict-words, tt))))))
 
         pub leaves-sound : soundBuffers b′ ≡ true
         unfolding soundBuffers
@@ -146,7 +154,7 @@ module _ (h : List ℕ) (subs rows events : List Row)
 
         pub past : Past b b′ events events′
         past = record {
-          head-past = sym (drop-drop 8328 17 (stored last h)) ∙ ap (drop 8328) (stored-producers last h (long .head)) ∙ drop-drop 8328 17 h;
+          head-past = stored-past last h (long .head);
           subs-past = l .subs-past;
           rows-past = l .rows-past;
           head-length = stored-length last h (long .head);

@@ -12,7 +12,7 @@ use Rattle.definition.specs.Base.{is-some, empty}
 use Rattle.definition.specs.Types.{Id, Audit, Dest}
 use Rattle.definition.specs.Types as Def
 use Rattle.definition.specs.Destination as Destination
-use Rattle.definition.specs.Destination.{Out, subOf, dispatch, reservedOf, removeAt, removeSub, unmarked, returnReserved, Swept, SweptSubs, sweepList, sweepSubs, sweepExpired, clear}
+use Rattle.definition.specs.Destination.{Out, subOf, due, dispatch, reservedOf, removeAt, removeSub, unmarked, returnReserved, Swept, SweptSubs, sweepList, sweepSubs, sweepExpired, clear}
 use Rattle.definition.specs.Calls.{Call, leaving, unmarking, releasing, sweeping, clearing, ownRefusal, perform, bound}
 use Rattle.definition.specs.Layout.{Row}
 use Rattle.definition.proofs.Tests.{by-test, if-true, if-false}
@@ -101,10 +101,10 @@ module _ (now most : ℕ) where
   sweep-silent t = by-test (ltb 0 (w .gone + r .gone)) (λ e. rw e) (λ e. rw e)
     where
       w : Swept
-      w = sweepList most now (t .pending)
+      w = sweepList most (due now t) (t .pending)
 
       r : SweptSubs
-      r = sweepSubs (most - w .gone) now (t .subs)
+      r = sweepSubs (most - w .gone) (due now t) (t .subs)
 
   pub sweep-out : (t : Dest) → sweepOut now most t ≡ performed (sweeping now most) t
   unfolding perform

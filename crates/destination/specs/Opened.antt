@@ -17,6 +17,7 @@ unfoldable pub openedHead : List ℕ → Head
 openedHead ws = record {
   «topic_limit» = at 1 ws;
   «call_limit» = at 2 ws;
+  allowance = at 4 ws;
   «calls_used» = 0;
   turn = 0;
   «idle_since» = at 3 ws;

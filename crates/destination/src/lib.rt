@@ -71,6 +71,7 @@ fn opened(words: [u64; 8]) -> Head
     Head {
         topic_limit: words[1],
         call_limit: words[2],
+        allowance: words[4],
         calls_used: 0,
         turn: 0,
         idle_since: words[3],

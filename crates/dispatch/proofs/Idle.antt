@@ -17,6 +17,7 @@ use Rattle.definition.proofs.Tests.{if-true, if-false, and-left, and-right, or-
 use Rattle.consumers.specs.declared.Sub.{Sub}
 use Rattle.consumers.specs.Consumers.{subOf, creditOf}
 use Rattle.state.specs.declared.Head.{Head}
+use Rattle.state.specs.State.{dueBy}
 use Rattle.state.specs.Fits.{fits, Fits}
 use Rattle.state.specs.Leaves.{Leaves, LeavesIf}
 use Rattle.state.proofs.Fitting.{fits-facts}
@@ -32,7 +33,7 @@ use Rattle.queues.proofs.Viewing.{all-at}
 use Rattle.queues.proofs.Visiting.{visited-not}
 use Rattle.queues.proofs.Scanning.{Seeking, seeking-start, seeking-on, place-within, going-start, going-stop, going-empty}
 use Rattle.dispatch.specs.Dispatch.{canGo, goesOut, Sent}
-use Rattle.dispatch.proofs.Queue.{queue-none, queue-some, between}
+use Rattle.dispatch.proofs.Queue.{queue-none, queue-some, between, test-yes}
 use Rattle.dispatch.proofs.Sorts.{of-queue, of-topic}
 
 -- the test of one consumer, as the code has it
@@ -164,11 +165,13 @@ goes-not clock d subs rows events quiet =
     by-test (a && b)
     (λ t.
     let fit : fits subs d (length rows) (length events) ≡ true = and-left a b t in
-    let soon : leb clock (2 ^ 62) ≡ true = and-right a b t in
     let f : Fits subs d (length rows) (length events) = fits-facts subs d (length rows) (length events) fit in
-    let late : clock ≤ 2 ^ 62 = leb-true clock (2 ^ 62) soon in
+    let late : clock ≤ 2 ^ 62 = leb-true clock (2 ^ 62) (and-right a b t) in
+    let due : ℕ = dueBy clock d in
+    let less : due ≤ 2 ^ 62 = omega arith in
     by-test (d .queue)
-    (λ q. of-queue d d subs rows events subs rows events (a && b) clock q (when-leaves (a && b) (Sent d d) (dispatchQueue clock) d d subs rows events subs rows events t (queue-rest clock d subs rows events f late quiet q)))
-    (λ q. of-topic d d subs rows events subs rows events a b clock q
-    (when-leaves (a && (b && not (d .queue))) (Dispatched d d) (dispatchTopic clock) d d subs rows events subs rows events (three-yes a b (not (d .queue)) fit soon (ap not q)) (topic-rest clock d subs rows events f late quiet q))))
+    (λ q. of-queue d d subs rows events subs rows events clock due refl late a q
+    (when-leaves (a && leb due (2 ^ 62)) (Sent d d) (dispatchQueue due) d d subs rows events subs rows events (test-yes a due fit less) (queue-rest due d subs rows events f less quiet q)))
+    (λ q. of-topic d d subs rows events subs rows events clock due refl late a q
+    (when-leaves (a && (leb due (2 ^ 62) && not (d .queue))) (Dispatched d d) (dispatchTopic due) d d subs rows events subs rows events (three-yes a (leb due (2 ^ 62)) (not (d .queue)) fit (le-leb due (2 ^ 62) less) (ap not q)) (topic-rest due d subs rows events f less quiet q))))
     (λ t. leaves-no (a && b) (Sent d d) (dispatch clock) d subs rows events t)

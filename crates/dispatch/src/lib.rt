@@ -79,8 +79,12 @@ pub fn dispatch(
 ) -> Head
     ensures { λ r. ⌜ LeavesIf (fits (now (subs .entry)) d (length (now (rows .entry))) (length (now (events .entry))) && leb clock (2 ^ 62)) (Sent d r) (dispatch clock) d r (now (subs .entry)) (now (rows .entry)) (now (events .entry)) (now (subs .exit)) (now (rows .exit)) (now (events .exit)) ⌝ }
 {
-    if d.queue {
-        return dispatch_queue(subs, rows, events, d, clock);
+    let due = d.due(clock);
+    if entry::CLOCK_MOST < clock {
+        return d;
     }
-    topics::dispatch_topic(subs, rows, events, d, clock)
+    if d.queue {
+        return dispatch_queue(subs, rows, events, d, due);
+    }
+    topics::dispatch_topic(subs, rows, events, d, due)
 }

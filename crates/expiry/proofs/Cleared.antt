@@ -85,6 +85,7 @@ module _ (d : Head) (subs rows events : List Row) (t : fits subs d (length rows)
     producers = refl;
     audits = refl;
     queue = refl;
+    allowance = refl;
     consumers = facts .consumers;
     used = omega arith;
     rows-used = omega (arith, no-rows);

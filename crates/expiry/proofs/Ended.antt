@@ -16,7 +16,7 @@ use Rattle.definition.specs.Types.{Kind, Id, Audit, Dest, Entry, withPending, w
 use Rattle.definition.specs.Types as Def
 use Rattle.definition.specs.Consumer.{addExpired}
 use Rattle.definition.specs.Destination as Destination
-use Rattle.definition.specs.Destination.{Out, count, touchIdle, sweepList, sweepSubs, sweepExpired}
+use Rattle.definition.specs.Destination.{Out, count, due, touchIdle, sweepList, sweepSubs, sweepExpired}
 use Rattle.definition.specs.Base.{all}
 use Rattle.definition.specs.Layout.{Row, heldAt, subsAt, subRows, entryStrict}
 use Rattle.definition.proofs.Tests.{if-true, if-false}
@@ -27,7 +27,7 @@ use Rattle.consumers.proofs.View.{subs-agree}
 use Rattle.consumers.proofs.Strict.{strict-agree, tables-strict, strict-tables, all-left, all-right}
 use Rattle.state.specs.declared.Head.{Head}
 use Rattle.state.specs.declared.Answer as State
-use Rattle.state.specs.State.{headView, strictTables, kindBy, withStats, withUsed, withWaiting, firstWaiting, touched, doneAs}
+use Rattle.state.specs.State.{headView, strictTables, kindBy, withStats, withUsed, withWaiting, firstWaiting, touched, dueBy, doneAs}
 use Rattle.state.specs.Fits.{Fits}
 use Rattle.state.specs.Leaves.{silent, both, Leaves, LeavesIf}
 use Rattle.state.specs.Ready.{Stands}
@@ -54,16 +54,24 @@ module _ (now most : ℕ) (t : Dest) where
   abbrev pub lessened : Dest
   lessened = withPending (waits .list) (withSubs (holds .subs) t)
 
-  pub sweep-counts : 0 < total → sweepExpired now most t ≡ record { answer = total; dest = touchIdle now (count (addExpired total) lessened); events = [] }
-  unfolding sweepExpired
-  sweep-counts h = if-true _ _ (lt-ltb 0 total h)
+-- at the call's clock, of those that have expired by the lessened clock
+module _ (clock most : ℕ) (t : Dest) where
+  abbrev went : ℕ
+  went = total (due clock t) most t
 
-  pub sweep-rests : total ≡ 0 → sweepExpired now most t ≡ record { answer = 0; dest = lessened; events = [] }
+  abbrev fewer : Dest
+  fewer = lessened (due clock t) most t
+
+  pub sweep-counts : 0 < went → sweepExpired clock most t ≡ record { answer = went; dest = touchIdle clock (count (addExpired went) fewer); events = [] }
+  unfolding sweepExpired
+  sweep-counts h = if-true _ _ (lt-ltb 0 went h)
+
+  pub sweep-rests : went ≡ 0 → sweepExpired clock most t ≡ record { answer = 0; dest = fewer; events = [] }
   unfolding sweepExpired
   sweep-rests z =
-      if-false _ _ (le-ltb 0 total (omega arith))
-      ∙ ap (λ (n : ℕ). record { answer = 0; dest = count (addExpired n) lessened; events = [] }) z
-      ∙ ap (λ (s : Stats). record { answer = 0; dest = Def.withStats s lessened; events = [] }) (⊕-zero (t .stats))
+      if-false _ _ (le-ltb 0 went (omega arith))
+      ∙ ap (λ (n : ℕ). record { answer = 0; dest = count (addExpired n) fewer; events = [] }) z
+      ∙ ap (λ (s : Stats). record { answer = 0; dest = Def.withStats s fewer; events = [] }) (⊕-zero (t .stats))
 
 -- ---- the count
 
@@ -77,6 +85,7 @@ leaves-counted d subs rows events s g h b = record {
   producers = refl;
   audits = refl;
   queue = refl;
+  allowance = refl;
   consumers = s .consumers;
   used = s .used;
   rows-used = s .rows-used;
@@ -90,7 +99,11 @@ leaves-counted d subs rows events s g h b = record {
 
 -- ---- those that wait
 
-module _ (most now : ℕ) (d : Head) (subs rows events : List Row) (f : Fits subs d (length rows) (length events)) (clock : now ≤ 2 ^ 62) (few : most ≤ 512) (from : ℕ) (begins : from ≡ firstWaiting d) where
+-- now is what entries expire by at the call's clock
+module _ (most clock now : ℕ) (d : Head) (is : now ≡ dueBy clock d) (subs rows events : List Row) (f : Fits subs d (length rows) (length events)) (late : clock ≤ 2 ^ 62) (few : most ≤ 512) (from : ℕ) (begins : from ≡ firstWaiting d) where
+  less-late : now ≤ 2 ^ 62
+  less-late = omega (arith, is, late)
+
   abbrev n : ℕ
   n = subRows (take (d .consumers) subs)
 
@@ -101,7 +114,7 @@ module _ (most now : ℕ) (d : Head) (subs rows events : List Row) (f : Fits sub
   from-is = omega (arith, begins, f .rows-used)
 
   pub waiting-fine : Fine (length rows) from start most now
-  waiting-fine = record { rows = omega (arith, from-is, f .rows-used); used = f .used; room = f .rows-long; gone = omega arith; few = few; clock = clock }
+  waiting-fine = record { rows = omega (arith, from-is, f .rows-used); used = f .used; room = f .rows-long; gone = omega arith; few = few; clock = less-late }
 
   -- the rows of the list are those that wait
   list-is : (k : ℕ) (l : List Row) → slice from (from + k) l ≡ take k (drop (d .reserved) (drop n l))
@@ -130,7 +143,7 @@ module _ (most now : ℕ) (d : Head) (subs rows events : List Row) (f : Fits sub
       rows-used = rows-left;
       gone = short .gone;
       few = few;
-      clock = clock;
+      clock = less-late;
     }
 
     pub able-at : (x : Head) → x ≡ left → Able subs x (length rows′) (w .gone) most now
@@ -194,6 +207,7 @@ module _ (most now : ℕ) (d : Head) (subs rows events : List Row) (f : Fits sub
             kind = k;
             topicLimit = d .«topic_limit»;
             callLimit = d .«call_limit»;
+            allowance = d .allowance;
             callsUsed = d .«calls_used»;
             pending = list j;
             subs = mine j;
@@ -214,6 +228,7 @@ module _ (most now : ℕ) (d : Head) (subs rows events : List Row) (f : Fits sub
       producers = refl;
       audits = refl;
       queue = refl;
+      allowance = refl;
       consumers = f .consumers;
       used = able .used;
       rows-used = rows-left;
@@ -252,6 +267,14 @@ module _ (most now : ℕ) (d : Head) (subs rows events : List Row) (f : Fits sub
             g .gone ps qs
             ∙ ap₂ (λ (x : ℕ) (l : List Def.Sub). x + sweepSubs (most - x) now l .gone) (gone-waiting ps qs) (ap (λ (x : Dest). x .subs) (waiting-view ps qs))
 
+        counts : 0 < total now most u → sweepExpired clock most u ≡ record { answer = total now most u; dest = touchIdle clock (count (addExpired (total now most u)) (lessened now most u)); events = [] }
+        unfolding headView
+        counts = rw is (sweep-counts clock most u)
+
+        rests : total now most u ≡ 0 → sweepExpired clock most u ≡ record { answer = 0; dest = lessened now most u; events = [] }
+        unfolding headView
+        rests = rw is (sweep-rests clock most u)
+
       used-right : r .used ≤ d .used
       used-right = omega (arith, g .used, used-less)
 
@@ -260,68 +283,68 @@ module _ (most now : ℕ) (d : Head) (subs rows events : List Row) (f : Fits sub
       counted = withStats (withExpiredBy (d .stats) (r .gone)) right
 
       abbrev ending : Dest → Out
-      ending = both (both parts (silent (count (addExpired (r .gone))))) (silent (touchIdle now))
+      ending = both (both parts (silent (count (addExpired (r .gone))))) (silent (touchIdle clock))
 
-      leaves-some : 0 < r .gone → Leaves (sweepOut now most) d (touched now counted) subs rows events subs′ rows″ events
+      leaves-some : 0 < r .gone → Leaves (sweepOut clock most) d (touched clock counted) subs rows events subs′ rows″ events
       leaves-some h =
           let ls : 32 ≤ length subs′ = omega (arith, leaves-parts .subs-length, f .subs-long) in
           let lr : 512 ≤ length rows″ = omega (arith, leaves-parts .rows-length, f .rows-long) in
           let one = leaves-counted right subs′ rows″ events stands (r .gone) (f .expired) (omega (arith, g .few)) in
-          let two = leaves-touch counted subs′ rows″ events (record { consumers = stands .consumers; used = stands .used; rows-used = stands .rows-used }) now ls lr in
+          let two = leaves-touch counted subs′ rows″ events (record { consumers = stands .consumers; used = stands .used; rows-used = stands .rows-used }) clock ls lr in
           let three = leaves-both parts (silent (count (addExpired (r .gone)))) d right counted subs rows events subs′ rows″ events subs′ rows″ events leaves-parts one in
-          let four = leaves-both (both parts (silent (count (addExpired (r .gone))))) (silent (touchIdle now)) d counted (touched now counted) subs rows events subs′ rows″ events subs′ rows″ events three two in
-          leaves-as ending (sweepOut now most) d (touched now counted) subs rows events subs′ rows″ events
+          let four = leaves-both (both parts (silent (count (addExpired (r .gone))))) (silent (touchIdle clock)) d counted (touched clock counted) subs rows events subs′ rows″ events subs′ rows″ events three two in
+          leaves-as ending (sweepOut clock most) d (touched clock counted) subs rows events subs′ rows″ events
           (λ ps qs _.
-          (λ j. record { dest = touchIdle now (count (addExpired (total-is ps qs j)) (parts-are ps qs j)); events = [] })
-          ∙ (λ j. record { dest = sym (sweep-counts now most (u ps qs) (omega (arith, h, total-is ps qs))) j .dest; events = [] }))
+          (λ j. record { dest = touchIdle clock (count (addExpired (total-is ps qs j)) (parts-are ps qs j)); events = [] })
+          ∙ (λ j. record { dest = sym (counts ps qs (omega (arith, h, total-is ps qs))) j .dest; events = [] }))
           four
 
       -- none went
-      leaves-none : r .gone ≡ 0 → Leaves (sweepOut now most) d right subs rows events subs′ rows″ events
-      leaves-none z = leaves-as parts (sweepOut now most) d right subs rows events subs′ rows″ events
+      leaves-none : r .gone ≡ 0 → Leaves (sweepOut clock most) d right subs rows events subs′ rows″ events
+      leaves-none z = leaves-as parts (sweepOut clock most) d right subs rows events subs′ rows″ events
           (λ ps qs _.
           (λ j. record { dest = parts-are ps qs j; events = [] })
-          ∙ (λ j. record { dest = sym (sweep-rests now most (u ps qs) (sym (total-is ps qs) ∙ z)) j .dest; events = [] }))
+          ∙ (λ j. record { dest = sym (rests ps qs (sym (total-is ps qs) ∙ z)) j .dest; events = [] }))
           leaves-parts
 
       -- what `sweep` leaves and answers, where its test holds
       module _ (test : Bool) (holds-test : test ≡ true) where
         Done : State.Answer → Type 0
-        Done a = LeavesIf test (Kept d (a .head)) (sweepOut now most) d (a .head) subs rows events subs′ rows″ events × Answers test (sweepExpired now most) d subs rows a
+        Done a = LeavesIf test (Kept d (a .head)) (sweepOut clock most) d (a .head) subs rows events subs′ rows″ events × Answers test (sweepExpired clock most) d subs rows a
 
-        answers : (a : State.Answer) → a .refusal ≡ 0 → ((ps : List Id) (qs : List Audit) → a .answer ≡ sweepExpired now most (headView d subs rows ps qs) .answer) → Answers test (sweepExpired now most) d subs rows a
+        answers : (a : State.Answer) → a .refusal ≡ 0 → ((ps : List Id) (qs : List Audit) → a .answer ≡ sweepExpired clock most (headView d subs rows ps qs) .answer) → Answers test (sweepExpired clock most) d subs rows a
         answers a e h = record {
           refusal = e ∙ sym (if-true 0 2 holds-test);
           answer = λ ps qs _. h ps qs ∙ sym (if-true _ 0 holds-test);
         }
 
-        some-went : 0 < r .gone → Done (doneAs (r .gone) (touched now counted))
+        some-went : 0 < r .gone → Done (doneAs (r .gone) (touched clock counted))
         unfolding Done
         some-went h =
-            let m = touched-mark now counted in
-            let k : Kept d (touched now counted) = record { room = rw m (omega (arith, used-right, f .sent)); as-many = ap (λ (x : Head). x .consumers) m } in (
-              when-leaves test (Kept d (touched now counted)) (sweepOut now most) d (touched now counted) subs rows events subs′ rows″ events holds-test (leaves-some h, k),
-              answers (doneAs (r .gone) (touched now counted)) refl (λ ps qs. total-is ps qs ∙ sym (ap (λ (x : Destination.Answer). x .answer) (sweep-counts now most (u ps qs) (omega (arith, h, total-is ps qs))))),
+            let m = touched-mark clock counted in
+            let k : Kept d (touched clock counted) = record { room = rw m (omega (arith, used-right, f .sent)); as-many = ap (λ (x : Head). x .consumers) m } in (
+              when-leaves test (Kept d (touched clock counted)) (sweepOut clock most) d (touched clock counted) subs rows events subs′ rows″ events holds-test (leaves-some h, k),
+              answers (doneAs (r .gone) (touched clock counted)) refl (λ ps qs. total-is ps qs ∙ sym (ap (λ (x : Destination.Answer). x .answer) (counts ps qs (omega (arith, h, total-is ps qs))))),
             )
 
         none-went : r .gone ≡ 0 → Done (doneAs 0 right)
         unfolding Done
         none-went z = (
-          when-leaves test (Kept d right) (sweepOut now most) d right subs rows events subs′ rows″ events holds-test (leaves-none z, record { room = omega (arith, used-right, f .sent); as-many = refl }),
-          answers (doneAs 0 right) refl (λ ps qs. sym (ap (λ (x : Destination.Answer). x .answer) (sweep-rests now most (u ps qs) (sym (total-is ps qs) ∙ z)))),
+          when-leaves test (Kept d right) (sweepOut clock most) d right subs rows events subs′ rows″ events holds-test (leaves-none z, record { room = omega (arith, used-right, f .sent); as-many = refl }),
+          answers (doneAs 0 right) refl (λ ps qs. sym (ap (λ (x : Destination.Answer). x .answer) (rests ps qs (sym (total-is ps qs) ∙ z)))),
         )
 
-        sweep-ends : (a : State.Answer) → a ≡ finished (r .gone) now right
-            → LeavesIf test (Kept d (a .head)) (sweepOut now most) d (a .head) subs rows events subs′ rows″ events × Answers test (sweepExpired now most) d subs rows a
+        sweep-ends : (a : State.Answer) → a ≡ finished (r .gone) clock right
+            → LeavesIf test (Kept d (a .head)) (sweepOut clock most) d (a .head) subs rows events subs′ rows″ events × Answers test (sweepExpired clock most) d subs rows a
         unfolding Done
         sweep-ends a e = by-test (ltb 0 (r .gone))
-            (λ h. let q : a ≡ doneAs (r .gone) (touched now counted) = e ∙ if-true _ _ h in rw q (some-went (ltb-true 0 (r .gone) h)))
+            (λ h. let q : a ≡ doneAs (r .gone) (touched clock counted) = e ∙ if-true _ _ h in rw q (some-went (ltb-true 0 (r .gone) h)))
             (λ h. let q : a ≡ doneAs 0 right = e ∙ if-false _ _ h in rw q (none-went (let b : r .gone ≤ 0 = ltb-false 0 (r .gone) h in omega arith)))
 
     -- the same from the head that the first part leaves
     pub sweep-from : (x : Head) → x ≡ left → (r : Swept) (subs′ rows″ : List Row) → SubsSwept most now x (w .gone) subs rows′ subs′ rows″ r → (test : Bool) → test ≡ true
-        → (a : State.Answer) → a ≡ finished (r .gone) now (withUsed (r .used) (withWaiting (x .waiting) x))
-        → LeavesIf test (Kept d (a .head)) (sweepOut now most) d (a .head) subs rows events subs′ rows″ events × Answers test (sweepExpired now most) d subs rows a
+        → (a : State.Answer) → a ≡ finished (r .gone) clock (withUsed (r .used) (withWaiting (x .waiting) x))
+        → LeavesIf test (Kept d (a .head)) (sweepOut clock most) d (a .head) subs rows events subs′ rows″ events × Answers test (sweepExpired clock most) d subs rows a
     sweep-from x e r subs′ rows″ g test sure a q =
         sweep-ends r subs′ rows″ (subst (λ (y : Head). SubsSwept most now y (w .gone) subs rows′ subs′ rows″ r) e g) test sure a
-        (q ∙ ap (λ (y : Head). finished (r .gone) now (withUsed (r .used) (withWaiting (y .waiting) y))) e)
+        (q ∙ ap (λ (y : Head). finished (r .gone) clock (withUsed (r .used) (withWaiting (y .waiting) y))) e)

@@ -143,6 +143,7 @@ module _ (most now : ℕ) (subs₀ rows₀ : List Row) (d : Head) (before : ℕ)
             kind = kindBy (d .queue);
             topicLimit = d .«topic_limit»;
             callLimit = d .«call_limit»;
+            allowance = d .allowance;
             callsUsed = d .«calls_used»;
             pending = map entryOf (waits j);
             subs = mine j;
@@ -165,6 +166,7 @@ module _ (most now : ℕ) (subs₀ rows₀ : List Row) (d : Head) (before : ℕ)
           producers = refl;
           audits = refl;
           queue = refl;
+          allowance = refl;
           consumers = able .consumers;
           used = omega (arith, g .used, able .used);
           rows-used = omega (arith, base-is, none-left, g .fits);

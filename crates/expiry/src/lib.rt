@@ -197,6 +197,7 @@ pub fn sweep(
     ensures { λ r. ⌜ LeavesIf (fits (now (subs .entry)) d (length (now (rows .entry))) (length (now (events .entry))) && (leb clock (2 ^ 62) && leb most 512)) (Kept d (r .head)) (sweepOut clock most) d (r .head) (now (subs .entry)) (now (rows .entry)) (now (events .entry)) (now (subs .exit)) (now (rows .exit)) (now (events .entry)) ⌝ }
     ensures { λ r. ⌜ Answers (fits (now (subs .entry)) d (length (now (rows .entry))) (length (now (events .entry))) && (leb clock (2 ^ 62) && leb most 512)) (sweepExpired clock most) d (now (subs .entry)) (now (rows .entry)) r ⌝ }
 {
+    let due = d.due(clock);
     if !state::fits(subs, d, rows.len(), events.len()) {
         return Answer::refused(2, d);
     }
@@ -211,9 +212,9 @@ pub fn sweep(
         length: d.waiting,
         gone: 0,
     };
-    let w = sweep_list(rows, d.first_waiting(), start, most, clock);
+    let w = sweep_list(rows, d.first_waiting(), start, most, due);
     let left = shorter(d, w.used, w.length);
-    let r = sweep_subs(subs, rows, left, w.gone, most, clock);
+    let r = sweep_subs(subs, rows, left, w.gone, most, due);
     finished(shorter(left, r.used, left.waiting), r.gone, clock)
 }
 

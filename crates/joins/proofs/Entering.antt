@@ -27,7 +27,7 @@ use Rattle.consumers.specs.Table.{fitting}
 use Rattle.consumers.proofs.View.{sub-stored, subs-before, subs-around, rows-append, inflight-stored, held-stored}
 use Rattle.consumers.proofs.Strict.{all-left, all-right, stored-strict, strict-sub, strict-before, strict-around, tables-strict, strict-tables}
 use Rattle.state.specs.declared.Head.{Head}
-use Rattle.state.specs.State.{headView, kindBy, strictTables, withStats, withUsed, withWaiting, withConsumers, notIdle}
+use Rattle.state.specs.State.{headView, kindBy, strictTables, withStats, withUsed, withWaiting, withConsumers, notIdle, dueBy}
 use Rattle.state.specs.Fits.{fits, Fits}
 use Rattle.state.specs.Leaves.{silent, Leaves}
 use Rattle.state.proofs.Fitting.{facts-fit}
@@ -43,6 +43,7 @@ partsOf d subs pending reserved ps qs = record {
   kind = kindBy (d .queue);
   topicLimit = d .«topic_limit»;
   callLimit = d .«call_limit»;
+  allowance = d .allowance;
   callsUsed = d .«calls_used»;
   pending = pending;
   subs = subs;
@@ -131,7 +132,11 @@ entered x w u d =
 
 -- ---- what it means
 
-module _ (now : ℕ) (p : SubSpec) (d : Head) (s : List Def.Sub) (ps : List Id) (qs : List Audit) where
+module _ (clock : ℕ) (p : SubSpec) (d : Head) (s : List Def.Sub) (ps : List Id) (qs : List Audit) where
+  -- what entries expire by
+  abbrev now : ℕ
+  now = dueBy clock d
+
   abbrev k : Kind
   k = kindBy (d .queue)
 
@@ -140,7 +145,7 @@ module _ (now : ℕ) (p : SubSpec) (d : Head) (s : List Def.Sub) (ps : List Id) 
 
   -- no browser
   pub plain-means : (w r : List Row) → p .browser ≡ false
-      → partsOf (entered (d .stats .expired) (d .waiting) (d .used) d) (s ++ subView k (newOf p 0) [] [] ∷ []) (map entryOf w) (map heldAt r) ps qs ≡ joined now P (partsOf d s (map entryOf w) (map heldAt r) ps qs)
+      → partsOf (entered (d .stats .expired) (d .waiting) (d .used) d) (s ++ subView k (newOf p 0) [] [] ∷ []) (map entryOf w) (map heldAt r) ps qs ≡ joined clock P (partsOf d s (map entryOf w) (map heldAt r) ps qs)
   plain-means w r e =
       let t : Dest = partsOf d s (map entryOf w) (map heldAt r) ps qs in
       let live : List Entry = keep (λ x. not (expired (pos now) x)) (t .pending) in
@@ -152,7 +157,7 @@ module _ (now : ℕ) (p : SubSpec) (d : Head) (s : List Def.Sub) (ps : List Id) 
   pub browser-means : (w r : List Row) (n u v : ℕ) → p .browser ≡ true → d .stats .expired + tally (goneAt now) w ≤ top
       → (k ≡ topic → keep (shownBy (p .selector)) (keep (λ x. not (goneAt now x)) w) ≡ [])
       → partsOf (entered (withExpiredBy (d .stats) (tally (goneAt now) w) .expired) v u d) (s ++ subView k (newOf p n) [] (keep (shownBy (p .selector)) (keep (λ x. not (goneAt now x)) w)) ∷ []) (map entryOf (keep (λ x. not (goneAt now x)) w)) (map heldAt r) ps qs
-      ≡ joined now P (partsOf d s (map entryOf w) (map heldAt r) ps qs)
+      ≡ joined clock P (partsOf d s (map entryOf w) (map heldAt r) ps qs)
   browser-means w r n u v e few none-there =
       let t : Dest = partsOf d s (map entryOf w) (map heldAt r) ps qs in
       let late : Entry → Bool = λ x. not (expired (pos now) x) in
@@ -258,6 +263,7 @@ module _ (now : ℕ) (p : SubSpec) (d : Head) (subs rows rows′ events : List R
       producers = refl;
       audits = refl;
       queue = refl;
+      allowance = refl;
       consumers = omega arith;
       used = few;
       rows-used = ap (λ (m : ℕ). m + (d .reserved + v)) size ∙ eu;

@@ -22,7 +22,7 @@ use Rattle.table.proofs.Segments.{compacted-length}
 use Rattle.consumers.specs.Consumers.{subWords}
 use Rattle.consumers.specs.Table.{positionFrom}
 use Rattle.state.specs.declared.Head.{Head}
-use Rattle.state.specs.State.{headView, kindBy, withStats, withUsed, withWaiting, firstWaiting, firstReserved}
+use Rattle.state.specs.State.{headView, kindBy, withStats, withUsed, withWaiting, firstWaiting, firstReserved, dueBy}
 use Rattle.state.specs.Fits.{fits, Fits}
 use Rattle.state.specs.Leaves.{silent, Leaves, LeavesIf}
 use Rattle.state.proofs.Fitting.{fits-facts}
@@ -104,15 +104,15 @@ pub refused-unfit : (b : Bool) (now : ℕ) (p : SubSpec) (d : Head) (subs rows :
 refused-unfit b now p d subs rows h = record { exact = λ ps qs. sym (if-false (ownRefusal (headView d subs rows ps qs) (joining (specOf p) now)) 2 h) }
 
 module _ (now : ℕ) (p : SubSpec) (d : Head) (subs rows : List Row) (events : ℕ) (f : Fits subs d (length rows) events) where
-  pub own-refusal : (ps : List Id) (qs : List Audit) (k : ℕ) → k ≡ snapshotOf now p d rows → ownRefusal (headView d subs rows ps qs) (joining (specOf p) now) ≡ refusalOf p subs d k
+  pub own-refusal : (ps : List Id) (qs : List Audit) (k : ℕ) → k ≡ snapshotOf (dueBy now d) p d rows → ownRefusal (headView d subs rows ps qs) (joining (specOf p) now) ≡ refusalOf p subs d k
   own-refusal ps qs k e =
       refusal-is d subs rows ps qs (omega (arith, f .subs-long, f .consumers)) (f .rows-used) (omega (arith, f .rows-long, f .used)) now p
       ∙ ap (refusalOf p subs d) (sym e)
 
-  pub own-snapshot : (k : ℕ) → k ≡ snapshotOf now p d rows → snapshotRows now (specOf p) (headView d subs rows [] []) ≡ k
+  pub own-snapshot : (k : ℕ) → k ≡ snapshotOf (dueBy now d) p d rows → snapshotRows now (specOf p) (headView d subs rows [] []) ≡ k
   own-snapshot k e = snapshot-is d subs rows [] [] (omega (arith, f .subs-long, f .consumers)) (f .rows-used) (omega (arith, f .rows-long, f .used)) now p ∙ sym e
 
-  pub refused-fit : (b : Bool) → b ≡ true → (k r : ℕ) → k ≡ snapshotOf now p d rows → r ≡ refusalOf p subs d k → Refused b now p d subs rows r
+  pub refused-fit : (b : Bool) → b ≡ true → (k r : ℕ) → k ≡ snapshotOf (dueBy now d) p d rows → r ≡ refusalOf p subs d k → Refused b now p d subs rows r
   refused-fit b h k r e q = record { exact = λ ps qs. q ∙ sym (own-refusal ps qs k e) ∙ sym (if-true (ownRefusal (headView d subs rows ps qs) (joining (specOf p) now)) 2 h) }
 
 -- none refuses: there is room among the consumers
@@ -133,18 +133,22 @@ no-queue : (b : Bool) → kindBy b ≡ topic → b ≡ false
 no-queue true e = absurd (let z : _≡_ {A = ℕ} 0 1 = cc in omega arith)
 no-queue false e = refl
 
-module _ (now : ℕ) (p : SubSpec) (subs : List Row) (d : Head) (rows events : List Row) where
+module _ (clock : ℕ) (p : SubSpec) (subs : List Row) (d : Head) (rows events : List Row) where
+  -- what entries expire by
+  abbrev now : ℕ
+  now = dueBy clock d
+
   abbrev test : Bool
-  test = joins now p subs d rows (length events)
+  test = joins clock p subs d rows (length events)
 
-  pub joins-late : 2 ^ 62 < now → test ≡ false
+  pub joins-late : 2 ^ 62 < clock → test ≡ false
   unfolding joins
-  joins-late h = rw (lt-leb now (2 ^ 62) h)
+  joins-late h = rw (lt-leb clock (2 ^ 62) h)
 
-  module _ (c : now ≤ 2 ^ 62) where
+  module _ (c : clock ≤ 2 ^ 62) where
     pub joins-unfit : fits subs d (length rows) (length events) ≡ false → test ≡ false
     unfolding joins
-    joins-unfit h = rw (le-leb now (2 ^ 62) c, h)
+    joins-unfit h = rw (le-leb clock (2 ^ 62) c, h)
 
     module _ (t : fits subs d (length rows) (length events) ≡ true) (k : ℕ) (e : k ≡ snapshotOf now p d rows) where
       facts : Fits subs d (length rows) (length events)
@@ -153,7 +157,7 @@ module _ (now : ℕ) (p : SubSpec) (subs : List Row) (d : Head) (rows events : L
       joins-by : (x y z : Bool) → eqb (refusalOf p subs d k) 0 ≡ x → (d .queue || eqb (d .waiting) 0) ≡ y → leb (d .events + (d .used + k)) 512 ≡ z → test ≡ (x && (y && (z && true)))
       unfolding joins
       joins-by x y z px py pz =
-          (λ j. le-leb now (2 ^ 62) c j && (t j && (eqb (own-refusal now p d subs rows (length events) facts [] [] k e j) 0 && ((d .queue || eqb (d .waiting) 0) && (leb (d .events + (d .used + own-snapshot now p d subs rows (length events) facts k e j)) 512 && true)))))
+          (λ j. le-leb clock (2 ^ 62) c j && (t j && (eqb (own-refusal clock p d subs rows (length events) facts [] [] k e j) 0 && ((d .queue || eqb (d .waiting) 0) && (leb (d .events + (d .used + own-snapshot clock p d subs rows (length events) facts k e j)) 512 && true)))))
           ∙ (λ j. px j && (py j && (pz j && true)))
 
       pub joins-refused : (refusalOf p subs d k ≡ 0 → ⊥) → test ≡ false
@@ -182,7 +186,7 @@ module _ (now : ℕ) (p : SubSpec) (subs : List Row) (d : Head) (rows events : L
 
             pub join-browses : p .browser ≡ true → Browses now (p .selector) k d rows
             join-browses q = record {
-              clock = c;
+              clock = omega arith;
               others = others;
               room = omega (arith, room, facts .rows-long);
               few = omega (arith, room);
@@ -195,7 +199,7 @@ module _ (now : ℕ) (p : SubSpec) (subs : List Row) (d : Head) (rows events : L
             -- what is left, with what else is promised
             abbrev Done : Head → List Row → List Row → Type 0
             Done r subs′ rows′ =
-                Leaves (silent (joined now (specOf p))) d r subs rows events subs′ rows′ events
+                Leaves (silent (joined clock (specOf p))) d r subs rows events subs′ rows′ events
                 × ((r .events + r .used ≤ 512) × (d .stats .expired + d .waiting ≤ 2 ^ 62 → fits subs′ r (length rows) (length events) ≡ true))
 
             done-plain : p .browser ≡ false → Done (withOne d) (set subs (d .consumers) (subWords (newOf p 0))) rows
@@ -208,11 +212,11 @@ module _ (now : ℕ) (p : SubSpec) (subs : List Row) (d : Head) (rows events : L
                 let er : length r ≡ d .reserved = kept-size d rows others within in
                 let ew : length w ≡ d .waiting = waits-length d rows others within in
                 let eu : subRows (take (d .consumers) subs) + 0 + (d .reserved + d .waiting) ≡ d .used = omega (arith, facts .rows-used) in (
-                  leaves-entered now p d subs rows rows events (d .stats .expired) 0 (d .waiting) (d .used) a [] r w w z z facts less is is ours-size refl er ew ew eu (facts .used) refl refl (λ t. (refl, t))
-                      (λ ps qs. plain-means now p d (subsAt (kindBy (d .queue)) (take (d .consumers) subs) a) ps qs w r q),
+                  leaves-entered clock p d subs rows rows events (d .stats .expired) 0 (d .waiting) (d .used) a [] r w w z z facts less is is ours-size refl er ew ew eu (facts .used) refl refl (λ t. (refl, t))
+                      (λ ps qs. plain-means clock p d (subsAt (kindBy (d .queue)) (take (d .consumers) subs) a) ps qs w r q),
                   (
                     facts .sent,
-                    λ h. entered-fits now p d subs rows rows events (d .stats .expired) 0 (d .waiting) (d .used) a [] r w w z z facts less is is ours-size refl er ew ew eu (facts .used) (facts .expired) (facts .waiting) (facts .sent),
+                    λ h. entered-fits clock p d subs rows rows events (d .stats .expired) 0 (d .waiting) (d .used) a [] r w w z z facts less is is ours-size refl er ew ew eu (facts .used) (facts .expired) (facts .waiting) (facts .sent),
                   ),
                 )
 
@@ -246,11 +250,11 @@ module _ (now : ℕ) (p : SubSpec) (subs : List Row) (d : Head) (rows events : L
                 let still : all entryStrict v ≡ true = all-keep entryStrict (λ o. not (goneAt now o)) w t in
                 (all-keep entryStrict (shownBy s) v still, still) in
                 let after : browsedRows now s k d rows ≡ a ++ (h ++ (r ++ (v ++ left now s k d rows b))) = browsed-is now s k d rows b in (
-                  leaves-entered now p d subs rows (browsedRows now s k d rows) events x k (d .waiting - g) (d .used - g + k) a h r w v z (left now s k d rows b) facts less is after ours-size eh er ew ev eu low (browsed-past now s k d rows b) (browsed-length now s k d rows b) keeps
-                      (λ ps qs. browser-means now p d (subsAt (kindBy (d .queue)) (take (d .consumers) subs) a) ps qs w r k (d .used - g + k) (d .waiting - g) q small gone-all),
+                  leaves-entered clock p d subs rows (browsedRows now s k d rows) events x k (d .waiting - g) (d .used - g + k) a h r w v z (left now s k d rows b) facts less is after ours-size eh er ew ev eu low (browsed-past now s k d rows b) (browsed-length now s k d rows b) keeps
+                      (λ ps qs. browser-means clock p d (subsAt (kindBy (d .queue)) (take (d .consumers) subs) a) ps qs w r k (d .used - g + k) (d .waiting - g) q small gone-all),
                   (
                     sum,
-                    λ m. entered-fits now p d subs rows (browsedRows now s k d rows) events x k (d .waiting - g) (d .used - g + k) a h r w v z (left now s k d rows b) facts less is after ours-size eh er ew ev eu low (omega arith) (omega (arith, facts .waiting)) sum,
+                    λ m. entered-fits clock p d subs rows (browsedRows now s k d rows) events x k (d .waiting - g) (d .used - g + k) a h r w v z (left now s k d rows b) facts less is after ours-size eh er ew ev eu low (omega arith) (omega (arith, facts .waiting)) sum,
                   ),
                 )
 
@@ -263,6 +267,6 @@ module _ (now : ℕ) (p : SubSpec) (subs : List Row) (d : Head) (rows events : L
                 rw (pr ∙ if-false (browsedHead now k (withOne d) rows) (withOne d) q, pw ∙ if-false (browsedRows now (p .selector) k d rows) rows q, ps ∙ ap (λ (m : ℕ). set subs (d .consumers) (subWords (newOf p m))) n) (done-plain q))
 
             pub join-done : (r : Head) (subs′ rows′ : List Row) → r ≡ joinedHead now p k d rows → rows′ ≡ joinedRows now p k d rows → subs′ ≡ set subs (d .consumers) (subWords (newOf p k))
-                → LeavesIf test ((r .events + r .used ≤ 512) × (d .stats .expired + d .waiting ≤ 2 ^ 62 → fits subs′ r (length rows) (length events) ≡ true)) (silent (joined now (specOf p))) d r subs rows events subs′ rows′ events
+                → LeavesIf test ((r .events + r .used ≤ 512) × (d .stats .expired + d .waiting ≤ 2 ^ 62 → fits subs′ r (length rows) (length events) ≡ true)) (silent (joined clock (specOf p))) d r subs rows events subs′ rows′ events
             join-done r subs′ rows′ pr pw ps =
-                when-leaves test _ (silent (joined now (specOf p))) d r subs rows events subs′ rows′ events joins-yes (done r subs′ rows′ pr pw ps)
+                when-leaves test _ (silent (joined clock (specOf p))) d r subs rows events subs′ rows′ events joins-yes (done r subs′ rows′ pr pw ps)

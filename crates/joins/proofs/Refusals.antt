@@ -26,7 +26,7 @@ use Rattle.consumers.proofs.View.{subs-length}
 use Rattle.consumers.proofs.Seek.{found-at, found-none}
 use Rattle.consumers.proofs.Laws.{consumer-rows}
 use Rattle.state.specs.declared.Head.{Head}
-use Rattle.state.specs.State.{headView, kindBy, freeRows, firstWaiting}
+use Rattle.state.specs.State.{headView, kindBy, freeRows, firstWaiting, dueBy}
 use Rattle.joins.specs.declared.SubSpec.{SubSpec}
 use Rattle.joins.specs.Joins.{specOf, goneAt, shownBy, snapped, snapshotOf, isAt, refusalOf}
 use Rattle.joins.proofs.Lists.{tally-map}
@@ -114,13 +114,14 @@ module _ (d : Head) (subs rows : List Row) (ps : List Id) (qs : List Audit) (n :
       ap (map entryOf)
       (ap₂ take m (drop-drop (d .reserved) (subRows ws) rows ∙ ap (λ (x : ℕ). drop x rows) f) ∙ sym (slice-take (firstWaiting d) (d .used) rows h))
 
-  pub snapshot-is : (now : ℕ) (p : SubSpec) → snapshotRows now (specOf p) viewed ≡ snapshotOf now p d rows
+  pub snapshot-is : (now : ℕ) (p : SubSpec) → snapshotRows now (specOf p) viewed ≡ snapshotOf (dueBy now d) p d rows
+  unfolding headView
   snapshot-is now p =
-      let gets : Entry → Bool = λ e. not (expired (pos now) e) && selects (e .«match_word») (p .selector) in
+      let gets : Entry → Bool = λ e. not (expired (pos (dueBy now d)) e) && selects (e .«match_word») (p .selector) in
       let l : List Row = slice (firstWaiting d) (d .used) rows in
       ap (λ (n : ℕ). if p .browser then n else 0) (ap (tally gets) waiting-rows ∙ tally-map entryOf gets l)
 
-  pub refusal-is : (now : ℕ) (p : SubSpec) → ownRefusal viewed (joining (specOf p) now) ≡ refusalOf p subs d (snapshotOf now p d rows)
+  pub refusal-is : (now : ℕ) (p : SubSpec) → ownRefusal viewed (joining (specOf p) now) ≡ refusalOf p subs d (snapshotOf (dueBy now d) p d rows)
   unfolding ownRefusal
   refusal-is now p = λ j.
       if present-is (specOf p .id) j then 6

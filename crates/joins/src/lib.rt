@@ -206,13 +206,14 @@ fn refusal_of(subs: &[SubRow], d: Head, spec: SubSpec, k: usize) -> u64
 pub fn refusal(subs: &[SubRow], rows: &[Row], d: Head, spec: SubSpec, clock: u64) -> u64
     ensures { λ r. ⌜ Refused (fits (now (subs .entry)) d (length (now (rows .entry))) 545 && leb clock (2 ^ 62)) clock spec d (now (subs .entry)) (now (rows .entry)) r ⌝ }
 {
+    let due = d.due(clock);
     if entry::CLOCK_MOST < clock {
         return 2;
     }
     if !state::fits(subs, d, rows.len(), state::EVENTS) {
         return 2;
     }
-    let k = snapshot_rows(rows, d, spec, clock);
+    let k = snapshot_rows(rows, d, spec, due);
     refusal_of(subs, d, spec, k)
 }
 
@@ -228,13 +229,14 @@ pub fn join(
 ) -> Head
     ensures { λ r. ⌜ LeavesIf (joins clock spec (now (subs .entry)) d (now (rows .entry)) (length (now (events .entry)))) ((r .events + r .used ≤ 512) × (d .stats .expired + d .waiting ≤ 2 ^ 62 → fits (now (subs .exit)) r (length (now (rows .entry))) (length (now (events .entry))) ≡ true)) (silent (joined clock (specOf spec))) d r (now (subs .entry)) (now (rows .entry)) (now (events .entry)) (now (subs .exit)) (now (rows .exit)) (now (events .entry)) ⌝ }
 {
+    let due = d.due(clock);
     if entry::CLOCK_MOST < clock {
         return d;
     }
     if !state::fits(subs, d, rows.len(), events.len()) {
         return d;
     }
-    let k = snapshot_rows(rows, d, spec, clock);
+    let k = snapshot_rows(rows, d, spec, due);
     if refusal_of(subs, d, spec, k) != 0 {
         return d;
     }
@@ -244,5 +246,5 @@ pub fn join(
     if state::ROWS - d.used - d.events < k {
         return d;
     }
-    admit(subs, rows, d, spec, clock, k)
+    admit(subs, rows, d, spec, due, k)
 }

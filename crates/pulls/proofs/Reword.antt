@@ -75,6 +75,7 @@ leaves-same f d subs rows events w says = record {
   producers = refl;
   audits = refl;
   queue = refl;
+  allowance = refl;
   consumers = w .consumers;
   used = w .used;
   rows-used = w .rows-used;
@@ -168,6 +169,7 @@ module _ (d : Head) (subs rows : List Row) (id : Id) (i : ℕ) (long : d .consum
       kind = k;
       topicLimit = d .«topic_limit»;
       callLimit = d .«call_limit»;
+      allowance = d .allowance;
       callsUsed = d .«calls_used»;
       pending = map entryOf (take (d .waiting) (drop (d .reserved) (drop (rows-same j) rows)));
       subs = subs-are j;
@@ -234,6 +236,7 @@ module _ (d : Head) (subs rows : List Row) (id : Id) (i : ℕ) (long : d .consum
           producers = refl;
           audits = refl;
           queue = refl;
+          allowance = refl;
           consumers = w .consumers;
           used = w .used;
           rows-used = ap (λ (m : ℕ). m + (d .reserved + d .waiting)) rows-same ∙ w .rows-used;

@@ -16,6 +16,7 @@ onward-same d subs rows events = record {
   audits = refl;
   reserved = refl;
   queue = refl;
+  allowance = refl;
   waiting = omega arith;
   used = omega arith;
   more = omega arith;
@@ -45,6 +46,7 @@ onward-then d₀ d r subs₀ rows₀ events₀ subs rows events subs′ rows′ 
   audits = p .audits ∙ o .audits;
   reserved = p .reserved ∙ o .reserved;
   queue = p .queue ∙ o .queue;
+  allowance = p .allowance ∙ o .allowance;
   waiting = omega arith;
   used = omega arith;
   more = omega arith;

@@ -200,6 +200,7 @@ module _ (now : ℕ) (subs₀ rows₀ events₀ : List Row) (d₀ : Head) (subs 
     producers = on .producers;
     audits = on .audits;
     queue = on .queue;
+    allowance = on .allowance;
     consumers = ok .consumers;
     used = ok .used;
     rows-used = ok .rows-used;

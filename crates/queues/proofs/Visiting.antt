@@ -268,6 +268,7 @@ module _ (now i : ℕ) (d : Head) (subs rows events : List Row) (ok : Scans subs
         audits = refl;
         reserved = refl;
         queue = refl;
+        allowance = refl;
         waiting = f .waits;
         used = omega (arith, f .gone);
         more = f .more;

@@ -86,6 +86,7 @@ pub record Onward (d r : Head) (subs rows events subs′ rows′ events′ : Lis
   pub audits : r .audits ≡ d .audits
   pub reserved : r .reserved ≡ d .reserved
   pub queue : r .queue ≡ d .queue
+  pub allowance : r .allowance ≡ d .allowance
   pub waiting : r .waiting ≤ d .waiting
   pub used : r .used ≤ d .used
   pub more : d .events ≤ r .events

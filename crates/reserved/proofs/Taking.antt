@@ -235,6 +235,7 @@ module _ (id : Id) (counts : AckCount) (p : Span) (d t r : Head) (gone : ℕ) (r
           kind = k;
           topicLimit = d .«topic_limit»;
           callLimit = d .«call_limit»;
+          allowance = d .allowance;
           callsUsed = d .«calls_used»;
           pending = map entryOf (waits-are j);
           subs = mine j;
@@ -288,6 +289,7 @@ module _ (id : Id) (counts : AckCount) (p : Span) (d t r : Head) (gone : ℕ) (r
             producers = ap (λ (y : Head). y .producers) head-is;
             audits = ap (λ (y : Head). y .audits) head-is;
             queue = ap (λ (y : Head). y .queue) head-is;
+            allowance = ap (λ (y : Head). y .allowance) head-is;
             consumers = omega (arith, fits .consumers);
             used = omega (arith, fits .used);
             rows-used = omega arith;
@@ -347,6 +349,7 @@ module _ (id : Id) (a : Ack) (subs rows events : List Row) (d : Head) (fits : Fi
       producers = refl;
       audits = refl;
       queue = refl;
+      allowance = refl;
       consumers = fits .consumers;
       used = fits .used;
       rows-used = fits .rows-used;

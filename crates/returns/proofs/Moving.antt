@@ -16,7 +16,7 @@ use Rattle.entry.proofs.Rows.{EntryFits, entry-of-row}
 use Rattle.definition.specs.Types.{Id, Entry, Held, Audit, Dest}
 use Rattle.definition.specs.Types as Def
 use Rattle.definition.specs.Consumer.{addExpired}
-use Rattle.definition.specs.Destination.{count, insert, holdBack, reinsert}
+use Rattle.definition.specs.Destination.{count, due, insert, holdBack, reinsert}
 use Rattle.definition.specs.Base.{all}
 use Rattle.definition.specs.Words.{kindBy}
 use Rattle.definition.specs.Layout.{Row, heldAt, subsAt, subRows, entryStrict, subsStrict}
@@ -29,7 +29,7 @@ use Rattle.consumers.proofs.Laws.{on-first, on-length, hold-back-rows, hold-bac
 use Rattle.consumers.proofs.View.{subs-before}
 use Rattle.consumers.proofs.Strict.{strict-before, strict-held-back}
 use Rattle.state.specs.declared.Head.{Head}
-use Rattle.state.specs.State.{withReserved, withWaiting, withUsed, withStats, firstWaiting}
+use Rattle.state.specs.State.{withReserved, withWaiting, withUsed, withStats, firstWaiting, dueBy}
 use Rattle.state.proofs.Counts.{expired-plain}
 use Rattle.returns.specs.Returns.{held, reserves}
 use Rattle.returns.specs.Gaps.{destOf, cut, waitingIn, around, Strict, settled, Open, Placed, Moves}
@@ -103,11 +103,17 @@ on-past f (suc n) (suc m) (w ∷ ws) h = on-past f n m ws (omega arith)
 pub cut-one : (from k n : ℕ) (l m : List Row) → 0 < k → from + k ≤ n → n ≤ length l → take (n - 1) m ≡ cut from 1 n l → cut from (k - 1) (n - 1) m ≡ cut from k n l
 cut-one from k n l m p h b e = cut-less from 0 1 k n l m (omega arith) h b (e ∙ ap (λ (x : ℕ). cut x 1 n l) (sym (add-zero from)))
 
+-- entries expire by the head's allowance
+expires-by : (now : ℕ) (e : Entry) (d : Head) (subs low waits : List Row) (producers : List Id) (audits : List Audit)
+    → expired (pos (due now (destOf d subs low waits producers audits))) e ≡ expired (pos (dueBy now d)) e
+unfolding destOf
+expires-by now e d subs low waits producers audits = refl
+
 module _ (now from : ℕ) (e : Entry) (d : Head) (subs rows : List Row) (o : Open from d (length rows)) where
   abbrev first : ℕ
   first = firstWaiting d
 
-  pub moves-late : (r : Head) (rows′ : List Row) → expired (pos now) e ≡ true → r ≡ withStats (withExpiredBy (d .stats) 1) (withUsed (d .used - 1) d) → rows′ ≡ closeGap from 1 (d .used) rows
+  pub moves-late : (r : Head) (rows′ : List Row) → expired (pos (dueBy now d)) e ≡ true → r ≡ withStats (withExpiredBy (d .stats) 1) (withUsed (d .used - 1) d) → rows′ ≡ closeGap from 1 (d .used) rows
       → Moves from (reinsert now (e ∷ [])) d r subs rows subs rows′
   moves-late r rows′ x p q =
       let c : List Row = closeGap from 1 (d .used) rows in
@@ -123,7 +129,7 @@ module _ (now from : ℕ) (e : Entry) (d : Head) (subs rows : List Row) (o : Ope
             ∙ ap₂ (λ (y z : List Row). destOf (withStats (withExpiredBy (d .stats) 1) a) subs y z producers audits) (cut-one from k first rows c some (omega arith) (omega arith) low) high
             ∙ dest-expired a subs (cut from k first rows) (waitingIn d rows) producers audits (omega (arith, o .expired, o .used))
             ∙ ap (count (addExpired 1)) (dest-counts d subs (cut from k first rows) (waitingIn d rows) producers audits (d .reserved) (d .waiting) (d .used - 1))
-            ∙ sym (reinsert-late now e (around from k d subs rows producers audits) x);
+            ∙ sym (reinsert-late now e (around from k d subs rows producers audits) (expires-by now e d subs (cut from k first rows) (waitingIn d rows) producers audits ∙ x));
         strict = λ k some within sum s.
             strict-as refl (ap (λ (n : ℕ). cut from (k - 1) n c) less ∙ cut-one from k first rows c some (omega arith) (omega arith) low) (ap (λ (n : ℕ). slice n (d .used - 1) c) less ∙ high) s;
         low = low;
@@ -142,7 +148,7 @@ module _ (now from : ℕ) (e : Entry) (d : Head) (subs rows : List Row) (o : Ope
         expired = omega (arith, o .before);
       })
 
-  pub moves-back : (r : Head) (subs′ rows′ : List Row) → expired (pos now) e ≡ false → subs′ ≡ onFirst (heldBackRow (e .seq)) (d .consumers) subs → Placed from e d r rows rows′
+  pub moves-back : (r : Head) (subs′ rows′ : List Row) → expired (pos (dueBy now d)) e ≡ false → subs′ ≡ onFirst (heldBackRow (e .seq)) (d .consumers) subs → Placed from e d r rows rows′
       → Moves from (reinsert now (e ∷ [])) d r subs rows subs′ rows′
   moves-back r subs′ rows′ x q s =
       let held : List Row = onFirst (heldBackRow (e .seq)) (d .consumers) subs in
@@ -154,7 +160,7 @@ module _ (now from : ℕ) (e : Entry) (d : Head) (subs rows : List Row) (o : Ope
             ∙ ap₂ (λ (a : Head) (y : List Row). destOf a held y (slice (first - 1) (r .used) rows′) producers audits) (s .head) (cut-one from k first rows rows′ some (omega arith) (omega arith) (s .low))
             ∙ dest-counts d held (cut from k first rows) (slice (first - 1) (r .used) rows′) producers audits (d .reserved) (r .waiting) (r .used)
             ∙ dest-stored d subs (cut from k first rows) (waitingIn d rows) producers audits e (slice (first - 1) (r .used) rows′) (s .waits)
-            ∙ sym (reinsert-live now e (around from k d subs rows producers audits) x);
+            ∙ sym (reinsert-live now e (around from k d subs rows producers audits) (expires-by now e d subs (cut from k first rows) (waitingIn d rows) producers audits ∙ x));
         strict = λ k some within sum t.
             strict-as (ap (λ (a : Head). a .consumers) (s .head)) (ap (λ (n : ℕ). cut from (k - 1) n rows′) less ∙ cut-one from k first rows rows′ some (omega arith) (omega arith) (s .low)) (ap (λ (n : ℕ). slice n (r .used) rows′) less)
             (strict-stored (e .seq) (d .consumers) subs (cut from k first rows) (waitingIn d rows) (slice (first - 1) (r .used) rows′) (s .strict (t .waits)) t);

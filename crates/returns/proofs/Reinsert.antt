@@ -11,7 +11,7 @@ use Rattle.entry.specs.Entry.{expired}
 use Rattle.definition.specs.Base.{keep, tally}
 use Rattle.definition.specs.Types.{Id, Entry, Inflight, Sub, Held, Dest, withPending, withSubs, withStats, withReserved}
 use Rattle.definition.specs.Consumer.{_⊕_, addExpired}
-use Rattle.definition.specs.Destination.{count, insert, holdBack, holdBackAll, insertAll, reinsert, returnedFrom, reservedFrom}
+use Rattle.definition.specs.Destination.{count, due, insert, holdBack, holdBackAll, insertAll, reinsert, returnedFrom, reservedFrom}
 use Rattle.definition.proofs.Local.{⊕-zero, ⊕-assoc}
 use Rattle.returns.specs.Returns.{held, givenBack, gives, givesAll}
 
@@ -36,29 +36,29 @@ module _ (now : ℕ) (t : Dest) where
 
   module _ (e : Entry) (es : List Entry) where
     -- it has expired, or it is stored and cursors go back before it
-    late : expired (pos now) e ≡ true → reinsert now (e ∷ es) t ≡ reinsert now es (count (addExpired 1) t)
+    late : expired (pos (due now t)) e ≡ true → reinsert now (e ∷ es) t ≡ reinsert now es (count (addExpired 1) t)
     unfolding reinsert
     late h =
-        let n : ℕ = tally (expired (pos now)) es in
-        rw h (ap (λ (s : Stats). withStats s (withPending (insertAll (keep (λ f. not (expired (pos now) f)) es) (t .pending)) (withSubs (map (holdBackAll (keep (λ f. not (expired (pos now) f)) es)) (t .subs)) t))) (sym (expired-more (t .stats) n)))
+        let n : ℕ = tally (expired (pos (due now t))) es in
+        rw h (ap (λ (s : Stats). withStats s (withPending (insertAll (keep (λ f. not (expired (pos (due now t)) f)) es) (t .pending)) (withSubs (map (holdBackAll (keep (λ f. not (expired (pos (due now t)) f)) es)) (t .subs)) t))) (sym (expired-more (t .stats) n)))
 
-    live : expired (pos now) e ≡ false → reinsert now (e ∷ es) t ≡ reinsert now es (stores e t)
+    live : expired (pos (due now t)) e ≡ false → reinsert now (e ∷ es) t ≡ reinsert now es (stores e t)
     unfolding reinsert
     live h =
-        let l : List Entry = keep (λ f. not (expired (pos now) f)) es in
-        let n : ℕ = tally (expired (pos now)) es in
+        let l : List Entry = keep (λ f. not (expired (pos (due now t)) f)) es in
+        let n : ℕ = tally (expired (pos (due now t))) es in
         rw h (ap₂ (λ (z : ℕ) (x : List Sub). withStats (t .stats ⊕ addExpired z) (withPending (insertAll l (insert e (t .pending))) (withSubs x t))) (omega arith) (sym (map-twice (e .seq) l (t .subs))))
 
 module _ (now : ℕ) (e : Entry) (t : Dest) where
-  pub reinsert-late : expired (pos now) e ≡ true → reinsert now (e ∷ []) t ≡ count (addExpired 1) t
+  pub reinsert-late : expired (pos (due now t)) e ≡ true → reinsert now (e ∷ []) t ≡ count (addExpired 1) t
   reinsert-late h = late now t e [] h ∙ reinsert-none now (count (addExpired 1) t)
 
-  pub reinsert-live : expired (pos now) e ≡ false → reinsert now (e ∷ []) t ≡ withPending (insert e (t .pending)) (withSubs (map (holdBack (e .seq)) (t .subs)) t)
+  pub reinsert-live : expired (pos (due now t)) e ≡ false → reinsert now (e ∷ []) t ≡ withPending (insert e (t .pending)) (withSubs (map (holdBack (e .seq)) (t .subs)) t)
   reinsert-live h = live now t e [] h ∙ reinsert-none now (stores e t)
 
   -- one, then the others
   pub reinsert-more : (es : List Entry) → reinsert now (e ∷ es) t ≡ reinsert now es (reinsert now (e ∷ []) t)
-  reinsert-more es = by-test (expired (pos now) e)
+  reinsert-more es = by-test (expired (pos (due now t)) e)
       (λ h. late now t e es h ∙ ap (reinsert now es) (sym (reinsert-late h)))
       (λ h. live now t e es h ∙ ap (reinsert now es) (sym (reinsert-live h)))
 

@@ -269,6 +269,7 @@ module _ (id : Id) (d : Head) (subs rows₀ : List Row) (a : Fits subs d (length
         producers = refl;
         audits = refl;
         queue = refl;
+        allowance = refl;
         consumers = a .consumers;
         used = a .used;
         rows-used = a .rows-used;

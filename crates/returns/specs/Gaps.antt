@@ -24,6 +24,7 @@ destOf d subs low waits producers audits = record {
   kind = kindBy (d .queue);
   topicLimit = d .«topic_limit»;
   callLimit = d .«call_limit»;
+  allowance = d .allowance;
   callsUsed = d .«calls_used»;
   pending = map entryOf waits;
   subs = subsAt (kindBy (d .queue)) (take (d .consumers) subs) low;
@@ -70,6 +71,7 @@ abbrev pub settled : Head → Head → Head
 settled d r = record {
   «topic_limit» = d .«topic_limit»;
   «call_limit» = d .«call_limit»;
+  allowance = d .allowance;
   «calls_used» = d .«calls_used»;
   turn = d .turn;
   «idle_since» = d .«idle_since»;

@@ -13,7 +13,7 @@ use Rattle.audit.specs.Audit.{seen}
 use Rattle.definition.specs.Base.{all, keep, empty}
 use Rattle.definition.specs.Types.{Kind, queue, topic, Id, Entry, Inflight, Sub, Audit, Dest}
 use Rattle.definition.specs.Consumer.{Ack, AckType, Delivered, Poison, Standard, Redelivered, Individual, Unmatched, Expired, Other, ackType, ackRange, isBrowser, snapshot, deadLetters, Step, ackPlain, ackSub}
-use Rattle.definition.specs.Destination.{Out, Answer, count, isId, subOf, putSub, dispatchBy, dispatch, touchIdle, stored, fannedOut, enqueueBy, addSub, setPrefetch, heldBy, reservedOf, reservedHit, letters, reservedEvents, ackReserved, ackAt, ack, pulled, resumed, pullAt, pull, fired, timeoutAt, pullTimeout, returning, dropSub, removeAt, removeSub, returnReserved, sweepList, sweepSubs, sweepExpired, clear, testAt, isDuplicate}
+use Rattle.definition.specs.Destination.{Out, Answer, count, due, isId, subOf, putSub, dispatchBy, dispatch, touchIdle, stored, fannedOut, enqueueBy, addSub, setPrefetch, heldBy, reservedOf, reservedHit, letters, reservedEvents, ackReserved, ackAt, ack, pulled, resumed, pullAt, pull, fired, timeoutAt, pullTimeout, returning, dropSub, removeAt, removeSub, returnReserved, sweepList, sweepSubs, sweepExpired, clear, testAt, isDuplicate}
 use Rattle.definition.specs.Calls.{Lengths, short, bound, within, idOk, entryOk, clockOk, ackOk, flying, rowsOf, held, Request, acknowledge, pulling, timedOut, prefetching, requestOk, ask, Call, enqueuing, joining, leaving, asking, unmarking, releasing, sweeping, clearing, adding, removing, testing, forgetting, discarding, missing, argumentsOk, ownRefusal, perform, refusal, Result, refused, call}
 use Rattle.definition.specs.Words.{decode, openWords, openStep, callStep, step}
 use Rattle.definition.specs.Layout.{Buffers, view, formed, lengthsOf, bufferStep}
@@ -110,10 +110,10 @@ module _ (L U : ℕ) (k : Kind) where
       let u : Dest = touchIdle now (ackReserved i a t (a .last) .dest) in
       by-if (λ (r : Out). Fits (r .events)) (a .transacted || empty (reservedOf i t)) _ _
       (λ c. tt)
-      (λ c. both (ackReserved i a t (a .last) .events) (dispatch now u .events) (held-letters N i a t (a .last) g) (fine-fits (N + 512 + 1) (u .kind) now u (touch-fine L U k (N + 512) now _ h (reserved-fine L U k N i a t (a .last) g))))
+      (λ c. both (ackReserved i a t (a .last) .events) (dispatch now u .events) (held-letters N i a t (a .last) g) (fine-fits (N + 512 + 1) (u .kind) _ u (touch-fine L U k (N + 512) now _ h (reserved-fine L U k N i a t (a .last) g))))
   acks N now i a t (some s) f h g =
       let u : Dest = touchIdle now (count (ackSub a s .counts) (putSub i (ackSub a s .sub) t)) in
-      both (ackSub a s .events) (dispatch now u .events) (ack-fits k a s (found N i s t f g)) (fine-fits (N + 513 + 1) (u .kind) now u (touch-fine L U k (N + 513) now _ h (acked-fine L U k N i a s t f g)))
+      both (ackSub a s .events) (dispatch now u .events) (ack-fits k a s (found N i s t f g)) (fine-fits (N + 513 + 1) (u .kind) _ u (touch-fine L U k (N + 513) now _ h (acked-fine L U k N i a s t f g)))
 
   pulls-null : (i : Id) (timeout : ℤ) (s : Sub) (r : Out) (o : Option ℕ) → idOk (s .id) ≡ true → Fits (r .events) → Fits (pulled i timeout s r o .events)
   unfolding pulled
@@ -134,7 +134,7 @@ module _ (L U : ℕ) (k : Kind) where
       let p : Fine L U k (N + 1) (putSub i (pulling-sub s) t) = registered-fine L U k N i s t f g in
       by-if (λ (x : Answer). Fits (x .events)) (ltb 0 (s .prefetch)) _ _
       (λ c. tt)
-      (λ c. resumes (N + 1 + 2048) i timeout (dispatch now (putSub i (pulling-sub s) t)) _ refl (kind-fine L U k (N + 1) now _ p) (fine-fits (N + 1) _ now _ p))
+      (λ c. resumes (N + 1 + 2048) i timeout (dispatch now (putSub i (pulling-sub s) t)) _ refl (kind-fine L U k (N + 1) now _ p) (fine-fits (N + 1) _ _ _ p))
 
   fires : (i : Id) (generation : ℕ) (s : Sub) (t : Dest) (o : Option ℕ) → idOk (s .id) ≡ true → Fits (fired i generation s t o .events)
   unfolding fired
@@ -151,30 +151,30 @@ module _ (L U : ℕ) (k : Kind) where
   asks N i (acknowledge a now) t h g = acks N now i a t (subOf i t) refl (and-right (ackOk a) _ h) g
   asks N i (pulling timeout now) t h g = pulls N now i timeout t (subOf i t) refl g
   asks N i (timedOut generation) t h g = times-out N i generation t (subOf i t) refl g
-  asks N i (prefetching p now) t h g = fine-fits (N + 1) _ now _ (prefetch-fine L U k N i p t (subOf i t) (and-left (within (2 ^ 31) p) _ h) refl g)
+  asks N i (prefetching p now) t h g = fine-fits (N + 1) _ _ _ (prefetch-fine L U k N i p t (subOf i t) (and-left (within (2 ^ 31) p) _ h) refl g)
 
   -- ---- the other calls
 
   leaves : (N now : ℕ) (i : Id) (last : ℤ) (t : Dest) (o : Option Sub) → subOf i t ≡ o → clockOk now ≡ true → Fine L U k N t → Fits (removeAt now i last t o .events)
   unfolding removeAt
   leaves N now i last t none e h g = tt
-  leaves N now i last t (some s) e h g = fine-fits (N + 512 + 1) _ now _ (touch-fine L U k (N + 512) now _ h
+  leaves N now i last t (some s) e h g = fine-fits (N + 512 + 1) _ _ _ (touch-fine L U k (N + 512) now _ h
       (subst⁻¹ (λ (j : Kind). Fine L U k (N + 512) (returning now s last (dropSub i t) j)) (g .kind) (returning-fine L U k N now i last s t e g)))
 
   releases : (N now : ℕ) (i : Id) (t : Dest) → Fine L U k N t → Fits (returnReserved now i t .events)
   unfolding returnReserved
   releases N now i t g = by-if (λ (r : Out). Fits (r .events)) (empty (reservedOf i t)) _ _
       (λ c. tt)
-      (λ c. fine-fits (N + 512) _ now _ (release-some L U k N now i t c g))
+      (λ c. fine-fits (N + 512) _ _ _ (release-some L U k N now i t c g))
 
 enqueues : (L U : ℕ) (k : Kind) (N now : ℕ) (e : Entry) (t : Dest) → Fine L U k N t → Stores k e t → Fits (enqueueBy now e t k .events)
 unfolding enqueueBy dispatchBy
-enqueues L U queue N now e t g y = fine-fits L U queue (N + 1) queue now (stored e t) (stored-fine L U N e t g (y .ok) (y .fits) (y .new))
-enqueues L U topic N now e t g y = fine-fits L U topic (N + 1024) topic now (fannedOut e t) (fanned-fine L U N e t g (y .ok) (y .fits) (y .new))
+enqueues L U queue N now e t g y = fine-fits L U queue (N + 1) queue _ (stored e t) (stored-fine L U N e t g (y .ok) (y .fits) (y .new))
+enqueues L U topic N now e t g y = fine-fits L U topic (N + 1024) topic _ (fannedOut e t) (fanned-fine L U N e t g (y .ok) (y .fits) (y .new))
 
 sweeps : (now most : ℕ) (t : Dest) → Fits (sweepExpired now most t .events)
 unfolding sweepExpired
-sweeps now most t = by-if (λ (r : Answer). Fits (r .events)) (ltb 0 (sweepList most now (t .pending) .gone + sweepSubs (most - sweepList most now (t .pending) .gone) now (t .subs) .gone)) _ _ (λ c. tt) (λ c. tt)
+sweeps now most t = by-if (λ (r : Answer). Fits (r .events)) (ltb 0 (sweepList most (due now t) (t .pending) .gone + sweepSubs (most - sweepList most (due now t) (t .pending) .gone) (due now t) (t .subs) .gone)) _ _ (λ c. tt) (λ c. tt)
 
 duplicates : (i : Id) (q : ℕ) (t : Dest) (o : Option Audit) → Fits (testAt i q t o .events)
 unfolding testAt
@@ -184,7 +184,7 @@ duplicates i q t (some a) = by-if (λ (r : Answer). Fits (r .events)) (seen q (a
 performs : (L U : ℕ) (k : Kind) (N : ℕ) (c : Call) (t : Dest) → 1 ≤ N → Fine L U k N t → argumentsOk c ≡ true → ownRefusal t c ≡ 0 → Fits (perform t c .events)
 unfolding perform addSub removeSub clear isDuplicate argumentsOk
 performs L U k N (enqueuing e now) t n g a o = subst⁻¹ (λ (j : Kind). Fits (enqueueBy now e t j .events)) (g .kind) (enqueues L U k N now e t g (stores L U k N e now t g a o))
-performs L U k N (joining p now) t n g a o = fine-fits L U k (N + 513) _ now _ (joins L U k N p now t n g a o)
+performs L U k N (joining p now) t n g a o = fine-fits L U k (N + 513) _ _ _ (joins L U k N p now t n g a o)
 performs L U k N (leaving i last now) t n g a o = leaves L U k N now i last t (subOf i t) refl (and-right (within (2 ^ 63) last) _ (and-right (idOk i) _ a)) g
 performs L U k N (asking i q) t n g a o = asks L U k N i q t (and-right (idOk i) _ a) g
 performs L U k N (unmarking i) t n g a o = tt

@@ -367,7 +367,7 @@ module _ (h : List ℕ) (subs rows : List Row) (words : Words h) (ls : 32 ≤ le
       let p = every-all (soundTests (view b)) g in
       let n = leb-true (at 12 h) 32 (f .0) in
       and-both (limitsOk h) _
-      (and-both (leb 1 (at 2 h)) _ (p .0) (and-both (leb (at 2 h) (2 ^ 40)) _ (p .1 .0) (and-both (leb (at 3 h) (at 2 h)) _ (p .1 .1 .0) (p .1 .1 .1 .0))))
+      (and-both (leb 1 (at 2 h)) _ (p .0) (and-both (leb (at 2 h) (2 ^ 40)) _ (p .1 .0) (and-both (leb (at 3 h) (at 2 h)) _ (p .1 .1 .0) (and-both (leb (at 1 h) 512) _ (p .1 .1 .1 .0) (p .1 .1 .1 .1 .1 .1 .1 .1 .1 .1 .1 .1 .1 .1 .1 .1 .1 .1 .1 .0)))))
       (and-both (countsOk h) _
       (and-both (leb (at 12 h) 32) _ (f .0) (and-both (leb (at 13 h) 32) _ (f .1 .0) (and-both (leb (at 14 h) 8) _ (f .1 .1 .0) (sym (turn-same n) ∙ p .1 .1 .1 .1 .1 .1 .1 .1 .1 .1 .1 .1 .1 .1 .0))))
       (and-both (marksOk h) _ (and-both (isMark (at 0 h)) _ (s .0) (and-both (isMark (at 5 h)) _ (s .1 .0) (sym (optional-test clockOk (at 5 h) (at 6 h)) ∙ p .1 .1 .1 .1 .1 .1 .1 .1 .1 .1 .1 .1 .1 .1 .1 .1 .0)))
@@ -431,6 +431,7 @@ module _ (h : List ℕ) (subs rows : List Row) (words : Words h) (ls : 32 ≤ le
       let limits = and-left (limitsOk h) _ e in
       let l2 = and-right (leb 1 (at 2 h)) _ limits in
       let l3 = and-right (leb (at 2 h) (2 ^ 40)) _ l2 in
+      let l4 = and-right (leb (at 3 h) (at 2 h)) _ l3 in
       let others = and-right (limitsOk h) _ e in
       let counts = and-left (countsOk h) _ others in
       let c2 = and-right (leb (at 12 h) 32) _ counts in
@@ -467,7 +468,7 @@ module _ (h : List ℕ) (subs rows : List Row) (words : Words h) (ls : 32 ≤ le
             (
               and-left (leb (at 3 h) (at 2 h)) _ l3,
               (
-                and-right (leb (at 3 h) (at 2 h)) _ l3,
+                and-left (leb (at 1 h) 512) _ l4,
                 (
                   le-leb (length (subsAt k us rows)) 32 (omega (arith, subs-many n)),
                   (
@@ -496,7 +497,7 @@ module _ (h : List ℕ) (subs rows : List Row) (words : Words h) (ls : 32 ≤ le
                                           optional-test clockOk (at 5 h) (at 6 h) ∙ and-right (isMark (at 5 h)) _ m2,
                                           (
                                             le-leb (length (auditsAt (at 14 h) (drop 113 h))) 8 (omega (arith, audits-count (at 14 h) (drop 113 h), leb-true (at 14 h) 8 f3)),
-                                            (audits-fit (at 14 h) (drop 113 h) (words-drop 113 h words) f5, tt),
+                                            (audits-fit (at 14 h) (drop 113 h) (words-drop 113 h words) f5, (and-right (leb (at 1 h) 512) _ l4, tt)),
                                           ),
                                         ),
                                       ),

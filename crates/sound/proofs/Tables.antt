@@ -147,11 +147,11 @@ head-counts h e =
       limits-used h (and-left (limitsOk h) (countsOk h && (marksOk h && countersOk (bound (at 3 h)) (statsAt h))) e),
     )
 
-pub long-enough : (b : Buffers) → not (stateShort (lengthsOf b 0)) ≡ true → (8345 ≤ length (b .head)) × (32 ≤ length (b .subs)) × (512 ≤ length (b .rows))
+pub long-enough : (b : Buffers) → not (stateShort (lengthsOf b 0)) ≡ true → (8346 ≤ length (b .head)) × (32 ≤ length (b .subs)) × (512 ≤ length (b .rows))
 unfolding stateShort
 long-enough b e =
-    let p = parts (ltb (length (b .head)) 8345) (ltb (length (b .subs)) 32) (ltb (length (b .rows)) 512) e in
-    (ltb-false (length (b .head)) 8345 (p .0), ltb-false (length (b .subs)) 32 (p .1), ltb-false (length (b .rows)) 512 (p .2))
+    let p = parts (ltb (length (b .head)) 8346) (ltb (length (b .subs)) 32) (ltb (length (b .rows)) 512) e in
+    (ltb-false (length (b .head)) 8346 (p .0), ltb-false (length (b .subs)) 32 (p .1), ltb-false (length (b .rows)) 512 (p .2))
   where
     parts : (x y z : Bool) → not (x || (y || z)) ≡ true → (x ≡ false) × (y ≡ false) × (z ≡ false)
     parts true y z e = absurd (true≢false (sym e))

@@ -20,7 +20,7 @@ use Rattle.definition.specs.Layout.{Row, Buffers, flag, idAt, heldAt, subAt, ea
 -- ---- the head
 
 abbrev pub limitsOk : List ℕ → Bool
-limitsOk h = leb 1 (at 2 h) && (leb (at 2 h) (2 ^ 40) && (leb (at 3 h) (at 2 h) && leb (at 1 h) 512))
+limitsOk h = leb 1 (at 2 h) && (leb (at 2 h) (2 ^ 40) && (leb (at 3 h) (at 2 h) && (leb (at 1 h) 512 && leb (at 8345 h) 86400000)))
 
 abbrev pub countsOk : List ℕ → Bool
 countsOk h = leb (at 12 h) 32 && (leb (at 13 h) 32 && (leb (at 14 h) 8 && (ltb (at 4 h) (at 12 h) || eqb (at 4 h) 0)))

@@ -21,6 +21,9 @@ type SubRow = [u64; 16];
 
 const CALLS_MOST: u64 = 1099511627776;
 
+// A day.
+const ALLOWANCE_MOST: u64 = 86400000;
+
 const SEQ_END: u64 = 9223372036854775808;
 
 const PREFETCH_END: u64 = 2147483648;
@@ -28,15 +31,17 @@ const PREFETCH_END: u64 = 2147483648;
 // ---- the head
 
 fn limits_ok(head: &[u64]) -> bool
-    requires { do ⌜ 8345 ≤ (← ⟦head.len()⟧) ⌝ }
+    requires { do ⌜ 8346 ≤ (← ⟦head.len()⟧) ⌝ }
     ensures { λ r. ⌜ r ≡ limitsOk (now (head .entry)) ⌝ }
 {
     let limit = head[2];
-    (1 <= limit) & ((limit <= CALLS_MOST) & ((head[3] <= limit) & (head[1] <= 512)))
+    (1 <= limit)
+        & ((limit <= CALLS_MOST)
+            & ((head[3] <= limit) & ((head[1] <= 512) & (head[8345] <= ALLOWANCE_MOST))))
 }
 
 fn counts_ok(head: &[u64]) -> bool
-    requires { do ⌜ 8345 ≤ (← ⟦head.len()⟧) ⌝ }
+    requires { do ⌜ 8346 ≤ (← ⟦head.len()⟧) ⌝ }
     ensures { λ r. ⌜ r ≡ countsOk (now (head .entry)) ⌝ }
 {
     let n = head[12];
@@ -46,7 +51,7 @@ fn counts_ok(head: &[u64]) -> bool
 
 // The kind and whether it is idle, and since when.
 fn marks_ok(head: &[u64]) -> bool
-    requires { do ⌜ 8345 ≤ (← ⟦head.len()⟧) ⌝ }
+    requires { do ⌜ 8346 ≤ (← ⟦head.len()⟧) ⌝ }
     ensures { λ r. ⌜ r ≡ marksOk (now (head .entry)) ⌝ }
 {
     let idle = head[5];
@@ -54,7 +59,7 @@ fn marks_ok(head: &[u64]) -> bool
 }
 
 fn counters_ok(head: &[u64], most: u64) -> bool
-    requires { do ⌜ 8345 ≤ (← ⟦head.len()⟧) ⌝ }
+    requires { do ⌜ 8346 ≤ (← ⟦head.len()⟧) ⌝ }
     ensures { λ r. ⌜ r ≡ countersOk most (statsAt (now (head .entry))) ⌝ }
 {
     (head[7] <= most)
@@ -63,7 +68,7 @@ fn counters_ok(head: &[u64], most: u64) -> bool
 }
 
 fn head_ok(head: &[u64]) -> bool
-    requires { do ⌜ 8345 ≤ (← ⟦head.len()⟧) ⌝ }
+    requires { do ⌜ 8346 ≤ (← ⟦head.len()⟧) ⌝ }
     ensures { λ r. ⌜ r ≡ headOk (now (head .entry)) ⌝ }
 {
     if !limits_ok(head) {
@@ -74,7 +79,7 @@ fn head_ok(head: &[u64]) -> bool
 
 // Each of n audits.
 fn rings_ok(head: &[u64], n: u64) -> bool
-    requires { do ⌜ 8345 ≤ (← ⟦head.len()⟧) ⌝ }
+    requires { do ⌜ 8346 ≤ (← ⟦head.len()⟧) ⌝ }
     requires { ⌜ n ≤ 8 ⌝ }
     ensures { λ r. ⌜ r ≡ ringsFormed n (drop 113 (now (head .entry))) ⌝ }
 {
@@ -638,7 +643,7 @@ fn tables_ok(
 
 // What follows the head's own numbers.
 fn rest_ok(head: &[u64], subs: &[SubRow], rows: &[Row]) -> bool
-    requires { do ⌜ 8345 ≤ (← ⟦head.len()⟧) ⌝ }
+    requires { do ⌜ 8346 ≤ (← ⟦head.len()⟧) ⌝ }
     requires { do ⌜ 32 ≤ (← ⟦subs.len()⟧) ⌝ }
     requires { do ⌜ 512 ≤ (← ⟦rows.len()⟧) ⌝ }
     requires { ⌜ headOk (now head) ≡ true ⌝ }
@@ -666,7 +671,7 @@ fn rest_ok(head: &[u64], subs: &[SubRow], rows: &[Row]) -> bool
 pub fn whole(head: &[u64], subs: &[SubRow], rows: &[Row]) -> bool
     ensures { λ r. ⌜ r ≡ not (stateShort (lengthsOf (lent (now (head .entry)) (now (subs .entry)) (now (rows .entry))) 0)) ⌝ }
 {
-    !((head.len() < 8345) | ((subs.len() < 32) | (rows.len() < 512)))
+    !((head.len() < 8346) | ((subs.len() < 32) | (rows.len() < 512)))
 }
 
 // Whether they are long enough and the layout of a sound state.

@@ -1,6 +1,6 @@
 -- The destination that a head by value is: of a head that was loaded, the view of the buffers; of one that is stored, the view of what that
 -- leaves; and what a change of one number does to it. Assumes nothing.
-use mathlib.Core.Path.{_≡_, refl, sym, ap, _∙_}
+use mathlib.Core.Path.{_≡_, refl, sym, ap, ap₂, _∙_}
 use mathlib.Core.Bool.{Bool, true, false, _&&_}
 use mathlib.Core.List.{List, [], _∷_, _++_, map}
 use mathlib.Core.Option.{Option, none, some}
@@ -8,8 +8,8 @@ use Prim.Native.Nat.{ℕ, zero, suc, _+_, _-_, _≤_}
 use native.Mathlib.Omega.{arith}
 use borrow.Author.Tests.{lt-ltb, le-ltb}
 use lib.Dec.{eqb, leb, eqb·suc-zero}
-use lib.ListN.{length, take, drop, length-drop}
-use lib.Seq.{drop-drop}
+use lib.ListN.{length, take, drop, set, length-drop, length-set}
+use lib.Seq.{drop-drop, drop-set-lt, getD-drop, getD-set-same, set-getD}
 use Rattle.words.proofs.Words.{flag-of-word}
 use Rattle.definition.specs.Base.{if_then_else_, every, empty}
 use Rattle.definition.proofs.Tests.{by-if}
@@ -37,30 +37,34 @@ pub kind-word : (b : Bool) → kindOf (kindWord b) ≡ kindBy b
 kind-word true = refl
 kind-word false = refl
 
-pub loaded-long : (h : List ℕ) (subs : List Row) → 8345 ≤ length h → loaded h subs ≡ headOf h (usedOf h subs)
+pub loaded-long : (h : List ℕ) (subs : List Row) → 8346 ≤ length h → loaded h subs ≡ headOf h (usedOf h subs)
 unfolding loaded
-loaded-long h subs l = rw (le-ltb (length h) 8345 l)
+loaded-long h subs l = rw (le-ltb (length h) 8346 l)
 
-pub stored-long : (d : Head) (h : List ℕ) → 8345 ≤ length h → stored d h ≡ headWords d ++ drop 17 h
+-- what is left after the words at the front, with the allowance in its place
+abbrev pub settled : Head → List ℕ → List ℕ
+settled d h = set (drop 17 h) 8328 (d .allowance)
+
+pub stored-long : (d : Head) (h : List ℕ) → 8346 ≤ length h → stored d h ≡ headWords d ++ settled d h
+unfolding stored headWords
+stored-long d h l = rw (le-ltb (length h) 8346 l)
+
+pub stored-short : (d : Head) (h : List ℕ) → length h ≤ 8345 → stored d h ≡ h
 unfolding stored
-stored-long d h l = rw (le-ltb (length h) 8345 l)
+stored-short d h l = rw (lt-ltb (length h) 8346 (omega arith))
 
-pub stored-short : (d : Head) (h : List ℕ) → length h ≤ 8344 → stored d h ≡ h
-unfolding stored
-stored-short d h l = rw (lt-ltb (length h) 8345 (omega arith))
-
--- what stands after the numbers stays
-pub stored-producers : (d : Head) (h : List ℕ) → 8345 ≤ length h → drop 17 (stored d h) ≡ drop 17 h
+pub stored-length : (d : Head) (h : List ℕ) → 8346 ≤ length h → length (stored d h) ≡ length h
 unfolding headWords
-stored-producers d h l = rw (stored-long d h l)
+stored-length d h l = rw (stored-long d h l) (omega (arith, length-set (drop 17 h) 8328 (d .allowance), length-drop 17 h))
 
-pub stored-audits : (d : Head) (h : List ℕ) → 8345 ≤ length h → drop 113 (stored d h) ≡ drop 113 h
+-- what stands after all the words stays
+pub stored-past : (d : Head) (h : List ℕ) → 8346 ≤ length h → drop 8346 (stored d h) ≡ drop 8346 h
 unfolding headWords
-stored-audits d h l = rw (stored-long d h l, drop-drop 96 17 h)
+stored-past d h l = rw (stored-long d h l) (drop-set-lt 8329 (drop 17 h) 8328 (d .allowance) (omega arith) ∙ drop-drop 8329 17 h)
 
-pub stored-length : (d : Head) (h : List ℕ) → 8345 ≤ length h → length (stored d h) ≡ length h
-unfolding headWords
-stored-length d h l = rw (stored-long d h l) (omega (arith, length-drop 17 h))
+-- with the allowance that was there, so do the producers and audits
+pub settled-same : (d : Head) (h : List ℕ) → d .allowance ≡ at 8345 h → settled d h ≡ drop 17 h
+settled-same d h a = ap (set (drop 17 h) 8328) (a ∙ sym (getD-drop 17 h 8328 0)) ∙ set-getD (drop 17 h) 8328 0
 
 module _ (subs rows : List Row) where
   -- the view of the buffers is that of the numbers that are loaded
@@ -69,13 +73,21 @@ module _ (subs rows : List Row) where
   unfolding headView headOf view
   loaded-view h used = refl
 
-  -- stored numbers are viewed as they are, with the producers and audits of the head
-  pub stored-view : (d : Head) (h : List ℕ) → 8345 ≤ length h
-      → view (record { head = stored d h; subs = subs; rows = rows }) ≡ headView d subs rows (idsAt (d .producers) (drop 17 h)) (auditsAt (d .audits) (drop 113 h))
+  -- stored numbers are viewed as they are, with the producers and audits that the head then has
+  pub stored-any : (d : Head) (h : List ℕ) → 8346 ≤ length h
+      → view (record { head = stored d h; subs = subs; rows = rows }) ≡ headView d subs rows (idsAt (d .producers) (settled d h)) (auditsAt (d .audits) (drop 96 (settled d h)))
   unfolding headView headWords view
-  stored-view d h l = rw (stored-long d h l, drop-drop 96 17 h, kind-word (d .queue), flag-of-word (d .idle))
+  stored-any d h l =
+      let a : at 8328 (settled d h) ≡ d .allowance = getD-set-same (drop 17 h) 8328 (d .allowance) 0 (omega (arith, length-drop 17 h)) in
+      rw (stored-long d h l, a, kind-word (d .queue), flag-of-word (d .idle))
 
-  pub stored-strict : (d : Head) (h : List ℕ) → 8345 ≤ length h → strict (record { head = stored d h; subs = subs; rows = rows }) ≡ strictTables d subs rows
+  -- with those of the head, where the allowance is that of the head
+  pub stored-view : (d : Head) (h : List ℕ) → 8346 ≤ length h → d .allowance ≡ at 8345 h
+      → view (record { head = stored d h; subs = subs; rows = rows }) ≡ headView d subs rows (idsAt (d .producers) (drop 17 h)) (auditsAt (d .audits) (drop 113 h))
+  stored-view d h l a = stored-any d h l
+      ∙ ap₂ (λ (x y : List ℕ). headView d subs rows (idsAt (d .producers) x) (auditsAt (d .audits) y)) (settled-same d h a) (ap (drop 96) (settled-same d h a) ∙ drop-drop 96 17 h)
+
+  pub stored-strict : (d : Head) (h : List ℕ) → 8346 ≤ length h → strict (record { head = stored d h; subs = subs; rows = rows }) ≡ strictTables d subs rows
   unfolding headWords strict
   stored-strict d h l = rw (stored-long d h l, kind-mark (d .queue), mark-byte (d .idle), and-true)
 
@@ -83,11 +95,11 @@ module _ (subs rows : List Row) where
   unfolding headOf strict
   loaded-strict h used s = every-all (isMark (at 0 h) ∷ isMark (at 5 h) ∷ strictTables (headOf h used) subs rows ∷ []) s .1 .1 .0
 
-  pub stored-formed : (d : Head) (h : List ℕ) → 8345 ≤ length h
+  pub stored-formed : (d : Head) (h : List ℕ) → 8346 ≤ length h
       → formed (record { head = stored d h; subs = subs; rows = rows })
-      ≡ every (leb (d .consumers) 32 ∷ leb (d .producers) 32 ∷ leb (d .audits) 8 ∷ leb (subRows (take (d .consumers) subs) + (d .reserved + d .waiting)) 512 ∷ ringsFormed (d .audits) (drop 113 h) ∷ strictTables d subs rows ∷ [])
+      ≡ every (leb (d .consumers) 32 ∷ leb (d .producers) 32 ∷ leb (d .audits) 8 ∷ leb (subRows (take (d .consumers) subs) + (d .reserved + d .waiting)) 512 ∷ ringsFormed (d .audits) (drop 96 (settled d h)) ∷ strictTables d subs rows ∷ [])
   unfolding headWords formed
-  stored-formed d h l = rw (stored-strict d h l, stored-long d h l, drop-drop 96 17 h)
+  stored-formed d h l = rw (stored-strict d h l, stored-long d h l)
 
 -- ---- one number changed
 

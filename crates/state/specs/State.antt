@@ -4,7 +4,7 @@ use mathlib.Core.Bool.{Bool, true, false, _&&_}
 use mathlib.Core.List.{List, [], _∷_, _++_, map}
 use mathlib.Core.Option.{none, some}
 use lib.Dec.{eqb, ltb}
-use lib.ListN.{length, take, drop}
+use lib.ListN.{length, take, drop, set}
 use mir.Val.{boolByte}
 use Rattle.words.specs.Pick.{if_then_else_}
 use Rattle.entry.specs.Entry.{entryOf}
@@ -17,11 +17,12 @@ use Rattle.stats.specs.declared.Stats.{Stats}
 use Rattle.state.specs.declared.Head.{Head}
 use Rattle.state.specs.declared.Answer.{Answer}
 
--- the head's first 17 words, by value, with so many rows in use
+-- the head's first 17 words and its last, by value, with so many rows in use
 unfoldable pub headOf : List ℕ → ℕ → Head
 headOf h used = record {
   «topic_limit» = at 1 h;
   «call_limit» = at 2 h;
+  allowance = at 8345 h;
   «calls_used» = at 3 h;
   turn = at 4 h;
   «idle_since» = at 6 h;
@@ -46,6 +47,7 @@ abbrev pub noHead : Head
 noHead = record {
   «topic_limit» = 0;
   «call_limit» = 0;
+  allowance = 0;
   «calls_used» = 0;
   turn = 0;
   «idle_since» = 0;
@@ -63,14 +65,14 @@ noHead = record {
 
 -- the numbers of a head and a table of consumers
 unfoldable pub loaded : List ℕ → List Row → Head
-loaded h subs = if ltb (length h) 8345 then noHead else headOf h (usedOf h subs)
+loaded h subs = if ltb (length h) 8346 then noHead else headOf h (usedOf h subs)
 
 -- the kind's word: 0 for a queue, 1 for a topic
 abbrev pub kindWord : Bool → ℕ
 kindWord true = 0
 kindWord false = 1
 
--- and back
+-- and back, the first 17
 unfoldable pub headWords : Head → List ℕ
 headWords d =
     kindWord (d .queue) ∷ d .«topic_limit» ∷ d .«call_limit» ∷ d .«calls_used» ∷ d .turn ∷ boolByte (d .idle) ∷ d .«idle_since»
@@ -86,6 +88,7 @@ headView d subs rows producers audits =
       kind = kindBy (d .queue);
       topicLimit = d .«topic_limit»;
       callLimit = d .«call_limit»;
+      allowance = d .allowance;
       callsUsed = d .«calls_used»;
       pending = map entryOf (take (d .waiting) (drop (d .reserved) others));
       subs = subsAt (kindBy (d .queue)) used rows;
@@ -104,38 +107,38 @@ strictTables d subs rows = tablesStrict (d .reserved + d .waiting) (take (d .con
 -- ---- the numbers, one changed
 
 abbrev pub withCallsUsed : ℕ → Head → Head
-withCallsUsed x d = record { «topic_limit» = d .«topic_limit»; «call_limit» = d .«call_limit»; «calls_used» = x; turn = d .turn; «idle_since» = d .«idle_since»; stats = d .stats; consumers = d .consumers; producers = d .producers; audits = d .audits; reserved = d .reserved; waiting = d .waiting; used = d .used; events = d .events; queue = d .queue; idle = d .idle }
+withCallsUsed x d = record { «topic_limit» = d .«topic_limit»; «call_limit» = d .«call_limit»; allowance = d .allowance; «calls_used» = x; turn = d .turn; «idle_since» = d .«idle_since»; stats = d .stats; consumers = d .consumers; producers = d .producers; audits = d .audits; reserved = d .reserved; waiting = d .waiting; used = d .used; events = d .events; queue = d .queue; idle = d .idle }
 
 abbrev pub withStats : Stats → Head → Head
-withStats x d = record { «topic_limit» = d .«topic_limit»; «call_limit» = d .«call_limit»; «calls_used» = d .«calls_used»; turn = d .turn; «idle_since» = d .«idle_since»; stats = x; consumers = d .consumers; producers = d .producers; audits = d .audits; reserved = d .reserved; waiting = d .waiting; used = d .used; events = d .events; queue = d .queue; idle = d .idle }
+withStats x d = record { «topic_limit» = d .«topic_limit»; «call_limit» = d .«call_limit»; allowance = d .allowance; «calls_used» = d .«calls_used»; turn = d .turn; «idle_since» = d .«idle_since»; stats = x; consumers = d .consumers; producers = d .producers; audits = d .audits; reserved = d .reserved; waiting = d .waiting; used = d .used; events = d .events; queue = d .queue; idle = d .idle }
 
 abbrev pub withTurn : ℕ → Head → Head
-withTurn x d = record { «topic_limit» = d .«topic_limit»; «call_limit» = d .«call_limit»; «calls_used» = d .«calls_used»; turn = x; «idle_since» = d .«idle_since»; stats = d .stats; consumers = d .consumers; producers = d .producers; audits = d .audits; reserved = d .reserved; waiting = d .waiting; used = d .used; events = d .events; queue = d .queue; idle = d .idle }
+withTurn x d = record { «topic_limit» = d .«topic_limit»; «call_limit» = d .«call_limit»; allowance = d .allowance; «calls_used» = d .«calls_used»; turn = x; «idle_since» = d .«idle_since»; stats = d .stats; consumers = d .consumers; producers = d .producers; audits = d .audits; reserved = d .reserved; waiting = d .waiting; used = d .used; events = d .events; queue = d .queue; idle = d .idle }
 
 abbrev pub withConsumers : ℕ → Head → Head
-withConsumers x d = record { «topic_limit» = d .«topic_limit»; «call_limit» = d .«call_limit»; «calls_used» = d .«calls_used»; turn = d .turn; «idle_since» = d .«idle_since»; stats = d .stats; consumers = x; producers = d .producers; audits = d .audits; reserved = d .reserved; waiting = d .waiting; used = d .used; events = d .events; queue = d .queue; idle = d .idle }
+withConsumers x d = record { «topic_limit» = d .«topic_limit»; «call_limit» = d .«call_limit»; allowance = d .allowance; «calls_used» = d .«calls_used»; turn = d .turn; «idle_since» = d .«idle_since»; stats = d .stats; consumers = x; producers = d .producers; audits = d .audits; reserved = d .reserved; waiting = d .waiting; used = d .used; events = d .events; queue = d .queue; idle = d .idle }
 
 abbrev pub withProducers : ℕ → Head → Head
-withProducers x d = record { «topic_limit» = d .«topic_limit»; «call_limit» = d .«call_limit»; «calls_used» = d .«calls_used»; turn = d .turn; «idle_since» = d .«idle_since»; stats = d .stats; consumers = d .consumers; producers = x; audits = d .audits; reserved = d .reserved; waiting = d .waiting; used = d .used; events = d .events; queue = d .queue; idle = d .idle }
+withProducers x d = record { «topic_limit» = d .«topic_limit»; «call_limit» = d .«call_limit»; allowance = d .allowance; «calls_used» = d .«calls_used»; turn = d .turn; «idle_since» = d .«idle_since»; stats = d .stats; consumers = d .consumers; producers = x; audits = d .audits; reserved = d .reserved; waiting = d .waiting; used = d .used; events = d .events; queue = d .queue; idle = d .idle }
 
 abbrev pub withAudits : ℕ → Head → Head
-withAudits x d = record { «topic_limit» = d .«topic_limit»; «call_limit» = d .«call_limit»; «calls_used» = d .«calls_used»; turn = d .turn; «idle_since» = d .«idle_since»; stats = d .stats; consumers = d .consumers; producers = d .producers; audits = x; reserved = d .reserved; waiting = d .waiting; used = d .used; events = d .events; queue = d .queue; idle = d .idle }
+withAudits x d = record { «topic_limit» = d .«topic_limit»; «call_limit» = d .«call_limit»; allowance = d .allowance; «calls_used» = d .«calls_used»; turn = d .turn; «idle_since» = d .«idle_since»; stats = d .stats; consumers = d .consumers; producers = d .producers; audits = x; reserved = d .reserved; waiting = d .waiting; used = d .used; events = d .events; queue = d .queue; idle = d .idle }
 
 abbrev pub withReserved : ℕ → Head → Head
-withReserved x d = record { «topic_limit» = d .«topic_limit»; «call_limit» = d .«call_limit»; «calls_used» = d .«calls_used»; turn = d .turn; «idle_since» = d .«idle_since»; stats = d .stats; consumers = d .consumers; producers = d .producers; audits = d .audits; reserved = x; waiting = d .waiting; used = d .used; events = d .events; queue = d .queue; idle = d .idle }
+withReserved x d = record { «topic_limit» = d .«topic_limit»; «call_limit» = d .«call_limit»; allowance = d .allowance; «calls_used» = d .«calls_used»; turn = d .turn; «idle_since» = d .«idle_since»; stats = d .stats; consumers = d .consumers; producers = d .producers; audits = d .audits; reserved = x; waiting = d .waiting; used = d .used; events = d .events; queue = d .queue; idle = d .idle }
 
 abbrev pub withWaiting : ℕ → Head → Head
-withWaiting x d = record { «topic_limit» = d .«topic_limit»; «call_limit» = d .«call_limit»; «calls_used» = d .«calls_used»; turn = d .turn; «idle_since» = d .«idle_since»; stats = d .stats; consumers = d .consumers; producers = d .producers; audits = d .audits; reserved = d .reserved; waiting = x; used = d .used; events = d .events; queue = d .queue; idle = d .idle }
+withWaiting x d = record { «topic_limit» = d .«topic_limit»; «call_limit» = d .«call_limit»; allowance = d .allowance; «calls_used» = d .«calls_used»; turn = d .turn; «idle_since» = d .«idle_since»; stats = d .stats; consumers = d .consumers; producers = d .producers; audits = d .audits; reserved = d .reserved; waiting = x; used = d .used; events = d .events; queue = d .queue; idle = d .idle }
 
 abbrev pub withUsed : ℕ → Head → Head
-withUsed x d = record { «topic_limit» = d .«topic_limit»; «call_limit» = d .«call_limit»; «calls_used» = d .«calls_used»; turn = d .turn; «idle_since» = d .«idle_since»; stats = d .stats; consumers = d .consumers; producers = d .producers; audits = d .audits; reserved = d .reserved; waiting = d .waiting; used = x; events = d .events; queue = d .queue; idle = d .idle }
+withUsed x d = record { «topic_limit» = d .«topic_limit»; «call_limit» = d .«call_limit»; allowance = d .allowance; «calls_used» = d .«calls_used»; turn = d .turn; «idle_since» = d .«idle_since»; stats = d .stats; consumers = d .consumers; producers = d .producers; audits = d .audits; reserved = d .reserved; waiting = d .waiting; used = x; events = d .events; queue = d .queue; idle = d .idle }
 
 abbrev pub withEvents : ℕ → Head → Head
-withEvents x d = record { «topic_limit» = d .«topic_limit»; «call_limit» = d .«call_limit»; «calls_used» = d .«calls_used»; turn = d .turn; «idle_since» = d .«idle_since»; stats = d .stats; consumers = d .consumers; producers = d .producers; audits = d .audits; reserved = d .reserved; waiting = d .waiting; used = d .used; events = x; queue = d .queue; idle = d .idle }
+withEvents x d = record { «topic_limit» = d .«topic_limit»; «call_limit» = d .«call_limit»; allowance = d .allowance; «calls_used» = d .«calls_used»; turn = d .turn; «idle_since» = d .«idle_since»; stats = d .stats; consumers = d .consumers; producers = d .producers; audits = d .audits; reserved = d .reserved; waiting = d .waiting; used = d .used; events = x; queue = d .queue; idle = d .idle }
 
 -- the idle mark, and its clock
 abbrev pub withIdle : Bool → ℕ → Head → Head
-withIdle b x d = record { «topic_limit» = d .«topic_limit»; «call_limit» = d .«call_limit»; «calls_used» = d .«calls_used»; turn = d .turn; «idle_since» = x; stats = d .stats; consumers = d .consumers; producers = d .producers; audits = d .audits; reserved = d .reserved; waiting = d .waiting; used = d .used; events = d .events; queue = d .queue; idle = b }
+withIdle b x d = record { «topic_limit» = d .«topic_limit»; «call_limit» = d .«call_limit»; allowance = d .allowance; «calls_used» = d .«calls_used»; turn = d .turn; «idle_since» = x; stats = d .stats; consumers = d .consumers; producers = d .producers; audits = d .audits; reserved = d .reserved; waiting = d .waiting; used = d .used; events = d .events; queue = d .queue; idle = b }
 
 -- `idle_since = None`
 abbrev pub notIdle : Head → Head
@@ -146,6 +149,10 @@ unfoldable pub touched : ℕ → Head → Head
 touched now d =
     if eqb (d .waiting) 0 && (eqb (d .consumers) 0 && eqb (d .producers) 0) then (if d .idle then d else withIdle true now d)
     else notIdle d
+
+-- the clock that entries expire by
+abbrev pub dueBy : ℕ → Head → ℕ
+dueBy now d = now - d .allowance
 
 -- ---- what a call leaves
 
@@ -169,9 +176,9 @@ freeRows d = 512 - d .used
 
 -- ---- what is written
 
--- to a head of full size the first 17 words
+-- to a head of full size the first 17 words, and the last
 unfoldable pub stored : Head → List ℕ → List ℕ
-stored d h = if ltb (length h) 8345 then h else headWords d ++ drop 17 h
+stored d h = if ltb (length h) 8346 then h else set (headWords d ++ drop 17 h) 8345 (d .allowance)
 
 -- an event is appended, where there is room
 unfoldable pub pushed : Head → ℕ → Head

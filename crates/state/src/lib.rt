@@ -6,13 +6,16 @@ ghost use Rattle.model.specs.Model.{idOf};
 ghost use Rattle.stats.specs.Counted.{more, withEnqueued, withDequeuedBy, withExpiredBy, withDiscardedBy, withDispatched};
 ghost use Rattle.definition.specs.Types.{letter, message, null};
 ghost use Rattle.definition.specs.Layout.{eventWords};
-ghost use Rattle.state.specs.State.{kindWord, noHead, loaded, stored, pushed, touched, notIdle, refusedAs, doneAs, withCallsUsed, withStats, firstWaiting, firstReserved, freeRows};
+ghost use Rattle.state.specs.State.{kindWord, noHead, loaded, stored, pushed, touched, notIdle, dueBy, refusedAs, doneAs, withCallsUsed, withStats, firstWaiting, firstReserved, freeRows};
 ghost use Rattle.state.specs.Fits.{tablesFit, numbersFit, countersFit, fits};
 use consumers::SubRow;
 use stats::Stats;
 
 // The head's words.
-pub const HEAD_WORDS: usize = 8345;
+pub const HEAD_WORDS: usize = 8346;
+
+// The last of them: the allowance for slow clocks.
+const ALLOWANCE: usize = 8345;
 
 // The tables: consumers, rows, events.
 pub const CONSUMERS: usize = 32;
@@ -33,10 +36,11 @@ const MESSAGE: u64 = 2;
 
 const NULL: u64 = 3;
 
-// What a call carries: the head's first words, the rows in use, and the events sent so far.
+// What a call carries: the head's first words and its last, the rows in use, and the events sent so far.
 pub struct Head {
     pub topic_limit: u64,
     pub call_limit: u64,
+    pub allowance: u64,
     pub calls_used: u64,
     pub turn: usize,
     pub idle_since: u64,
@@ -81,6 +85,17 @@ impl Head {
         self.idle = false;
         self.idle_since = 0;
         self
+    }
+
+    // The clock that entries expire by: less the allowance, or 0 where that is below 0.
+    pub fn due(self, clock: u64) -> u64
+        ensures { λ r. ⌜ r ≡ dueBy clock self ⌝ }
+    {
+        if self.allowance <= clock {
+            clock - self.allowance
+        } else {
+            0
+        }
     }
 
     // One call more.
@@ -231,6 +246,7 @@ fn no_head() -> Head
     Head {
         topic_limit: 0,
         call_limit: 0,
+        allowance: 0,
         calls_used: 0,
         turn: 0,
         idle_since: 0,
@@ -267,6 +283,7 @@ pub fn load(head: &[u64], subs: &[SubRow]) -> Head
     Head {
         topic_limit: head[1],
         call_limit: head[2],
+        allowance: head[ALLOWANCE],
         calls_used: head[3],
         turn: head[4] as usize,
         idle_since: head[6],
@@ -307,6 +324,7 @@ pub fn store(head: &mut [u64], d: Head)
     head[14] = d.audits as u64;
     head[15] = d.reserved as u64;
     head[16] = d.waiting as u64;
+    head[ALLOWANCE] = d.allowance;
 }
 
 // ---- events

@@ -25,6 +25,7 @@ leaves-counted f g s d r subs rows events subs′ rows′ events′ same l = rec
   producers = l .producers;
   audits = l .audits;
   queue = l .queue;
+  allowance = l .allowance;
   consumers = l .consumers;
   used = l .used;
   rows-used = l .rows-used;

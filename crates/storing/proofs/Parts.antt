@@ -85,6 +85,7 @@ made d subs reserved waiting producers audits = record {
   kind = kindBy (d .queue);
   topicLimit = d .«topic_limit»;
   callLimit = d .«call_limit»;
+  allowance = d .allowance;
   callsUsed = d .«calls_used»;
   pending = map entryOf waiting;
   subs = subs;

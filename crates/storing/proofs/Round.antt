@@ -408,6 +408,7 @@ module _ (e : Entry) (subs₀ rows₀ : List Row) (d₀ : Head) (a : Arrives e d
             kind = kindBy (d₀ .queue);
             topicLimit = limit;
             callLimit = d₀ .«call_limit»;
+            allowance = d₀ .allowance;
             callsUsed = d₀ .«calls_used»;
             pending = map entryOf (g .waiting j);
             subs = mine j;
@@ -447,6 +448,7 @@ module _ (e : Entry) (subs₀ rows₀ : List Row) (d₀ : Head) (a : Arrives e d
               producers = same (λ (x : Head). x .producers);
               audits = same (λ (x : Head). x .audits);
               queue = same (λ (x : Head). x .queue);
+              allowance = same (λ (x : Head). x .allowance);
               consumers = omega (arith, count, a .consumers);
               used = omega (arith, g .room);
               rows-used = omega (arith, own, kept, g .used);

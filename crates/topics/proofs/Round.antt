@@ -252,6 +252,7 @@ module _ (now : ℕ) (subs₀ rows₀ events₀ : List Row) (d₀ : Head) (fits 
             kind = kindBy (d₀ .queue);
             topicLimit = d₀ .«topic_limit»;
             callLimit = d₀ .«call_limit»;
+            allowance = d₀ .allowance;
             callsUsed = d₀ .«calls_used»;
             pending = map entryOf (waits j);
             subs = mine j;
@@ -287,6 +288,7 @@ module _ (now : ℕ) (subs₀ rows₀ events₀ : List Row) (d₀ : Head) (fits 
               producers = same (λ (x : Head). x .producers);
               audits = same (λ (x : Head). x .audits);
               queue = same (λ (x : Head). x .queue);
+              allowance = same (λ (x : Head). x .allowance);
               consumers = omega (arith, n, fits .consumers);
               used = omega (arith, r .used, fits .used);
               rows-used = rw m (omega arith);

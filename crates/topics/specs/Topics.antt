@@ -96,6 +96,7 @@ abbrev pub moved : Head → Head → Head
 moved d r = record {
   «topic_limit» = d .«topic_limit»;
   «call_limit» = d .«call_limit»;
+  allowance = d .allowance;
   «calls_used» = d .«calls_used»;
   turn = d .turn;
   «idle_since» = d .«idle_since»;

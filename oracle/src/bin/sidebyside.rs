@@ -11,6 +11,7 @@ use std::env;
 use std::fs;
 use std::process::ExitCode;
 
+use destination_oracle::harness::arguments;
 use destination_oracle::harness::callfile::{self, ack_bit, code, Call, BLOCK};
 use destination_oracle::harness::corners;
 use destination_oracle::harness::engine::refusal;
@@ -248,7 +249,28 @@ fn conditions(call: &Call, both: &Both) -> Vec<(&'static str, bool)> {
             "the same, where the first would mark more than the last",
             accepted && single(call, whole).is_some_and(|more| more),
         ),
+        ("calls with an allowance", accepted && whole.allowance > 0),
+        (
+            "calls at a clock below the allowance",
+            accepted && clock_of(call).is_some_and(|clock| clock < whole.allowance),
+        ),
+        (
+            "calls that leave an entry that only the allowance keeps",
+            accepted && clock_of(call).is_some_and(|clock| kept(whole, clock)),
+        ),
     ]
+}
+
+fn clock_of(call: &Call) -> Option<u64> {
+    arguments::clock_place(call.code).map(|place| call.args[place])
+}
+
+/// Whether something waits whose expiration is at most the clock, and above the clock less the allowance.
+fn kept(whole: &Whole, clock: u64) -> bool {
+    let lists = whole.subs.iter().flat_map(|s| [&s.tpending, &s.snapshot]);
+    let mut waiting = lists.chain([&whole.waiting]).flatten();
+    let reduced = clock.saturating_sub(whole.allowance) as i64;
+    waiting.any(|e| e.expiration > reduced && e.expiration <= clock as i64)
 }
 
 /// Of a transacted INDIVIDUAL of a consumer that is there: whether its range, first to last, is more than its last.

@@ -6,6 +6,8 @@ use super::host::NO_SELECTOR;
 pub const CLOCK_MAX: u64 = 1 << 62;
 pub const CALL_LIMIT_MAX: u64 = 1 << 40;
 pub const ROWS: u64 = 512;
+/// A day of milliseconds.
+pub const ALLOWANCE_MAX: u64 = 86_400_000;
 pub const SEQUENCE_MAX: u64 = (1 << 63) - 1;
 
 /// What a word may hold.
@@ -38,7 +40,13 @@ const UNUSED: Range = Within(0, 0);
 /// Ranges of the words a call uses, or nothing for an unknown code.
 fn ranges(call: &Call) -> Option<Vec<Range>> {
     Some(match call.code {
-        code::OPEN => vec![FLAG, Within(0, ROWS), Within(1, CALL_LIMIT_MAX), CLOCK],
+        code::OPEN => vec![
+            FLAG,
+            Within(0, ROWS),
+            Within(1, CALL_LIMIT_MAX),
+            CLOCK,
+            Within(0, ALLOWANCE_MAX),
+        ],
         code::ENQUEUE => vec![Within(1, SEQUENCE_MAX), Any, FLAG, Any, Any, Int32, CLOCK],
         code::JOIN => vec![Any, Any, Any, Int32, Within(0, NO_SELECTOR), Within(0, 3), CLOCK],
         code::LEAVE => vec![Any, Any, Any, Any, CLOCK],

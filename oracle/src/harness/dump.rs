@@ -37,7 +37,11 @@ fn write_state(out: &mut String, whole: &Whole, audits: Audits) -> fmt::Result {
     let (used, limit) = (whole.calls_used, whole.call_limit);
     write!(out, "state calls={used}/{limit} idle={}", or_dash(whole.idle))?;
     let s = whole.stats;
-    write!(out, " {kind} limit={}", whole.topic_limit)?;
+    write!(
+        out,
+        " {kind} limit={} allowance={}",
+        whole.topic_limit, whole.allowance
+    )?;
     write!(out, " stats={},{},{},{},{}", s[0], s[1], s[2], s[3], s[4])?;
     write!(out, " turn={} waiting={}", whole.turn, entries(&whole.waiting))?;
     for sub in &whole.subs {

@@ -104,6 +104,8 @@ pub struct Opened {
     pub topic_limit: u64,
     pub call_limit: u64,
     pub calls_used: u64,
+    /// The allowance for slow clocks (document 02 §4).
+    pub allowance: u64,
     /// The broker's idle mark, and the clock of the call that set it.
     idle: Option<(Instant, u64)>,
     /// Whose marks are cleared, though the broker still has them: the first half of a release that waits for
@@ -115,6 +117,12 @@ impl Opened {
     /// The idle mark as a clock.
     pub fn idle_clock(&self) -> Option<u64> {
         self.idle.map(|(_, clock)| clock)
+    }
+
+    /// The clock that the broker gets: the call's less the allowance, or 0 where that is below 0. The broker reads
+    /// it for expirations alone; its idle mark is its own.
+    fn reduced(&self, clock: u64) -> i64 {
+        clock.saturating_sub(self.allowance) as i64
     }
 
     /// The consumer whose marks count as cleared.
@@ -270,7 +278,7 @@ impl Engine {
     }
 
     fn open(&mut self, call: &Call) {
-        let [kind, topic_limit, call_limit, clock, ..] = call.args;
+        let [kind, topic_limit, call_limit, clock, allowance, ..] = call.args;
         let kind = if kind == 0 {
             DestKind::Queue
         } else {
@@ -283,6 +291,7 @@ impl Engine {
             topic_limit,
             call_limit,
             calls_used: 0,
+            allowance,
             idle,
             unmarked: None,
         });
@@ -310,7 +319,7 @@ impl Engine {
         let dest = &opened.dest;
         match call.code {
             code::ENQUEUE => self.refuse_enqueue(dest, call),
-            code::JOIN => self.refuse_join(dest, call),
+            code::JOIN => self.refuse_join(opened, call),
             code::ADD_PRODUCER => {
                 let id = host::producer_id(id_of(call));
                 let full = probe::producer_count(dest) >= PRODUCERS_MAX;
@@ -337,7 +346,8 @@ impl Engine {
         refuse_if(needed > free_rows(dest), refusal::NO_ROWS)
     }
 
-    fn refuse_join(&self, dest: &Dest, call: &Call) -> u8 {
+    fn refuse_join(&self, opened: &Opened, call: &Call) -> u8 {
+        let dest = &opened.dest;
         if probe::has_sub(dest, &host::consumer_id(id_of(call))) {
             return refusal::PRESENT;
         }
@@ -349,7 +359,7 @@ impl Engine {
             return refusal::NONE;
         }
         let selector = self.selectors[selector as usize].as_deref();
-        let needed = probe::snapshot_rows(dest, selector, clock as i64);
+        let needed = probe::snapshot_rows(dest, selector, opened.reduced(clock));
         refuse_if(needed > free_rows(dest), refusal::NO_ROWS)
     }
 
@@ -358,7 +368,8 @@ impl Engine {
     /// The broker's arguments for an accepted call.
     pub fn prepare(&self, call: &Call) -> Prepared {
         let a = &call.args;
-        let now = |place: usize| a[place] as i64;
+        let opened = self.opened.as_ref().expect("an accepted call has a destination");
+        let now = |place: usize| opened.reduced(a[place]);
         let consumer = || host::consumer_id(id_of(call));
         let producer = || host::producer_id(id_of(call));
         match call.code {

@@ -120,8 +120,10 @@ impl Maker {
     /// The clock moves, mostly onward.
     fn tick(&mut self) {
         match self.random.below(40) {
-            0 => self.clock = self.clock.saturating_sub(self.random.below(20)),
-            1 if self.profile.wild => self.clock = self.random.sized(62),
+            k if k < self.profile.clock_back => {
+                self.clock = self.clock.saturating_sub(self.random.below(20));
+            }
+            k if k == self.profile.clock_back && self.profile.wild => self.clock = self.random.sized(62),
             _ => self.clock += self.random.below(self.profile.clock_step + 1),
         }
         self.clock = self.clock.min(1 << 62);

@@ -6,7 +6,7 @@ use super::engine::Event;
 use super::host::{EntryNumbers, Id};
 use super::whole::{InflightNumbers, SubNumbers, Whole};
 
-pub const HEAD: usize = 8345;
+pub const HEAD: usize = 8346;
 pub const CONSUMERS: usize = 32;
 pub const ROWS: usize = 512;
 pub const EVENTS: usize = 545;
@@ -15,6 +15,7 @@ pub const PRODUCERS_AT: usize = 17;
 pub const AUDITS_AT: usize = 113;
 pub const AUDIT: usize = 1029;
 pub const WINDOW: usize = 1024;
+pub const ALLOWANCE_AT: usize = 8345;
 
 pub type SubRow = [u64; 16];
 pub type Row = [u64; 9];
@@ -421,6 +422,7 @@ impl Lent {
             topic_limit: h[1],
             call_limit: h[2],
             calls_used: h[3],
+            allowance: h[ALLOWANCE_AT],
             idle: (h[5] != 0).then_some(h[6]),
             stats: h[7..12].try_into().expect("five counters"),
             turn: h[4],
@@ -441,7 +443,7 @@ impl Lent {
     }
 
     fn audits(&self) -> Option<Vec<(Id, Vec<i64>)>> {
-        let table = &self.head[AUDITS_AT..];
+        let table = &self.head[AUDITS_AT..ALLOWANCE_AT];
         let used = (self.head[14] as usize).checked_mul(AUDIT)?;
         table.get(..used)?.chunks(AUDIT).map(audit).collect()
     }

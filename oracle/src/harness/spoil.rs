@@ -3,7 +3,7 @@
 
 use std::collections::BTreeMap;
 
-use super::library::{Lent, Outcome, Row, AUDIT, AUDITS_AT, PRODUCERS_AT};
+use super::library::{Lent, Outcome, Row, ALLOWANCE_AT, AUDIT, AUDITS_AT, PRODUCERS_AT};
 use super::random::Random;
 use super::sides::Both;
 
@@ -127,6 +127,7 @@ fn every_class() -> Vec<String> {
     };
     let mut all = named("outcome", &["refusal", "answer", "events"]);
     all.extend(named("head", &HEAD));
+    all.extend(named("head", &["allowance"]));
     all.extend(named("consumer", &SUB));
     all.extend(named("in flight", &ENTRY));
     all.extend(named("in flight", &FLYING));
@@ -169,6 +170,7 @@ fn head_places(add: &mut impl FnMut(String, Place), lent: &Lent) {
             add(format!("head: {name}"), Place::Head(k));
         }
     }
+    add("head: allowance".into(), Place::Head(ALLOWANCE_AT));
     for i in 0..h[13] as usize {
         for (k, name) in ID.iter().enumerate() {
             add(format!("producer: {name}"), Place::Head(PRODUCERS_AT + 3 * i + k));

@@ -12,6 +12,7 @@ pub struct Whole {
     pub topic_limit: u64,
     pub call_limit: u64,
     pub calls_used: u64,
+    pub allowance: u64,
     /// The clock of the idle mark.
     pub idle: Option<u64>,
     /// Enqueued, dequeued, expired, discarded, dispatched.
@@ -67,6 +68,7 @@ impl Whole {
             topic_limit: opened.topic_limit,
             call_limit: opened.call_limit,
             calls_used: opened.calls_used,
+            allowance: opened.allowance,
             idle: opened.idle_clock(),
             stats: [s.enqueued, s.dequeued, s.expired, s.discarded, s.dispatched],
             turn: view.turn as u64,

@@ -21,6 +21,9 @@ array-read-t12 c = search needs
 array-read-t15 : tie.Need-array-read-t15
 array-read-t15 c = search needs
 
+array-read-t18 : tie.Need-array-read-t18
+array-read-t18 c = search needs
+
 -- src/lib.rt:35:1
 returns : tie.Need-returns
 unfolding openedHead
@@ -28,4 +31,4 @@ returns c = refl
 
 pub opened-spec : {M : Type 1} → statement M
 opened-spec =
-    tie.close (tie.spec array-read-t6 array-read-t9 array-read-t12 array-read-t15 returns)
+    tie.close (tie.spec array-read-t6 array-read-t9 array-read-t12 array-read-t15 array-read-t18 returns)

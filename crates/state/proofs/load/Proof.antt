@@ -65,25 +65,28 @@ shared-slice-read-t13-2 c = search needs
 shared-slice-read-t28 : tie.Need-shared-slice-read-t28
 shared-slice-read-t28 c = search needs
 
-shared-slice-read-t31 : tie.Need-shared-slice-read-t31
-shared-slice-read-t31 c = search needs
+shared-slice-read-t30 : tie.Need-shared-slice-read-t30
+shared-slice-read-t30 c = search needs
 
-shared-slice-read-t34 : tie.Need-shared-slice-read-t34
-shared-slice-read-t34 c = search needs
+shared-slice-read-t33 : tie.Need-shared-slice-read-t33
+shared-slice-read-t33 c = search needs
 
-shared-slice-read-t37 : tie.Need-shared-slice-read-t37
-shared-slice-read-t37 c = search needs
+shared-slice-read-t36 : tie.Need-shared-slice-read-t36
+shared-slice-read-t36 c = search needs
 
-shared-slice-read-t40 : tie.Need-shared-slice-read-t40
-shared-slice-read-t40 c = search needs
+shared-slice-read-t39 : tie.Need-shared-slice-read-t39
+shared-slice-read-t39 c = search needs
 
 shared-slice-read-t42 : tie.Need-shared-slice-read-t42
 shared-slice-read-t42 c = search needs
 
+shared-slice-read-t44 : tie.Need-shared-slice-read-t44
+shared-slice-read-t44 c = search needs
+
 returns-2 : tie.Need-returns-2
 unfolding headOf loaded
 returns-2 c =
-    let u = c .before .before .before .before .before .before .before .before .before .before .before .before .before .before .before .before in
+    let u = c .before .before .before .before .before .before .before .before .before .before .before .before .before .before .before .before .before in
     let b = u .before .before .before in
     let a = b .before .before .before .before .args in
     let h : List ℕ = now (a .head) in
@@ -112,9 +115,10 @@ load-spec =
     shared-slice-read-t17-2
     shared-slice-read-t13-2
     shared-slice-read-t28
-    shared-slice-read-t31
-    shared-slice-read-t34
-    shared-slice-read-t37
-    shared-slice-read-t40
+    shared-slice-read-t30
+    shared-slice-read-t33
+    shared-slice-read-t36
+    shared-slice-read-t39
     shared-slice-read-t42
+    shared-slice-read-t44
     returns-2)

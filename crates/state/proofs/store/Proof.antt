@@ -1,11 +1,12 @@
--- `state::store` meets its contract: seventeen stores in a row are the words at the front. Assumes nothing.
+-- `state::store` meets its contract: seventeen stores in a row are the words at the front, and one is the last. Assumes nothing.
+use mathlib.Core.Path.{ap}
 use mathlib.Core.List.{List}
 use Prim.Native.Nat.{ℕ}
 use native.Mathlib.Omega.{arith}
 use borrow.Author.Needs.{needs}
 use borrow.Author.Tests.{lt-ltb, le-ltb}
 use denote.Ref.{now}
-use lib.ListN.{length-set}
+use lib.ListN.{set, length-set}
 use lib.Seq.{sets-eq}
 use Rattle.state.specs.State.{headWords, stored}
 use Rattle.state.proofs.store.Statement.{statement}
@@ -72,6 +73,9 @@ slice-write-head-16 c = simp length-set (omega arith)
 slice-write-head-17 : tie.Need-slice-write-head-17
 slice-write-head-17 c = simp length-set (omega arith)
 
+slice-write-head-18 : tie.Need-slice-write-head-18
+slice-write-head-18 c = simp length-set (omega arith)
+
 same-length : tie.Need-same-length
 same-length c = simp length-set
 
@@ -80,7 +84,7 @@ unfolding stored headWords
 returns-2 c =
     let a = c .before .before .before .before .args in
     let h : List ℕ = now (a .head) in
-    rw (c .before .kind-word .ensures, le-ltb _ _ (c .before .before .if1 .left)) (sets-eq (headWords (a .d)) h 0 (omega arith))
+    rw (c .before .kind-word .ensures, le-ltb _ _ (c .before .before .if1 .left)) (ap (λ (l : List ℕ). set l 8345 (a .d .allowance)) (sets-eq (headWords (a .d)) h 0 (omega arith)))
 
 pub store-spec : {M : Type 1} → statement M
 store-spec =
@@ -106,5 +110,6 @@ store-spec =
     slice-write-head-15
     slice-write-head-16
     slice-write-head-17
+    slice-write-head-18
     same-length
     returns-2)

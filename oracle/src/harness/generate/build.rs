@@ -1,6 +1,6 @@
 //! Arguments of one random call, most of them taken from the state.
 
-use super::super::arguments::{self, SEQUENCE_MAX};
+use super::super::arguments::{self, ALLOWANCE_MAX, SEQUENCE_MAX};
 use super::super::callfile::{ack_bit, code, join_flag, Call};
 use super::super::host::{self, Id, NO_SELECTOR};
 use super::super::random::Random;
@@ -93,7 +93,18 @@ fn open(maker: &mut Maker) -> Call {
     let kind = maker.random.pick(p.kinds);
     let topic_limit = maker.random.pick(p.topic_limits);
     let call_limit = maker.random.pick(p.call_limits);
-    Call::new(code::OPEN, &[kind, topic_limit, call_limit, maker.clock])
+    let allowance = match p.allowances {
+        [only] => *only,
+        some => maker.random.pick(some),
+    };
+    // Mostly the clock starts near the allowance.
+    if allowance > 0 && maker.random.chance(4, 5) {
+        maker.clock = (allowance + maker.random.below(120)).saturating_sub(60);
+    }
+    Call::new(
+        code::OPEN,
+        &[kind, topic_limit, call_limit, maker.clock, allowance],
+    )
 }
 
 // -- identifiers ----------------------------------------------------------------
@@ -257,7 +268,10 @@ fn expiration(maker: &mut Maker) -> i64 {
     if !maker.random.chance(maker.profile.expiring, 10) {
         return 0;
     }
-    let clock = maker.clock as i64;
+    let allowance = maker.engine.opened().map_or(0, |o| o.allowance) as i64;
+    // By the clock, or so that it expires about now.
+    let about_now = allowance > 0 && maker.random.chance(1, 2);
+    let clock = maker.clock as i64 - if about_now { allowance } else { 0 };
     match maker.random.below(16) {
         0 => clock,
         1 => clock - maker.random.between(0, 3),
@@ -445,6 +459,8 @@ pub fn spoil(maker: &mut Maker, call: &mut Call) {
         (1 << 31) - 1,
         1 << 31,
         (1 << 32) - 1,
+        ALLOWANCE_MAX,
+        ALLOWANCE_MAX + 1,
         1 << 40,
         (1 << 40) + 1,
         1 << 62,

@@ -1,5 +1,6 @@
 //! What each profile prefers.
 
+use super::super::arguments::ALLOWANCE_MAX;
 use super::super::callfile::code::*;
 
 pub struct Profile {
@@ -8,6 +9,8 @@ pub struct Profile {
     pub kinds: &'static [u64],
     pub topic_limits: &'static [u64],
     pub call_limits: &'static [u64],
+    /// Allowances for slow clocks.
+    pub allowances: &'static [u64],
     /// Codes with their weights. A first half of a release is followed by its second.
     pub weights: &'static [(u64, u64)],
     /// How many different consumers there are.
@@ -21,8 +24,9 @@ pub struct Profile {
     pub expiring: u64,
     /// Of ten acknowledgements, how many are transacted.
     pub transacted: u64,
-    /// The clock rises by at most this much a call.
+    /// The clock rises by at most this much a call, and goes back in so many of forty.
     pub clock_step: u64,
+    pub clock_back: u64,
     /// Numbers at the ends of their ranges come up.
     pub wild: bool,
     /// Enqueues and joins until hardly a row is free.
@@ -42,6 +46,7 @@ const MIXED: Profile = Profile {
     kinds: &[0, 1],
     topic_limits: &[0, 0, 1, 2, 5, 512],
     call_limits: PLENTY,
+    allowances: &[0],
     weights: &[
         (OPEN, 1),
         (ENQUEUE, 90),
@@ -67,6 +72,7 @@ const MIXED: Profile = Profile {
     expiring: 3,
     transacted: 3,
     clock_step: 3,
+    clock_back: 1,
     wild: true,
     fill: false,
     bad_words: 2,
@@ -242,6 +248,7 @@ const LIMITS: Profile = Profile {
     name: "limits",
     topic_limits: &[0, 1, 2, 511, 512],
     call_limits: &[1, 2, 3, 10, 20, 30, 60, 1 << 40],
+    allowances: &[0, 0, 1, 20, ALLOWANCE_MAX - 1, ALLOWANCE_MAX],
     weights: &[
         (OPEN, 6),
         (ENQUEUE, 20),
@@ -364,15 +371,50 @@ const HALVES: Profile = Profile {
     ..MIXED
 };
 
+const ALLOWANCE: Profile = Profile {
+    name: "allowance",
+    allowances: &[0, 1, 2, 5, 10, 20, 40],
+    weights: &[
+        (OPEN, 1),
+        (ENQUEUE, 60),
+        (JOIN, 14),
+        (LEAVE, 10),
+        (ACK, 40),
+        (PULL, 8),
+        (PREFETCH, 5),
+        (UNMARK, 5),
+        (SWEEP, 6),
+        (ADD_PRODUCER, 1),
+        (REMOVE_PRODUCER, 2),
+    ],
+    prefetches: &[0, 1, 1, 2, 3],
+    browsers: 3,
+    expiring: 9,
+    clock_step: 2,
+    clock_back: 4,
+    bad_words: 0,
+    ..MIXED
+};
+
+const DRIFT: Profile = Profile {
+    name: "drift",
+    allowances: &[30, 1000, 3_600_000, ALLOWANCE_MAX - 1, ALLOWANCE_MAX],
+    weights: ALLOWANCE.weights,
+    clock_step: 3,
+    clock_back: 12,
+    wild: false,
+    ..ALLOWANCE
+};
+
 const DAMAGED: Profile = Profile {
     name: "damaged",
     damaged: true,
     ..MIXED
 };
 
-static PROFILES: [Profile; 17] = [
+static PROFILES: [Profile; 19] = [
     QUEUE, TOPIC, BROWSER, TX, PULLS, EXPIRY, ROWS, CONSUMERS, LIMITS, BADWORDS, AUDITS, SWEEP_MANY,
-    CLEAR_MANY, PRODUCERS, HALVES, DAMAGED, MIXED,
+    CLEAR_MANY, PRODUCERS, HALVES, ALLOWANCE, DRIFT, DAMAGED, MIXED,
 ];
 
 impl Profile {

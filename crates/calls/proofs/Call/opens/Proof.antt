@@ -13,11 +13,14 @@ array-read-limits-2 c = search needs
 array-read-limits-3 : tie.Need-array-read-limits-3
 array-read-limits-3 c = search needs
 
+array-read-times : tie.Need-array-read-times
+array-read-times c = search needs
+
+array-read-times-2 : tie.Need-array-read-times-2
+array-read-times-2 c = search needs
+
 array-read-result : tie.Need-array-read-result
 array-read-result c = search needs
-
-array-read-result-2 : tie.Need-array-read-result-2
-array-read-result-2 c = search needs
 
 unused-requires : tie.Need-unused-requires
 unused-requires c κs = search needs
@@ -32,7 +35,8 @@ opens-spec =
     array-read-limits
     array-read-limits-2
     array-read-limits-3
+    array-read-times
+    array-read-times-2
     array-read-result
-    array-read-result-2
     unused-requires
     returns)
