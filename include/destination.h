@@ -205,7 +205,7 @@ struct destination_counted {
     uint64_t enqueued;   /* came in */
     uint64_t dequeued;   /* acknowledged as done */
     uint64_t expired;    /* were found to be expired, or acknowledged as such */
-    uint64_t discarded;  /* over a topic's limit, or rejected and not persistent; or by destination_add_discarded */
+    uint64_t discarded;  /* over a topic's limit and not expired, or rejected and not persistent; or by destination_add_discarded */
     uint64_t dispatched; /* were sent */
 };
 

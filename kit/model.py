@@ -407,14 +407,24 @@ def hold_back(seq, s):
     return replace(s, cursor=min(s.cursor, seq - 1))
 
 
-def fan_out(limit, e, s, t):
+def trim(now, limit, entries, t):
+    if pick("trim limit", limit == 0, "off", "set"):
+        return entries
+    if pick("trim", len(entries) <= limit, "within", "over"):
+        return entries
+    live = tuple(e for e in entries if not expired(now, e))
+    pick("trim over", len(live) < len(entries), "some have expired", "all live")
+    t.count("expired", len(entries) - len(live))
+    over = max(0, len(live) - limit)
+    pick("trim live", over > 0, "discards", "none")
+    t.count("discarded", over)
+    return live[over:]
+
+
+def fan_out(now, limit, e, s, t):
     if not pick("fanOut", accepts(s, e), "accepted", "refused"):
         return s
-    both = insert(e, s.tpending)
-    over = 0 if pick("fanOut limit", limit == 0, "off", "set") else max(0, len(both) - limit)
-    pick("fanOut over", over > 0, "discards", "none")
-    t.count("discarded", over)
-    return replace(s, tpending=both[over:])
+    return replace(s, tpending=trim(now, limit, insert(e, s.tpending), t))
 
 
 def enqueue(now, e, t):
@@ -424,7 +434,7 @@ def enqueue(now, e, t):
         t.pending = insert(e, t.pending)
         t.idle = None
         return dispatch_queue(due(now, t), t)
-    t.subs = tuple([fan_out(t.topic_limit, e, s, t) for s in each("fanOutAll", t.subs)])
+    t.subs = tuple([fan_out(due(now, t), t.topic_limit, e, s, t) for s in each("fanOutAll", t.subs)])
     return dispatch_topic(due(now, t), t)
 
 

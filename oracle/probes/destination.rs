@@ -1,7 +1,8 @@
 //! Child module of the destination: reads its private fields, and changes nothing but transaction marks, for a half
-//! of a release that comes alone.
+//! of a release that comes alone, and the surplus of a topic's lists in which something has expired.
 
 use std::collections::{BTreeMap, BTreeSet, HashMap};
+use std::sync::Arc;
 use std::time::Instant;
 
 use super::{Dest, Entry, State, Stats, Sub};
@@ -98,6 +99,71 @@ pub fn set_marks(dest: &Dest, id: &ConsumerId, marked: &[u64]) {
     for sub in st.subs.iter_mut().filter(|s| &s.id == id) {
         for (dseq, inflight) in &mut sub.inflight {
             inflight.tx = marked.contains(dseq);
+        }
+    }
+}
+
+// -- a topic's surplus ----------------------------------------------------------
+
+/// What was taken from lists that an entry would bring over the limit.
+#[derive(Default)]
+pub struct Surplus {
+    /// Lists that the entry brings over the limit.
+    pub over: u64,
+    /// Expired copies that waited in them.
+    pub expired: u64,
+    /// Consumers that are passed over, as the entry itself has expired, with their selectors.
+    passed_over: Vec<(ConsumerId, Option<Arc<Selector>>)>,
+}
+
+impl Surplus {
+    /// Lists that the expired entry does not get to.
+    pub fn kept_out(&self) -> u64 {
+        self.passed_over.len() as u64
+    }
+}
+
+/// Document 02 §5, before an enqueue that is accepted. On a topic with a limit, a list that the entry brings over it loses what
+/// has expired, by the broker's own `expire`; what is over besides is left to the broker. Where the entry itself has expired, it is one
+/// of these: its consumer gets a selector that takes nothing, until `put_back`, so that the broker passes it over.
+pub fn take_surplus(dest: &Dest, entry: &Entry, now_ms: i64, nothing: &Arc<Selector>) -> Surplus {
+    let mut taken = Surplus::default();
+    let max = dest.topic_max_pending;
+    if dest.is_queue() || max == 0 {
+        return taken;
+    }
+    let mut st = dest.state.lock();
+    let State { subs, stats, .. } = &mut *st;
+    for sub in subs.iter_mut() {
+        if !sub.accepts(entry) || sub.tpending.len() < max {
+            continue;
+        }
+        assert_eq!(sub.tpending.len(), max, "no list is over the limit between calls");
+        taken.over += 1;
+        let (gone, left) = std::mem::take(&mut sub.tpending)
+            .into_iter()
+            .partition(|(_, e)| e.expired(now_ms));
+        sub.tpending = left;
+        for (seq, e) in gone {
+            sub.texpiry.remove(&(e.msg.expiration, seq));
+            dest.expire(stats, e);
+            taken.expired += 1;
+        }
+        if entry.expired(now_ms) {
+            dest.expire(stats, entry.clone());
+            let own = sub.selector.replace(nothing.clone());
+            taken.passed_over.push((sub.id.clone(), own));
+        }
+    }
+    taken
+}
+
+/// After the enqueue: the selectors as they were.
+pub fn put_back(dest: &Dest, taken: Surplus) {
+    let mut st = dest.state.lock();
+    for (id, selector) in taken.passed_over {
+        for sub in st.subs.iter_mut().filter(|s| s.id == id) {
+            sub.selector = selector.clone();
         }
     }
 }

@@ -21,21 +21,11 @@ use Rattle.table.specs.declared.Found.the-variants.{At, Nothing}
 use Rattle.table.specs.Table.{inRange, freedRow, markRow, raisedRow, redeliverRow, findFrom, findSeq}
 use Rattle.table.proofs.Bounds.{find-in}
 use Rattle.table.proofs.Rows.{word-kept, freed-entry, freed-is, raised-entry}
+use Rattle.table.proofs.Segments.{tally-map, keep-map}
 use Rattle.table.proofs.Search.{find-from-at, find-at}
 use Rattle.acks.specs.declared.Span.{Span}
 use Rattle.acks.specs.Rules.{inSpan}
 use Rattle.acks.specs.Parts.{nine}
-
--- ---- lists through a map
-
-module _ {A B : Type 0} (g : A → B) (p : B → Bool) where
-  pub tally-map : (l : List A) → tally p (map g l) ≡ tally (λ x. p (g x)) l
-  tally-map [] = refl
-  tally-map (x ∷ l) = ap (λ (n : ℕ). (if p (g x) then 1 else 0) + n) (tally-map l)
-
-  pub keep-map : (l : List A) → keep p (map g l) ≡ map g (keep (λ x. p (g x)) l)
-  keep-map [] = refl
-  keep-map (x ∷ l) = by-test (p (g x)) (λ t. rw t (ap (λ (m : List B). g x ∷ m) (keep-map l))) (λ t. rw t (keep-map l))
 
 -- ---- by_seq
 

@@ -26,12 +26,12 @@ use Rattle.table.specs.Table.{inRange, isFreed, markRow, redeliverRow, countRow
 use Rattle.table.proofs.Lists.{slice-take}
 use Rattle.table.proofs.Bounds.{count-in, gone-in}
 use Rattle.table.proofs.Laws.{map-length, map-after, map-parts, remove-length, remove-after, remove-parts}
-use Rattle.table.proofs.Segments.{kept-length}
+use Rattle.table.proofs.Segments.{tally-map, kept-length}
 use Rattle.table.proofs.Strict.{mark-strict, redeliver-strict}
 use Rattle.acks.specs.declared.Span.{Span}
 use Rattle.acks.specs.Rules.{inSpan, silently, acts, removedCounts, removedEvents}
 use Rattle.acks.specs.Parts.{nine, ownFlying, ownHeld, ownAfter, ownView, Own, Told, Acted}
-use Rattle.acks.proofs.Flying.{tally-map, mark-flying, raise-flying, keep-flying, tally-flying}
+use Rattle.acks.proofs.Flying.{mark-flying, raise-flying, keep-flying, tally-flying}
 use Rattle.acks.proofs.Telling.{told-none}
 
 -- ---- the parts

@@ -22,6 +22,7 @@ use Rattle.definition.proofs.Lists.{all-end}
 use Rattle.definition.proofs.Thin.{tally-length}
 use Rattle.definition.proofs.Local.{⊕-zero, ⊕-assoc}
 use Rattle.table.proofs.Lists.{slice-snoc}
+use Rattle.table.proofs.Segments.{tally-map, keep-map}
 use Rattle.state.specs.declared.Head.{Head}
 use Rattle.state.specs.State.{withStats, withEvents}
 use Rattle.state.proofs.Counts.{discarded-plain}
@@ -29,7 +30,7 @@ use Rattle.state.proofs.Events.{pushed-room, events-up-to, events-after}
 use Rattle.acks.specs.declared.Span.{Span}
 use Rattle.acks.specs.Rules.{inSpan, countsOf, eventsOf, removedCounts, removedEvents}
 use Rattle.acks.specs.Parts.{nine, Dying, Told, deadHead, deadEvents, rowLetters, rowDiscards}
-use Rattle.acks.proofs.Flying.{tally-map, keep-map, tally-flying}
+use Rattle.acks.proofs.Flying.{tally-flying}
 
 -- ---- nothing sent
 

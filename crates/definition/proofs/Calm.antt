@@ -168,14 +168,14 @@ module _ (b : Bool) where
 
   -- ---- each call
 
-  fanOutAll-empty : (limit : ℕ) (e : Entry) (l : List Sub) → empty (fanOutAll limit e l .subs) ≡ empty l
+  fanOutAll-empty : (now limit : ℕ) (e : Entry) (l : List Sub) → empty (fanOutAll now limit e l .subs) ≡ empty l
   unfolding fanOutAll
-  fanOutAll-empty limit e [] = refl
-  fanOutAll-empty limit e (s ∷ l) = refl
+  fanOutAll-empty now limit e [] = refl
+  fanOutAll-empty now limit e (s ∷ l) = refl
 
   enqueue-calm : (k : Kind) (now : ℕ) (e : Entry) (t : Dest) → t .kind ≡ k → Calm b t → Calm b (enqueueBy now e t k .dest)
   unfolding enqueueBy dispatchBy
-  enqueue-calm topic now e t q h = calm-after topic _ (fannedOut e t) q (λ c. h .idle (sym (fanOutAll-empty (t .topicLimit) e (t .subs)) ∙ c))
+  enqueue-calm topic now e t q h = calm-after topic _ (fannedOut (due now t) e t) q (λ c. h .idle (sym (fanOutAll-empty (due now t) (t .topicLimit) e (t .subs)) ∙ c))
   enqueue-calm queue now e t q h = calm-after queue _ (stored e t) q (λ c. refl)
 
   join-calm : (now : ℕ) (p : Spec) (t : Dest) → Calm b (addSub now p t .dest)

@@ -21,6 +21,7 @@ pub mod Join
 pub mod Leave
 pub mod Halves
 pub mod Slow
+pub mod Surplus
 pub mod Kept
 pub mod Order
 pub mod Room

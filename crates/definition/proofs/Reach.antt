@@ -2,20 +2,22 @@
 use Prim.Native.Nat.{ℕ, _+_, _-_, _≤_, _^_}
 use native.Mathlib.Omega.{arith}
 use mathlib.Core.Path.{_≡_, refl, sym, _∙_, ap, subst⁻¹}
-use mathlib.Core.Bool.{Bool, true, _||_}
+use mathlib.Core.Bool.{Bool, true, not, _||_}
 use mathlib.Core.List.{List, [], _∷_, _++_, map}
 use mathlib.Core.Option.{none}
-use lib.Dec.{ltb, eqb}
-use lib.ListN.{length, drop}
+use lib.Dec.{leb, ltb, eqb}
+use lib.IntN.{pos}
+use lib.ListN.{length}
 use borrow.Author.Tests.{ltb-true, lt-ltb, eqb-true}
-use Rattle.definition.specs.Base.{if_then_else_, tally}
+use Rattle.definition.specs.Base.{if_then_else_, keep, tally}
 use Rattle.definition.specs.Types.{Kind, queue, topic, Entry, Sub, Stats, Dest, withCursor, withTpending, withPending}
-use Rattle.definition.specs.Consumer.{accepts, _⊕_, addEnqueued, isBrowser, snapshot}
-use Rattle.definition.specs.Destination.{insert, holdBack, holdBackAll, stored, fanOut, fanOutAll, fannedOut, enqueueBy, dispatchBy, due}
+use Rattle.definition.specs.Consumer.{expired, accepts, _⊕_, addEnqueued, isBrowser, snapshot}
+use Rattle.definition.specs.Destination.{insert, holdBack, holdBackAll, stored, Trimmed, trim, fanOut, fanOutAll, fannedOut, enqueueBy, dispatchBy, due}
 use Rattle.definition.specs.Calls.{entryOk, flying, rowsOf, rowsFor}
-use Rattle.definition.proofs.Tests.{by-test}
+use Rattle.definition.proofs.Tests.{by-if, by-test}
 use Rattle.definition.proofs.Lists.{All, length-map}
-use Rattle.definition.proofs.Sums.{sum, one, occ, bad, one-tame, occ-tame, sum-append, sum-one, sum-insert, sum-drop, insert-ascending, thin-ascending, thin-drop, occ-yes, occ-no, ok-sum, sum-ok, sum-once, once-sum, bad-ok}
+use Rattle.definition.proofs.Thin.{Thin, thin-refl, thin-trans}
+use Rattle.definition.proofs.Sums.{sum, Tame, one, occ, bad, one-tame, occ-tame, bad-tame, sum-append, sum-thin, sum-one, sum-insert, insert-ascending, thin-ascending, thin-keep, thin-drop, keep-tally, occ-yes, occ-no, ok-sum, sum-ok, sum-once, once-sum, bad-ok}
 use Rattle.definition.proofs.Fit.{total}
 use Rattle.definition.proofs.Grown.{counted}
 use Rattle.definition.proofs.Whole.{sums, rowsM, countM, rowsSum, Sane, sane-more, under-more, all-map, Fine, fine-more}
@@ -80,12 +82,12 @@ module _ (L U : ℕ) where
 
   -- ---- enqueue, on a topic
 
-  record Fanned (N limit : ℕ) (e : Entry) (l : List Sub) : Type 0 where
-    ids : map (λ s. s .id) (fanOutAll limit e l .subs) ≡ map (λ s. s .id) l
-    sane : All (Sane topic N) (fanOutAll limit e l .subs)
-    rows : sums (rowsM one) (fanOutAll limit e l .subs) ≤ sums (rowsM one) l + tally (λ s. accepts s e) l
-    ok : sums (rowsM bad) (fanOutAll limit e l .subs) ≤ sums (rowsM bad) l
-    counts : total (fanOutAll limit e l .counts) ≤ sums (rowsM one) l + length l
+  record Fanned (N now limit : ℕ) (e : Entry) (l : List Sub) : Type 0 where
+    ids : map (λ s. s .id) (fanOutAll now limit e l .subs) ≡ map (λ s. s .id) l
+    sane : All (Sane topic N) (fanOutAll now limit e l .subs)
+    rows : sums (rowsM one) (fanOutAll now limit e l .subs) ≤ sums (rowsM one) l + tally (λ s. accepts s e) l
+    ok : sums (rowsM bad) (fanOutAll now limit e l .subs) ≤ sums (rowsM bad) l
+    counts : total (fanOutAll now limit e l .counts) ≤ sums (rowsM one) l + length l
 
   record FannedOne (N : ℕ) (e : Entry) (s : Sub) (a : Bool) (v : Sub) (c : Stats) : Type 0 where
     id : v .id ≡ s .id
@@ -102,8 +104,8 @@ module _ (L U : ℕ) where
   unfolding rowsM
   own-rows f s = omega (arith, sum-append f (flying s) (s .tpending ++ snapshot s), sum-append f (s .tpending) (snapshot s))
 
-  fan-sum : (f : Entry → ℕ) (n : ℕ) (e : Entry) (s : Sub) → rowsM f (withTpending (drop n (insert e (s .tpending))) s) ≤ rowsM f s + f e
-  fan-sum f n e s = omega (arith, list-rows f (drop n (insert e (s .tpending))) s, own-rows f s, sum-drop f n (insert e (s .tpending)), sum-insert f e (s .tpending))
+  fan-sum : (f : Entry → ℕ) → Tame f → (e : Entry) (m : List Entry) (s : Sub) → Thin (insert e (s .tpending)) m → rowsM f (withTpending m s) ≤ rowsM f s + f e
+  fan-sum f w e m s h = omega (arith, list-rows f m s, own-rows f s, sum-thin f w _ _ h, sum-insert f e (s .tpending))
 
   rows-ok : (N : ℕ) (s : Sub) → Sane topic N s → rowsM bad s ≡ 0
   unfolding rowsM
@@ -117,20 +119,20 @@ module _ (L U : ℕ) where
   unfolding rowsM
   rows-fit f s = refl
 
-  fan-sane : (N n : ℕ) (e : Entry) (s : Sub) → Sane topic N s → entryOk e ≡ true → rowsM (occ (e .seq)) s ≤ 0 → Sane topic N (withTpending (drop n (insert e (s .tpending))) s)
-  fan-sane N n e s h k o = record {
+  fan-sane : (N : ℕ) (e : Entry) (m : List Entry) (s : Sub) → Sane topic N s → entryOk e ≡ true → rowsM (occ (e .seq)) s ≤ 0 → Thin (insert e (s .tpending)) m → Sane topic N (withTpending m s)
+  fan-sane N e m s h k o w = record {
     fits = record {
       named = h .fits .named;
       room = h .fits .room;
       selects = h .fits .selects;
-      ok = sum-ok (rowsOf v) (omega (arith, rows-fit bad v, fan-sum bad n e s, rows-ok N s h, bad-ok e k));
+      ok = sum-ok (rowsOf v) (omega (arith, rows-fit bad v, fan-sum bad bad-tame e m s w, rows-ok N s h, bad-ok e k));
       seen = h .fits .seen;
       apart = sum-once (rowsOf v) (λ x. by-test (eqb x (e .seq))
-          (λ c. let p : rowsM (occ x) s ≤ 0 = subst⁻¹ (λ y. rowsM (occ y) s ≤ 0) (eqb-true x (e .seq) c) o in omega (arith, p, rows-fit (occ x) v, fan-sum (occ x) n e s, occ-yes x e c))
-          (λ c. omega (arith, rows-fit (occ x) v, fan-sum (occ x) n e s, occ-no x e c, rows-once N s h x)));
+          (λ c. let p : rowsM (occ x) s ≤ 0 = subst⁻¹ (λ y. rowsM (occ y) s ≤ 0) (eqb-true x (e .seq) c) o in omega (arith, p, rows-fit (occ x) v, fan-sum (occ x) (occ-tame x) e m s w, occ-yes x e c))
+          (λ c. omega (arith, rows-fit (occ x) v, fan-sum (occ x) (occ-tame x) e m s w, occ-no x e c, rows-once N s h x)));
       counted = h .fits .counted;
       numbered = h .fits .numbered;
-      sorted = thin-ascending _ _ (thin-drop n (insert e (s .tpending))) (insert-ascending e (s .tpending) (h .fits .sorted));
+      sorted = thin-ascending _ _ w (insert-ascending e (s .tpending) (h .fits .sorted));
       stands = h .fits .stands;
     };
     next = h .next;
@@ -139,59 +141,70 @@ module _ (L U : ℕ) where
   }
     where
       v : Sub
-      v = withTpending (drop n (insert e (s .tpending))) s
+      v = withTpending m s
 
   insert-length : (e : Entry) (s : Sub) → length (insert e (s .tpending)) ≤ rowsM one s + 1
   insert-length e s = omega (arith, sum-one (insert e (s .tpending)), sum-insert one e (s .tpending), own-rows one s)
 
-  over-few : (limit : ℕ) (e : Entry) (s : Sub) → (if eqb limit 0 then 0 else length (insert e (s .tpending)) - limit) ≤ rowsM one s + 1
-  over-few limit e s = by-test (eqb limit 0) (λ c. rw c (omega arith)) (λ c. rw c (omega (arith, insert-length e s)))
+  -- what a trimmed list keeps, and what it counts
+  record Trims (l : List Entry) (r : Trimmed) : Type 0 where
+    thin : Thin l (r .list)
+    counts : total (r .counts) ≤ length l
 
-  fan-one : (N limit : ℕ) (e : Entry) (s : Sub) → Sane topic N s → entryOk e ≡ true → rowsM (occ (e .seq)) s ≤ 0 → FannedOne N e s (accepts s e) (fanOut limit e s .sub) (fanOut limit e s .counts)
+  trims : (now limit : ℕ) (l : List Entry) → Trims l (trim now limit l)
+  unfolding trim
+  trims now limit l = by-if (Trims l) (eqb limit 0 || leb (length l) limit) _ _
+      (λ c. record { thin = thin-refl l; counts = omega arith })
+      (λ c. record { thin = thin-trans l live _ (thin-keep (λ e. not (expired (pos now) e)) l) (thin-drop (length live - limit) live); counts = omega (arith, keep-tally (expired (pos now)) l) })
+    where
+      live : List Entry
+      live = keep (λ e. not (expired (pos now) e)) l
+
+  fan-one : (N now limit : ℕ) (e : Entry) (s : Sub) → Sane topic N s → entryOk e ≡ true → rowsM (occ (e .seq)) s ≤ 0 → FannedOne N e s (accepts s e) (fanOut now limit e s .sub) (fanOut now limit e s .counts)
   unfolding fanOut
-  fan-one N limit e s h k o = by-test (accepts s e)
-      (λ c. rw c (record {
+  fan-one N now limit e s h k o = by-test (accepts s e)
+      (λ c. let w = trims now limit (insert e (s .tpending)) in let m = trim now limit (insert e (s .tpending)) .list in rw c (record {
         id = refl;
-        sane = fan-sane N (if eqb limit 0 then 0 else length (insert e (s .tpending)) - limit) e s h k o;
-        rows = omega (arith, fan-sum one (if eqb limit 0 then 0 else length (insert e (s .tpending)) - limit) e s);
-        ok = omega (arith, fan-sum bad (if eqb limit 0 then 0 else length (insert e (s .tpending)) - limit) e s, bad-ok e k);
-        counts = omega (arith, over-few limit e s);
+        sane = fan-sane N e m s h k o (w .thin);
+        rows = omega (arith, fan-sum one one-tame e m s (w .thin));
+        ok = omega (arith, fan-sum bad bad-tame e m s (w .thin), bad-ok e k);
+        counts = omega (arith, w .counts, insert-length e s);
       }))
       (λ c. rw c (record { id = refl; sane = h; rows = omega arith; ok = omega arith; counts = omega arith }))
 
-  fan-all : (N limit : ℕ) (e : Entry) (l : List Sub) → All (Sane topic N) l → entryOk e ≡ true → sums (rowsM (occ (e .seq))) l ≤ 0 → Fanned N limit e l
+  fan-all : (N now limit : ℕ) (e : Entry) (l : List Sub) → All (Sane topic N) l → entryOk e ≡ true → sums (rowsM (occ (e .seq))) l ≤ 0 → Fanned N now limit e l
   unfolding fanOutAll
-  fan-all N limit e [] a k o = record { ids = refl; sane = tt; rows = omega arith; ok = omega arith; counts = omega arith }
-  fan-all N limit e (s ∷ l) a k o =
-      let p = fan-one N limit e s (a .0) k (omega (arith, o)) in
-      let r = fan-all N limit e l (a .1) k (omega (arith, o)) in
+  fan-all N now limit e [] a k o = record { ids = refl; sane = tt; rows = omega arith; ok = omega arith; counts = omega arith }
+  fan-all N now limit e (s ∷ l) a k o =
+      let p = fan-one N now limit e s (a .0) k (omega (arith, o)) in
+      let r = fan-all N now limit e l (a .1) k (omega (arith, o)) in
       record {
-        ids = ap (λ i. i ∷ map (λ s. s .id) (fanOutAll limit e l .subs)) (p .id) ∙ ap (λ x. s .id ∷ x) (r .ids);
+        ids = ap (λ i. i ∷ map (λ s. s .id) (fanOutAll now limit e l .subs)) (p .id) ∙ ap (λ x. s .id ∷ x) (r .ids);
         sane = (p .sane, r .sane);
         rows = omega (arith, p .rows, r .rows);
         ok = omega (arith, p .ok, r .ok);
         counts = omega (arith, p .counts, r .counts);
       }
 
-  pub fanned-fine : (N : ℕ) (e : Entry) (t : Dest) → Fine L U topic N t → entryOk e ≡ true → rowsSum one t + tally (λ s. accepts s e) (t .subs) ≤ 512 → rowsSum (occ (e .seq)) t ≤ 0 → Fine L U topic (N + 1024) (fannedOut e t)
-  fanned-fine N e t g k r o =
-      let p = fan-all N (t .topicLimit) e (t .subs) (g .subs) k (omega (arith, o)) in
-      let n : length (fanOutAll (t .topicLimit) e (t .subs) .subs) ≡ length (t .subs) = sym (length-map (λ s. s .id) (fanOutAll (t .topicLimit) e (t .subs) .subs)) ∙ ap length (p .ids) ∙ length-map (λ s. s .id) (t .subs) in
+  pub fanned-fine : (N now : ℕ) (e : Entry) (t : Dest) → Fine L U topic N t → entryOk e ≡ true → rowsSum one t + tally (λ s. accepts s e) (t .subs) ≤ 512 → rowsSum (occ (e .seq)) t ≤ 0 → Fine L U topic (N + 1024) (fannedOut now e t)
+  fanned-fine N now e t g k r o =
+      let p = fan-all N now (t .topicLimit) e (t .subs) (g .subs) k (omega (arith, o)) in
+      let n : length (fanOutAll now (t .topicLimit) e (t .subs) .subs) ≡ length (t .subs) = sym (length-map (λ s. s .id) (fanOutAll now (t .topicLimit) e (t .subs) .subs)) ∙ ap length (p .ids) ∙ length-map (λ s. s .id) (t .subs) in
       record {
         kind = g .kind;
         frame = record { limit = g .frame .limit; used = g .frame .used; topic-limit = g .frame .topic-limit; allowance = g .frame .allowance; few-producers = g .frame .few-producers; producers = g .frame .producers; few-audits = g .frame .few-audits; audits = g .frame .audits; holders = g .frame .holders; mark = g .frame .mark };
         few-subs = omega (arith, n, g .few-subs);
-        subs = all-map (Sane topic N) (Sane topic (N + 1024)) (fanOutAll (t .topicLimit) e (t .subs) .subs) (λ s. sane-more topic N (N + 1024) s (omega arith)) (p .sane);
-        ids = ids-same (t .subs) (fanOutAll (t .topicLimit) e (t .subs) .subs) (p .ids) ∙ g .ids;
+        subs = all-map (Sane topic N) (Sane topic (N + 1024)) (fanOutAll now (t .topicLimit) e (t .subs) .subs) (λ s. sane-more topic N (N + 1024) s (omega arith)) (p .sane);
+        ids = ids-same (t .subs) (fanOutAll now (t .topicLimit) e (t .subs) .subs) (p .ids) ∙ g .ids;
         rows = omega (arith, r, p .rows);
         ok = omega (arith, g .ok, p .ok);
         once = g .once;
         sorted = g .sorted;
         turn = ap (λ n. ltb (t .rr) n || eqb (t .rr) 0) n ∙ g .turn;
-        counters = under-more (N + 1 + 1000) (N + 1024) _ (omega arith) (under-plus (N + 1) 1000 (t .stats ⊕ addEnqueued 1) (fanOutAll (t .topicLimit) e (t .subs) .counts) (under-plus N 1 (t .stats) (addEnqueued 1) (g .counters) (omega arith)) (omega (arith, p .counts, g .rows, g .few-subs)));
+        counters = under-more (N + 1 + 1000) (N + 1024) _ (omega arith) (under-plus (N + 1) 1000 (t .stats ⊕ addEnqueued 1) (fanOutAll now (t .topicLimit) e (t .subs) .counts) (under-plus N 1 (t .stats) (addEnqueued 1) (g .counters) (omega arith)) (omega (arith, p .counts, g .rows, g .few-subs)));
       }
 
   pub enqueue-fine : (k : Kind) (N now : ℕ) (e : Entry) (t : Dest) → Fine L U k N t → entryOk e ≡ true → rowsSum one t + rowsFor e t k ≤ 512 → rowsSum (occ (e .seq)) t ≤ 0 → Fine L U k (N + 4096) (enqueueBy now e t k .dest)
   unfolding enqueueBy dispatchBy
   enqueue-fine queue N now e t g k r o = fine-more L U queue (N + 1 + 2048) (N + 4096) _ (omega arith) (dispatch-fine L U queue (N + 1) (due now t) (stored e t) (stored-fine N e t g k r o))
-  enqueue-fine topic N now e t g k r o = fine-more L U topic (N + 1024 + 2048) (N + 4096) _ (omega arith) (dispatch-fine L U topic (N + 1024) (due now t) (fannedOut e t) (fanned-fine N e t g k r o))
+  enqueue-fine topic N now e t g k r o = fine-more L U topic (N + 1024 + 2048) (N + 4096) _ (omega arith) (dispatch-fine L U topic (N + 1024) (due now t) (fannedOut (due now t) e t) (fanned-fine N (due now t) e t g k r o))

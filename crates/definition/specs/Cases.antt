@@ -89,6 +89,13 @@ pulls = ran (joining (plain 9 (pos 0)) 1 ∷ asking (consumer 9) (pulling (pos 5
 abbrev limited : Ran
 limited = ran (joining (plain 9 (pos 0)) 1 ∷ enqueuing (entry 5 (pos 0)) 1 ∷ enqueuing (entry 6 (pos 0)) 1 ∷ enqueuing (entry 4 (pos 0)) 1 ∷ asking (consumer 9) (prefetching (pos 7) 2) ∷ []) (opened topic 2 100 0 0)
 
+-- topic limit 2, no credit: 5 and 6 wait, and 4 comes at this clock; 6 and 4 have these expirations. What waits, and the counters
+abbrev surplus : ℕ → ℤ → ℤ → Ran
+surplus now six four = ran (joining (plain 9 (pos 0)) 1 ∷ enqueuing (entry 5 (pos 0)) 1 ∷ enqueuing (entry 6 six) 1 ∷ enqueuing (entry 4 four) now ∷ []) (opened topic 2 100 0 0)
+
+abbrev stillWait : Ran → List ℕ
+stillWait r = map (λ s. length (Sub.tpending s)) (r .dest .subs) ++ (r .dest .stats .expired ∷ r .dest .stats .discarded ∷ [])
+
 -- an allowance of 10: 1 with expiration 20 waits, and goes out at 29 and not at 30; a sweep and a browser do the same; the mark is the call's clock
 abbrev markOf : Option ℕ → ℕ
 markOf none = 0
@@ -448,6 +455,13 @@ corners =
     ∷ sameNumbers (bothPull .seen) (0 ∷ 0 ∷ 0 ∷ 0 ∷ 0 ∷ 1 ∷ 0 ∷ 1 ∷ [])
     -- Topic limit 2, no credit, arrivals 5, 6, 4: the copy of 4 is discarded
     ∷ sameNumbers (limited .seen) (0 ∷ 0 ∷ 0 ∷ 0 ∷ 0 ∷ 0 ∷ 0 ∷ 0 ∷ 0 ∷ 0 ∷ 1 ∷ 9 ∷ 5 ∷ 1 ∷ 9 ∷ 6 ∷ [])
+    -- a list over the limit loses what has expired, then the lowest (document 02 §5): 6 has expired, so 4 stays
+    ∷ sameNumbers (stillWait (surplus 20 (pos 20) (pos 0))) (2 ∷ 1 ∷ 0 ∷ [])
+    ∷ sameNumbers (stillWait (surplus 19 (pos 20) (pos 0))) (2 ∷ 0 ∷ 1 ∷ [])
+    -- all that have expired go, the new copy too, even below the limit
+    ∷ sameNumbers (stillWait (surplus 20 (pos 20) (pos 20))) (1 ∷ 2 ∷ 0 ∷ [])
+    -- a list within the limit keeps an expired copy
+    ∷ sameNumbers (stillWait (ran (joining (plain 9 (pos 0)) 1 ∷ enqueuing (entry 5 (pos 2)) 1 ∷ enqueuing (entry 6 (pos 0)) 9 ∷ []) (opened topic 2 100 0 0))) (2 ∷ 0 ∷ 0 ∷ [])
     -- allowance 10, expiration 20: not expired at 29, expired at 30 (document 02 §4)
     ∷ sameNumbers (slowly (joining (plain 9 (pos 1)) 29)) (0 ∷ 0 ∷ 1 ∷ 9 ∷ 1 ∷ 0 ∷ [])
     ∷ sameNumbers (slowly (joining (plain 9 (pos 1)) 30)) (0 ∷ 0 ∷ 1 ∷ [])

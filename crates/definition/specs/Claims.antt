@@ -1,14 +1,15 @@
 -- What is claimed of the state and of the sends that accepted calls make; `Orders` has the claim on orders, `Refusals` that on refusals. Assumes nothing.
-use Prim.Native.Nat.{ℕ, _+_, _≤_}
+use Prim.Native.Nat.{ℕ, _+_, _-_, _≤_}
 use mathlib.Core.Path.{_≡_}
 use mathlib.Core.Bool.{Bool, true}
 use mathlib.Core.Logic.{_↔_}
 use mathlib.Core.List.{List, []}
 use lib.IntN.{pos}
-use lib.ListN.{length}
+use lib.ListN.{length, drop}
 use Rattle.definition.specs.Types.{Id, Entry, Dest, withCallsUsed}
-use Rattle.definition.specs.Consumer.{expired}
-use Rattle.definition.specs.Destination.{due, releaseReserved}
+use Rattle.definition.specs.Consumer.{zeroStats, addDiscarded, expired}
+use Rattle.definition.specs.Base.{tally}
+use Rattle.definition.specs.Destination.{due, Trimmed, trim, releaseReserved}
 use Rattle.definition.specs.Calls.{Lengths, Call, sound, Result, call}
 use Rattle.definition.specs.Words.{at, idOf, step}
 use Rattle.definition.specs.Orders.{Reached}
@@ -54,3 +55,13 @@ ExpiresBy = (now : ℕ) (t : Dest) (e : Entry) → (expired (pos (due now t)) e 
 -- with allowance 0 that clock is the call's own
 abbrev pub NoAllowance : Type 0
 NoAllowance = (now : ℕ) (t : Dest) → t .allowance ≡ 0 → due now t ≡ now
+
+-- document 02 §5: a list over the limit ends within it, one that is not over it stays whole, expired or not, and where none has expired the lowest numbers
+-- go as in the Rust
+pub record Trimming (now limit : ℕ) (l : List Entry) : Type 0 where
+  pub within : length (trim now limit l .list) ≤ limit
+  pub whole : length l ≤ limit → trim now limit l ≡ record { list = l; counts = zeroStats }
+  pub lowest : tally (expired (pos now)) l ≡ 0 → trim now limit l ≡ record { list = drop (length l - limit) l; counts = addDiscarded (length l - limit) }
+
+abbrev pub Surplus : Type 0
+Surplus = (now limit : ℕ) (l : List Entry) → 1 ≤ limit → Trimming now limit l

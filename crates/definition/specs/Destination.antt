@@ -192,34 +192,46 @@ touchIdle now t =
 abbrev pub holdBack : ℕ → Sub → Sub
 holdBack seq s = withCursor (min (s .cursor) (seq - 1)) s
 
--- the copy for one consumer of a topic, with the lowest numbers discarded over the limit
-unfoldable pub fanOut : ℕ → Entry → Sub → Step
-fanOut limit e s =
-    let all = insert e (s .tpending) in
-    let over : ℕ = if eqb limit 0 then 0 else length all - limit in
-    if accepts s e then record { sub = withTpending (drop over all) s; counts = addDiscarded over; events = [] }
+-- what a consumer's waiting list keeps, and what that adds to the counters
+pub record Trimmed : Type 0 where
+  pub list : List Entry
+  pub counts : Stats
+
+-- a list over the limit first loses all that have expired, and then the lowest numbers while it is over (document 02 §5); limit 0 is off
+unfoldable pub trim : ℕ → ℕ → List Entry → Trimmed
+trim now limit l =
+    let live = keep (λ e. not (expired (pos now) e)) l in
+    let over = length live - limit in
+    if eqb limit 0 || leb (length l) limit then record { list = l; counts = zeroStats }
+    else record { list = drop over live; counts = addExpired (tally (expired (pos now)) l) ⊕ addDiscarded over }
+
+-- the copy for one consumer of a topic, and what is surplus gone
+unfoldable pub fanOut : ℕ → ℕ → Entry → Sub → Step
+fanOut now limit e s =
+    let r = trim now limit (insert e (s .tpending)) in
+    if accepts s e then record { sub = withTpending (r .list) s; counts = r .counts; events = [] }
     else record { sub = s; counts = zeroStats; events = [] }
 
 -- Dest::enqueue on a topic: `for sub in st.subs.iter_mut()`
-unfoldable pub fanOutAll : ℕ → Entry → List Sub → Served
-fanOutAll limit e [] = record { subs = []; counts = zeroStats; events = [] }
-fanOutAll limit e (s ∷ ss) =
-    let a = fanOut limit e s in
-    let r = fanOutAll limit e ss in
+unfoldable pub fanOutAll : ℕ → ℕ → Entry → List Sub → Served
+fanOutAll now limit e [] = record { subs = []; counts = zeroStats; events = [] }
+fanOutAll now limit e (s ∷ ss) =
+    let a = fanOut now limit e s in
+    let r = fanOutAll now limit e ss in
     record { subs = a .sub ∷ r .subs; counts = a .counts ⊕ r .counts; events = [] }
 
 -- stored (queue)
 abbrev pub stored : Entry → Dest → Dest
 stored e t = withIdle none (withPending (insert e (t .pending)) (withSubs (map (holdBack (e .seq)) (t .subs)) (count (addEnqueued 1) t)))
 
--- fanned out (topic)
-abbrev pub fannedOut : Entry → Dest → Dest
-fannedOut e t = let r = fanOutAll (t .topicLimit) e (t .subs) in count (r .counts) (withSubs (r .subs) (count (addEnqueued 1) t))
+-- fanned out (topic), by the clock that entries expire by
+abbrev pub fannedOut : ℕ → Entry → Dest → Dest
+fannedOut now e t = let r = fanOutAll now (t .topicLimit) e (t .subs) in count (r .counts) (withSubs (r .subs) (count (addEnqueued 1) t))
 
 -- Dest::enqueue
 unfoldable pub enqueueBy : ℕ → Entry → Dest → Kind → Out
 enqueueBy now e t queue = dispatchQueue (due now t) (stored e t)
-enqueueBy now e t topic = dispatchTopic (due now t) (fannedOut e t)
+enqueueBy now e t topic = dispatchTopic (due now t) (fannedOut (due now t) e t)
 
 -- Dest::enqueue
 abbrev pub enqueue : ℕ → Entry → Dest → Out
@@ -598,5 +610,5 @@ releaseAudits conn t = withAudits (keep (λ a. not (eqb (a .producer .conn) conn
 
 -- opens the definitions of this file
 unfoldable pub destinationOpen : Unit {0}
-unfolding look given visitAt visit scan rounds browsers dispatchQueue serveAll dispatchTopic dispatchBy touchIdle fanOut fanOutAll enqueueBy addSub setPrefetch reinsert reservedHit reservedCounts reservedEvents ackReserved ackAt ack pulled resumed pullAt pull fired timeoutAt pullTimeout returning removeAt removeSub returnReserved releaseReserved sweepAt sweepList sweepSubs sweepExpired clear testAt isDuplicate
+unfolding look given visitAt visit scan rounds browsers dispatchQueue serveAll dispatchTopic dispatchBy touchIdle trim fanOut fanOutAll enqueueBy addSub setPrefetch reinsert reservedHit reservedCounts reservedEvents ackReserved ackAt ack pulled resumed pullAt pull fired timeoutAt pullTimeout returning removeAt removeSub returnReserved releaseReserved sweepAt sweepList sweepSubs sweepExpired clear testAt isDuplicate
 destinationOpen = tt

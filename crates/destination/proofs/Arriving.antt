@@ -24,7 +24,7 @@ use Rattle.definition.proofs.Reach.{stored-fine, fanned-fine}
 use Rattle.definition.proofs.Kept as Kept
 use Rattle.state.specs.declared.Head.{Head}
 use Rattle.state.specs.declared.Answer.{Answer}
-use Rattle.state.specs.State.{headView, kindBy, freeRows, refusedAs, doneAs}
+use Rattle.state.specs.State.{headView, kindBy, dueBy, freeRows, refusedAs, doneAs}
 use Rattle.state.specs.Fits.{fits}
 use Rattle.state.specs.Leaves.{silent, both, Leaves, LeavesIf}
 use Rattle.state.specs.Ready.{Ready}
@@ -87,21 +87,25 @@ module _ (d : Head) (subs rows events : List Row) (a : Ready d subs rows events)
 -- ---- an entry
 
 module _ (now : ℕ) (e : Entry) where
+  -- stored by the clock that its entries expire by
+  abbrev keptBy : Dest → Dest
+  keptBy t = kept (due now t) e t
+
   -- the kind stays, so that it is dispatched by it
-  enqueue-at : (t : Dest) (k : Kind) → t .kind ≡ k → dispatch now (storedBy e t k) ≡ enqueueBy now e t k
+  enqueue-at : (t : Dest) (k : Kind) → t .kind ≡ k → dispatch now (storedBy (due now t) e t k) ≡ enqueueBy now e t k
   unfolding dispatchBy enqueueBy
   enqueue-at t queue h = ap (dispatchBy (due now t) (stored e t)) h
-  enqueue-at t topic h = ap (dispatchBy (due now t) (fannedOut e t)) h
+  enqueue-at t topic h = ap (dispatchBy (due now t) (fannedOut (due now t) e t)) h
 
-  pub enqueue-parts : (t : Dest) → both (silent (kept e)) (dispatch now) t ≡ performed (enqueuing e now) t
+  pub enqueue-parts : (t : Dest) → both (silent keptBy) (dispatch now) t ≡ performed (enqueuing e now) t
   unfolding perform
   enqueue-parts t = enqueue-at t (t .kind) refl
 
-  kept-fine : (L U : ℕ) (k : Kind) (N : ℕ) (t : Dest) → Fine L U k N t → Kept.Stores k e t → Fine L U k (N + 1024) (storedBy e t k)
+  kept-fine : (L U : ℕ) (k : Kind) (N : ℕ) (t : Dest) → Fine L U k N t → Kept.Stores k e t → Fine L U k (N + 1024) (storedBy (due now t) e t k)
   kept-fine L U queue N t g y = fine-more L U queue (N + 1) (N + 1024) (stored e t) (omega arith) (stored-fine L U N e t g (y .ok) (y .fits) (y .new))
-  kept-fine L U topic N t g y = fanned-fine L U N e t g (y .ok) (y .fits) (y .new)
+  kept-fine L U topic N t g y = fanned-fine L U N (due now t) e t g (y .ok) (y .fits) (y .new)
 
-  pub kept-keeps : (t : Dest) → argumentsOk (enqueuing e now) ≡ true → ownRefusal t (enqueuing e now) ≡ 0 → Keeps 1024 t (silent (kept e) t)
+  pub kept-keeps : (t : Dest) → argumentsOk (enqueuing e now) ≡ true → ownRefusal t (enqueuing e now) ≡ 0 → Keeps 1024 t (silent keptBy t)
   kept-keeps t ok own g =
       kept-fine (t .callLimit) (t .callsUsed) (t .kind) (bound (t .callsUsed)) t g
       (Kept.stores (t .callLimit) (t .callsUsed) (t .kind) (bound (t .callsUsed)) e now t g ok own)
@@ -137,16 +141,23 @@ module _ (d : Head) (subs rows events : List Row) (a : Ready d subs rows events)
           let b = choice-none (holds (e .seq) (take (d .used) rows)) (ltb (512 - d .used) n) (sym (refusal-numbers e d subs rows (length events) f) ∙ sym (refusal-fit e d subs rows (length events) t) ∙ sym is ∙ zero) in
           stores-yes e d subs rows (length events) t (b .0) (le-leb (d .events + d .used + n) 512 (omega (arith, a .none-sent, f .used, ltb-false (512 - d .used) n (b .1))))
 
-      module _ (m : Head) (subs′ rows′ : List Row) (q : Head) (subs″ rows″ events″ : List Row) where
-        pub enqueue-done : LeavesIf (stores e d subs rows (length events)) (Room d m) (silent (kept e)) d m subs rows events subs′ rows′ events
+      -- the head's clock is the destination's
+      as-due : (at : ℕ) → at ≡ dueBy clock d → (ps : List Id) (us : List Audit) → silent (kept at e) (headView d subs rows ps us) ≡ silent (keptBy clock e) (headView d subs rows ps us)
+      unfolding headView
+      as-due at h ps us = ap (λ (n : ℕ). silent (kept n e) (headView d subs rows ps us)) h
+
+      module _ (at : ℕ) (less : at ≡ dueBy clock d) (m : Head) (subs′ rows′ : List Row) (q : Head) (subs″ rows″ events″ : List Row) where
+        pub enqueue-done : LeavesIf (leb at (2 ^ 62) && stores e d subs rows (length events)) (Room d m) (silent (kept at e)) d m subs rows events subs′ rows′ events
             → LeavesIf (fits subs′ m (length rows′) (length events) && leb clock (2 ^ 62)) (Sent m q) (dispatch clock) m q subs′ rows′ events subs″ rows″ events″
             → r ≡ doneAs 0 q → Performs storing d r subs rows events subs″ rows″ events″
         enqueue-done s p h =
-            let l = leaves-when _ (Room d m) (silent (kept e)) d m subs rows events subs′ rows′ events enqueue-stores s in
+            let soon : leb at (2 ^ 62) ≡ true = le-leb at (2 ^ 62) (omega (arith, less, late)) in
+            let l = leaves-when _ (Room d m) (silent (kept at e)) d m subs rows events subs′ rows′ events (and-both (leb at (2 ^ 62)) _ soon enqueue-stores) s in
+            let z = leaves-as (silent (kept at e)) (silent (keptBy clock e)) d m subs rows events subs′ rows′ events (λ ps us n. as-due at less ps us) (l .0) in
             let o : Own storing d subs rows 0 = λ ps us z. sym zero ∙ enqueue-own ps us z in
-            part-performs d subs rows events a clock late storing (kept e) (enqueue-parts clock e) o enqueue-says 1024 (omega arith)
+            part-performs d subs rows events a clock late storing (keptBy clock e) (enqueue-parts clock e) o enqueue-says 1024 (omega arith)
             (kept-keeps clock e (seen d subs rows events a) ok (sym (o (a .producers) (a .audits) (a .as-many))))
-            m subs′ rows′ (l .0) (l .1 .0) q subs″ rows″ events″ p r h
+            m subs′ rows′ z (l .1 .0) q subs″ rows″ events″ p r h
 
 -- ---- a consumer
 

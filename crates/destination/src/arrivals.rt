@@ -30,7 +30,8 @@ pub(crate) fn enqueue(
     if refusal != 0 {
         return Answer::refused(refusal, d);
     }
-    let stored = storing::store(subs, rows, events, d, e);
+    let due = d.due(clock);
+    let stored = storing::store(subs, rows, events, d, e, due);
     if !dispatch::goes(subs, stored.consumers, stored.waiting, stored.queue) {
         return Answer::done(0, stored);
     }

@@ -25,7 +25,7 @@ plain-dispatch now t z = ap (λ n. dispatchBy n t (t .kind)) (no-allowance now t
 plain-enqueue : (now : ℕ) (e : Entry) (t : Dest) (k : Kind) → t .allowance ≡ 0 → enqueueBy now e t k ≡ plainEnqueueBy now e t k
 unfolding enqueueBy plainEnqueueBy
 plain-enqueue now e t queue z = ap (λ n. dispatchQueue n (stored e t)) (no-allowance now t z)
-plain-enqueue now e t topic z = ap (λ n. dispatchTopic n (fannedOut e t)) (no-allowance now t z)
+plain-enqueue now e t topic z = ap (λ n. dispatchTopic n (fannedOut n e t)) (no-allowance now t z)
 
 plain-joined : (now : ℕ) (p : Spec) (t : Dest) → t .allowance ≡ 0 → joined now p t ≡ plainJoined now p t
 plain-joined now p t z = ap (λ n. plainJoined n p t) (no-allowance now t z)

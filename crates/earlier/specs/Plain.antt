@@ -20,7 +20,7 @@ plainDispatch now t = dispatchBy now t (t .kind)
 
 unfoldable pub plainEnqueueBy : ℕ → Entry → Dest → Kind → Out
 plainEnqueueBy now e t queue = dispatchQueue now (stored e t)
-plainEnqueueBy now e t topic = dispatchTopic now (fannedOut e t)
+plainEnqueueBy now e t topic = dispatchTopic now (fannedOut now e t)
 
 abbrev pub plainJoined : ℕ → Spec → Dest → Dest
 plainJoined now p t =

@@ -15,10 +15,10 @@ use Rattle.definition.specs.Destination.{heldBy, reservedOf}
 use Rattle.definition.specs.Layout.{Row, idAt, heldAt, subRows}
 use Rattle.definition.proofs.Tests.{if-true, if-false}
 use Rattle.table.proofs.Lists.{slice-take}
+use Rattle.table.proofs.Segments.{keep-map}
 use Rattle.state.specs.declared.Head.{Head}
 use Rattle.state.specs.State.{headView, firstReserved, firstWaiting}
 use Rattle.state.specs.Fits.{Fits}
-use Rattle.acks.proofs.Flying.{keep-map}
 use Rattle.reserved.specs.Reserved.{anyHeld, hasReserved}
 
 -- the words of a holder

@@ -25,7 +25,7 @@ use Rattle.definition.proofs.Lists.{all-append, all-keep}
 use Rattle.definition.proofs.Local.{⊕-zero}
 use Rattle.table.specs.Table.{removeRows}
 use Rattle.table.proofs.Laws.{remove-length, remove-after, remove-parts}
-use Rattle.table.proofs.Segments.{kept-length}
+use Rattle.table.proofs.Segments.{tally-map, keep-map, kept-length}
 use Rattle.consumers.proofs.View.{subs-agree}
 use Rattle.consumers.proofs.Strict.{all-left, all-right, strict-agree, tables-strict, strict-tables}
 use Rattle.state.specs.declared.Head.{Head}
@@ -35,7 +35,6 @@ use Rattle.state.specs.Leaves.{Leaves}
 use Rattle.state.proofs.Counts.{dequeued-plain, expired-plain}
 use Rattle.acks.specs.declared.Span.{Span}
 use Rattle.acks.specs.Parts.{Told, Kept, rowLetters, rowDiscards}
-use Rattle.acks.proofs.Flying.{tally-map, keep-map}
 use Rattle.reserved.specs.Reserved.{wants, wantsRow, wantedOf, takenCounts, takenEvents, taking, toldCounts, toldEvents, countedHead, Holding}
 use Rattle.reserved.proofs.Loops.{reserved-slice}
 use Rattle.reserved.proofs.Types.{takes-reserved}

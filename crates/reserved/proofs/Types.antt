@@ -17,9 +17,9 @@ use Rattle.definition.specs.Types.{Id, Entry, Held, Dest, withReserved}
 use Rattle.definition.specs.Consumer.{AckType, Delivered, Poison, Standard, Redelivered, Individual, Unmatched, Expired, Other, ackType, Ack, or0, addDequeued}
 use Rattle.definition.specs.Destination.{count, heldBy, atLeast, reservedHit, reservedCounts, reservedEvents, ackReserved}
 use Rattle.definition.proofs.Tests.{by-test}
+use Rattle.table.proofs.Segments.{keep-map}
 use Rattle.acks.specs.Rules.{noSpan, inNumbers}
 use Rattle.acks.proofs.Rules.{none-in, both-ways}
-use Rattle.acks.proofs.Flying.{keep-map}
 use Rattle.reserved.specs.Reserved.{wants, wantedOf, takenCounts, takenEvents, taking}
 
 -- ---- which

@@ -2,7 +2,7 @@
 use mathlib.Core.Path.{_≡_, refl, sym, ap, _∙_}
 use mathlib.Core.Bool.{true, false}
 use mathlib.Core.List.{List}
-use Prim.Native.Nat.{_<_}
+use Prim.Native.Nat.{ℕ, _<_}
 use Rattle.stats.specs.declared.Stats.{Stats}
 use Rattle.stats.specs.Counted.{top, withEnqueued}
 use Rattle.definition.specs.Types.{Kind, queue, topic, Id, Entry, Audit, Dest}
@@ -38,16 +38,16 @@ leaves-counted f g s d r subs rows events subs′ rows′ events′ same l = rec
 }
 
 -- the entry is counted, and then stored by the kind
-module _ (e : Entry) (d : Head) (subs rows : List Row) (h : d .stats .enqueued < top) (producers : List Id) (audits : List Audit) where
+module _ (now : ℕ) (e : Entry) (d : Head) (subs rows : List Row) (h : d .stats .enqueued < top) (producers : List Id) (audits : List Audit) where
   kind-is : headView d subs rows producers audits .kind ≡ kindBy (d .queue)
   unfolding headView
   kind-is = refl
 
-  by-kind : (k : Kind) → kindBy (d .queue) ≡ k → storedBy e (headView d subs rows producers audits) k ≡ kept e (headView d subs rows producers audits)
-  by-kind k q = ap (storedBy e (headView d subs rows producers audits)) (sym (kind-is ∙ q))
+  by-kind : (k : Kind) → kindBy (d .queue) ≡ k → storedBy now e (headView d subs rows producers audits) k ≡ kept now e (headView d subs rows producers audits)
+  by-kind k q = ap (storedBy now e (headView d subs rows producers audits)) (sym (kind-is ∙ q))
 
-  pub counted-queue : d .queue ≡ true → waits e (headView (withStats (withEnqueued (d .stats)) d) subs rows producers audits) ≡ kept e (headView d subs rows producers audits)
+  pub counted-queue : d .queue ≡ true → waits e (headView (withStats (withEnqueued (d .stats)) d) subs rows producers audits) ≡ kept now e (headView d subs rows producers audits)
   counted-queue q = ap (waits e) (enqueued-view subs rows producers audits d h) ∙ by-kind queue (ap kindBy q)
 
-  pub counted-topic : d .queue ≡ false → spread e (headView (withStats (withEnqueued (d .stats)) d) subs rows producers audits) ≡ kept e (headView d subs rows producers audits)
-  counted-topic q = ap (spread e) (enqueued-view subs rows producers audits d h) ∙ by-kind topic (ap kindBy q)
+  pub counted-topic : d .queue ≡ false → spread now e (headView (withStats (withEnqueued (d .stats)) d) subs rows producers audits) ≡ kept now e (headView d subs rows producers audits)
+  counted-topic q = ap (spread now e) (enqueued-view subs rows producers audits d h) ∙ by-kind topic (ap kindBy q)

@@ -2,23 +2,24 @@
 use mathlib.Core.Path.{_≡_, refl, sym, ap, ap₂, _∙_}
 use mathlib.Core.Bool.{true, false}
 use mathlib.Core.List.{List, [], _∷_, _++_, append-nil, map}
-use Prim.Native.Nat.{ℕ, suc, _+_, _-_, _≤_, _<_, _^_}
+use Prim.Native.Nat.{ℕ, suc, _+_, _≤_, _<_, _^_}
 use native.Mathlib.Numerals.{add-one}
 use native.Mathlib.Omega.{arith}
 use lib.ListN.{length, take, drop, getD, set, length-set, length-drop, take-append-drop}
 use lib.Seq.{length-take-le, getD-take, take-all, drop-length, take-add, drop-drop, drop-cons, take-set-lt, take-suc-set, drop-set-lt, take-append-le, drop-append-le, set-at, append-snoc}
 use Rattle.stats.specs.declared.Stats.{Stats}
+use Rattle.stats.specs.Counted.{withDiscardedBy}
 use Rattle.entry.specs.Entry.{entryOf}
 use Rattle.definition.specs.Base as Base
 use Rattle.definition.specs.Base.{if_then_else_, every, nth, tally, member}
 use Rattle.definition.specs.Types.{Kind, topic, Id, Entry, Audit}
 use Rattle.definition.specs.Types as Def
-use Rattle.definition.specs.Consumer.{_⊕_}
+use Rattle.definition.specs.Consumer.{_⊕_, addExpired, addDiscarded}
 use Rattle.definition.specs.Destination.{Served, fanOut, fanOutAll}
 use Rattle.definition.specs.Calls.{seqs, consumerRows}
 use Rattle.definition.specs.Layout.{Row, inflightOf, heldOf, heldAt, subAt, eachSub, subsAt, subRows, entryStrict, subStrict, subsStrict}
 use Rattle.definition.proofs.Tests.{or-no-right, if-false}
-use Rattle.definition.proofs.Local.{⊕-zero, ⊕-assoc}
+use Rattle.definition.proofs.Local.{⊕-assoc}
 use Rattle.consumers.specs.declared.Sub.{Sub}
 use Rattle.consumers.specs.Consumers.{subOf, subWords, subView, acceptsOf}
 use Rattle.consumers.specs.Seats.{flyingIn, heldIn, afterIn, subIn}
@@ -28,31 +29,33 @@ use Rattle.consumers.proofs.Laws.{rows-of-sub, consumer-rows}
 use Rattle.consumers.proofs.Strict.{stored-strict, strict-at, strict-put, tables-strict, strict-tables}
 use Rattle.state.specs.declared.Head.{Head}
 use Rattle.state.specs.State.{headView, kindBy, strictTables}
+use Rattle.state.proofs.Counts.{expired-plain, discarded-plain}
 use Rattle.storing.specs.Storing.{holds, rowsNeeded, spread}
-use Rattle.storing.specs.Copies.{copiedSub, copiedHead, copiedRows, countedBy}
+use Rattle.storing.specs.declared.Copied.{Copied}
+use Rattle.storing.specs.Copies.{copied, copiedRows, countedBy}
 use Rattle.storing.specs.Arrivals.{Arrives, Arrived}
 use Rattle.storing.proofs.Used.{reservedRows, waitingRows, holds-append, absent-parts}
-use Rattle.storing.proofs.Copy.{Copy, recounted, counted-none, copied, copied-few}
+use Rattle.storing.proofs.Copy.{lost, lost-is, Copy, copy, copied-few}
 use Rattle.storing.proofs.Spread.{fan-length, fan-more, fan-counts, nth-rest, absent-rest, absent-first}
 
 -- the first i consumers of l with their copies
-abbrev pub fan : ℕ → Entry → ℕ → List Def.Sub → Served
-fan limit e i l = fanOutAll limit e (take i l)
+abbrev pub fan : ℕ → ℕ → Entry → ℕ → List Def.Sub → Served
+fan now limit e i l = fanOutAll now limit e (take i l)
 
-pub record Round (e : Entry) (subs₀ rows₀ : List Row) (d₀ : Head) (subs rows : List Row) (d : Head) (base i : ℕ) : Type 0 where
+-- so many rows are in use, and so many have expired and were discarded
+pub record Round (now : ℕ) (e : Entry) (subs₀ rows₀ : List Row) (d₀ : Head) (subs rows : List Row) (used expired over base i : ℕ) : Type 0 where
   pub within : i ≤ d₀ .consumers
   pub same-subs : length subs ≡ length subs₀
   pub same-rows : length rows ≡ length rows₀
   pub subs-past : drop 32 subs ≡ drop 32 subs₀
   pub rows-past : drop 512 rows ≡ drop 512 rows₀
-  pub head : d ≡ recounted d₀ d
   pub begins : base ≡ subRows (take i (take (d₀ .consumers) subs))
-  pub used : subRows (take (d₀ .consumers) subs) + (d₀ .reserved + d₀ .waiting) ≡ d .used
-  pub room : d₀ .events + d .used + tally (takes e) (drop i (take (d₀ .consumers) subs)) ≤ 512
-  pub discarded : d .stats .discarded + d .used ≤ d₀ .stats .discarded + 512 + i
+  pub uses : subRows (take (d₀ .consumers) subs) + (d₀ .reserved + d₀ .waiting) ≡ used
+  pub room : d₀ .events + used + tally (takes e) (drop i (take (d₀ .consumers) subs)) ≤ 512
+  pub few : expired + over + used ≤ 512 + i
   pub said : subsAt topic (take (d₀ .consumers) subs) rows
-      ≡ fan (d₀ .«topic_limit») e i (subsAt topic (take (d₀ .consumers) subs₀) rows₀) .subs ++ drop i (subsAt topic (take (d₀ .consumers) subs₀) rows₀)
-  pub stats : d .stats ≡ d₀ .stats ⊕ fan (d₀ .«topic_limit») e i (subsAt topic (take (d₀ .consumers) subs₀) rows₀) .counts
+      ≡ fan now (d₀ .«topic_limit») e i (subsAt topic (take (d₀ .consumers) subs₀) rows₀) .subs ++ drop i (subsAt topic (take (d₀ .consumers) subs₀) rows₀)
+  pub counts : lost expired over ≡ fan now (d₀ .«topic_limit») e i (subsAt topic (take (d₀ .consumers) subs₀) rows₀) .counts
   pub reserved : take (d₀ .reserved) (drop (subRows (take (d₀ .consumers) subs)) rows) ≡ reservedRows d₀ subs₀ rows₀
   pub waiting : take (d₀ .waiting) (drop (d₀ .reserved) (drop (subRows (take (d₀ .consumers) subs)) rows)) ≡ waitingRows d₀ subs₀ rows₀
   pub strict : subsStrict (take (d₀ .consumers) subs₀) rows₀ ≡ true → subsStrict (take (d₀ .consumers) subs) rows ≡ true
@@ -68,7 +71,7 @@ module _ (r w : ℕ) (g y z : List Row) (h : r + w ≤ length g) where
   next-same : take w (drop r (g ++ y)) ≡ take w (drop r (g ++ z))
   next-same = next y ∙ sym (next z)
 
-module _ (e : Entry) (subs₀ rows₀ : List Row) (d₀ : Head) (a : Arrives e d₀ subs₀ rows₀) (plain : d₀ .queue ≡ false) where
+module _ (now : ℕ) (e : Entry) (subs₀ rows₀ : List Row) (d₀ : Head) (a : Arrives e d₀ subs₀ rows₀) (plain : d₀ .queue ≡ false) (soon : now ≤ 2 ^ 62) where
   abbrev n : ℕ
   n = d₀ .consumers
 
@@ -84,29 +87,25 @@ module _ (e : Entry) (subs₀ rows₀ : List Row) (d₀ : Head) (a : Arrives e d
   needs-tally : rowsNeeded e d₀ subs₀ ≡ tally (takes e) ws₀
   needs-tally = if-false 1 (tally (takes e) ws₀) plain
 
-  round-start : Round e subs₀ rows₀ d₀ subs₀ rows₀ d₀ 0 0
+  -- before the first
+  pub round-first : Round now e subs₀ rows₀ d₀ subs₀ rows₀ (d₀ .used) 0 0 0 0
   unfolding fanOutAll subRows
-  round-start = record {
+  round-first = record {
     within = omega arith;
     same-subs = refl;
     same-rows = refl;
     subs-past = refl;
     rows-past = refl;
-    head = refl;
     begins = refl;
-    used = a .rows-used;
+    uses = a .rows-used;
     room = omega (arith, a .room, needs-tally);
-    discarded = omega (arith, a .room);
+    few = omega (arith, a .room);
     said = refl;
-    stats = sym (⊕-zero (d₀ .stats));
+    counts = refl;
     reserved = refl;
     waiting = refl;
     strict = λ o. o;
   }
-
-  -- before the first, nothing was discarded
-  pub round-first : Round e subs₀ rows₀ d₀ subs₀ rows₀ (countedBy (d₀ .used) 0 d₀) 0 0
-  round-first = rw (counted-none d₀ (omega (arith, a .discarded))) round-start
 
   -- no consumer has the number
   none-has : member (e .seq) (seqs (consumerRows all)) ≡ false
@@ -114,7 +113,7 @@ module _ (e : Entry) (subs₀ rows₀ : List Row) (d₀ : Head) (a : Arrives e d
       ap (λ (l : List Entry). member (e .seq) (seqs l)) (consumer-rows topic ws₀ rows₀)
       ∙ absent-parts d₀ subs₀ rows₀ (a .rows-used) (e .seq) (a .absent) .0
 
-  module _ (subs rows : List Row) (d : Head) (base i : ℕ) (g : Round e subs₀ rows₀ d₀ subs rows d base i) where
+  module _ (subs rows : List Row) (used expired over base i : ℕ) (g : Round now e subs₀ rows₀ d₀ subs rows used expired over base i) where
     abbrev ws : List Row
     ws = take n subs
 
@@ -145,16 +144,23 @@ module _ (e : Entry) (subs₀ rows₀ : List Row) (d₀ : Head) (a : Arrives e d
       split = rows-split ws i here
 
       fits : subRows ws ≤ length rows
-      fits = omega (arith, g .used, g .room, g .same-rows, a .rows-long)
+      fits = omega (arith, g .uses, g .room, g .same-rows, a .rows-long)
 
-      pub round-fine : (t : Sub) → t ≡ subOf (getD subs i []) → (base + t .inflight + t .held ≤ d .used) × (d .used ≤ 512) × (d .stats .discarded < 2 ^ 63)
+      pub round-fine : (t : Sub) → t ≡ subOf (getD subs i []) → (base + t .inflight + t .held ≤ used) × (used ≤ 512)
       round-fine t q =
-          let f : (base + s .inflight + s .held ≤ d .used) × (d .used ≤ 512) × (d .stats .discarded < 2 ^ 63) =
-          (omega (arith, split, g .begins, g .used), omega (arith, g .room), omega (arith, g .discarded, g .within, a .discarded, a .consumers)) in
+          let f : (base + s .inflight + s .held ≤ used) × (used ≤ 512) = (omega (arith, split, g .begins, g .uses), omega (arith, g .room)) in
           rw (q, row-is) f
 
-      pub round-few : (t u : Sub) → t ≡ subOf (getD subs i []) → u ≡ copiedSub e t d → base + u .inflight + u .held ≤ 513
-      round-few t u q p = let f = copied-few e t d in let b = round-fine t q in rw p (omega arith)
+      -- no sum below is large
+      pub round-few : (t : Sub) (r : Copied) → t ≡ subOf (getD subs i []) → r ≡ copied now limit e base t used rows
+          → (base + r .sub .inflight + r .sub .held ≤ 513) × (expired + r .expired ≤ 1057) × (over + r .over ≤ 1057)
+      round-few t r q p =
+          let f = copied-few now limit e base t used rows in
+          let b = round-fine t q in
+          let k = g .few in
+          let m = g .within in
+          let n = a .consumers in
+          rw p (omega arith, omega arith, omega arith)
 
       -- the rows in parts: before the consumer's, in flight, held, later ones in use, free ones
       abbrev front : List Row
@@ -192,7 +198,7 @@ module _ (e : Entry) (subs₀ rows₀ : List Row) (d₀ : Head) (a : Arrives e d
       later-length =
           let x : ℕ = subRows (take i ws) in
           length-take-le m after
-          (omega (arith, length-drop (heldOf w) (drop (inflightOf w) (drop x rows)), length-drop (inflightOf w) (drop x rows), length-drop x rows, split, g .used, g .room, g .same-rows, a .rows-long))
+          (omega (arith, length-drop (heldOf w) (drop (inflightOf w) (drop x rows)), length-drop (inflightOf w) (drop x rows), length-drop x rows, split, g .uses, g .room, g .same-rows, a .rows-long))
 
       -- the consumer is one that the definition has yet to serve
       abbrev it : Def.Sub
@@ -201,11 +207,11 @@ module _ (e : Entry) (subs₀ rows₀ : List Row) (d₀ : Head) (a : Arrives e d
       it-is : it ≡ subView topic s flying held
       it-is = sub-at topic w flying held
 
-      done-length : length (fan limit e i all .subs) ≡ i
-      done-length = fan-length limit e (take i all) ∙ length-take-le i all (omega (arith, subs-length topic ws₀ rows₀, length-take-le n subs₀ (omega (arith, a .subs-long, a .consumers))))
+      done-length : length (fan now limit e i all .subs) ≡ i
+      done-length = fan-length now limit e (take i all) ∙ length-take-le i all (omega (arith, subs-length topic ws₀ rows₀, length-take-le n subs₀ (omega (arith, a .subs-long, a .consumers))))
 
       rest-is : drop i all ≡ it ∷ drop 1 (drop i all)
-      rest-is = nth-rest (fan limit e i all .subs) (drop i all) it (ap₂ nth done-length (sym (g .said)) ∙ subs-nth topic ws rows i here)
+      rest-is = nth-rest (fan now limit e i all .subs) (drop i all) it (ap₂ nth done-length (sym (g .said)) ∙ subs-nth topic ws rows i here)
 
       missing : holds (e .seq) held ≡ false
       missing =
@@ -218,20 +224,19 @@ module _ (e : Entry) (subs₀ rows₀ : List Row) (d₀ : Head) (a : Arrives e d
       tally-is : tally (takes e) (drop i ws) ≡ (if acceptsOf s e then 1 else 0) + tally (takes e) post
       tally-is = ap (tally (takes e)) (drop-cons ws i [] here)
 
-      same-limit : d .«topic_limit» ≡ limit
-      same-limit = ap (λ (x : Head). x .«topic_limit») (g .head)
-
-      copy : Copy e front flying held later s d rows (copiedSub e s d) (copiedHead e s d) (copiedRows e base s d rows)
-      copy =
-          copied e front flying held later (drop m after) rows base s d parts front-length flies holding
-          (omega (arith, later-length, split, g .begins, g .used))
+      mine : Copy now limit e front flying held later s used rows (copied now limit e base s used rows) (copiedRows now limit e base s used rows)
+      mine =
+          copy now limit e front flying held later (drop m after) rows base s used parts front-length flies holding
+          (omega (arith, later-length, split, g .begins, g .uses))
           (omega (arith, tally-is, g .room))
           (omega (arith, g .same-rows, a .rows-long))
-          (omega (arith, g .discarded, g .within, a .discarded, a .consumers))
-          (a .row) missing
+          soon (a .row) missing
 
       -- the consumer with its copy in the table
-      module _ (t : Sub) (r : Head) (rows′ : List Row) (k : Copy e front flying held later s d rows t r rows′) where
+      module _ (r : Copied) (rows′ : List Row) (k : Copy now limit e front flying held later s used rows r rows′) where
+        abbrev t : Sub
+        t = r .sub
+
         abbrev w′ : Row
         w′ = subWords t
 
@@ -259,16 +264,16 @@ module _ (e : Entry) (subs₀ rows₀ : List Row) (d₀ : Head) (a : Arrives e d
             each-before of post later (k .free) h ∙ sym (each-before of post later (drop m after) h) ∙ ap (eachSub of post) after-is
 
         abbrev gets : Def.Sub
-        gets = fanOut limit e it .sub
+        gets = fanOut now limit e it .sub
 
-        mine : subAt topic w′ flying (k .held) ≡ gets
-        mine = sub-stored topic t flying (k .held) ∙ k .sub ∙ ap₂ (λ (l : ℕ) (x : Def.Sub). fanOut l e x .sub) same-limit (sym it-is)
+        now-has : subAt topic w′ flying (k .held) ≡ gets
+        now-has = sub-stored topic t flying (k .held) ∙ k .sub ∙ ap (λ (x : Def.Sub). fanOut now limit e x .sub) (sym it-is)
 
         put : subsAt topic (set ws i w′) rows′ ≡ set (subsAt topic ws rows) i gets
         put =
             ap (subsAt topic (set ws i w′)) (k .rows-are)
             ∙ subs-put topic ws rows i w′ flying (k .held) (later ++ k .free) here before-long in-flight held-now (others (subAt topic))
-            ∙ ap (set (subsAt topic ws rows) i) mine
+            ∙ ap (set (subsAt topic ws rows) i) now-has
 
         -- strict words stay strict
         strict-next : subsStrict ws₀ rows₀ ≡ true → subsStrict (set ws i w′) rows′ ≡ true
@@ -282,24 +287,20 @@ module _ (e : Entry) (subs₀ rows₀ : List Row) (d₀ : Head) (a : Arrives e d
         taken : take (i + 1) all ≡ take i all ++ it ∷ []
         taken = take-add i 1 all ∙ ap (λ (l : List Def.Sub). take i all ++ take 1 l) rest-is
 
-        said-next : subsAt topic (set ws i w′) rows′ ≡ fan limit e (i + 1) all .subs ++ drop (i + 1) all
+        said-next : subsAt topic (set ws i w′) rows′ ≡ fan now limit e (i + 1) all .subs ++ drop (i + 1) all
         said-next =
-            let p : List Def.Sub = fan limit e i all .subs in
+            let p : List Def.Sub = fan now limit e i all .subs in
             let q : List Def.Sub = drop 1 (drop i all) in
             put
             ∙ ap (λ (l : List Def.Sub). set l i gets) (g .said ∙ ap (λ (l : List Def.Sub). p ++ l) rest-is)
             ∙ set-at p it q gets i done-length
             ∙ sym (append-snoc p gets q)
-            ∙ ap₂ (λ (x y : List Def.Sub). x ++ y) (sym (ap (λ (l : List Def.Sub). fanOutAll limit e l .subs) taken ∙ fan-more limit e (take i all) it)) (drop-drop 1 i all)
+            ∙ ap₂ (λ (x y : List Def.Sub). x ++ y) (sym (ap (λ (l : List Def.Sub). fanOutAll now limit e l .subs) taken ∙ fan-more now limit e (take i all) it)) (drop-drop 1 i all)
 
-        stats-next : r .stats ≡ d₀ .stats ⊕ fan limit e (i + 1) all .counts
-        stats-next =
-            let c : Stats = fanOut limit e it .counts in
-            k .stats
-            ∙ ap₂ (λ (l : ℕ) (x : Def.Sub). d .stats ⊕ fanOut l e x .counts) same-limit (sym it-is)
-            ∙ ap (λ (x : Stats). x ⊕ c) (g .stats)
-            ∙ ⊕-assoc (d₀ .stats) (fan limit e i all .counts) c
-            ∙ ap (λ (x : Stats). d₀ .stats ⊕ x) (sym (ap (λ (l : List Def.Sub). fanOutAll limit e l .counts) taken ∙ fan-counts limit e (take i all) it))
+        counts-next : lost (expired + r .expired) (over + r .over) ≡ fan now limit e (i + 1) all .counts
+        counts-next =
+            ap₂ (λ (x y : Stats). x ⊕ y) (g .counts) (k .counts ∙ ap (λ (x : Def.Sub). fanOut now limit e x .counts) (sym it-is))
+            ∙ sym (ap (λ (l : List Def.Sub). fanOutAll now limit e l .counts) taken ∙ fan-counts now limit e (take i all) it)
 
         -- the rows past the consumers'
         abbrev past : List Row
@@ -341,37 +342,36 @@ module _ (e : Entry) (subs₀ rows₀ : List Row) (d₀ : Head) (a : Arrives e d
 
         used-next : subRows (set ws i w′) + (d₀ .reserved + d₀ .waiting) ≡ r .used
         unfolding subWords
-        used-next = omega (arith, rows-set ws i w′ here, split, k .flying, k .used, g .used)
+        used-next = omega (arith, rows-set ws i w′ here, split, k .flying, k .uses, g .uses)
 
         room-next : d₀ .events + r .used + tally (takes e) (drop (i + 1) (set ws i w′)) ≤ 512
         room-next =
             let p : drop (i + 1) (set ws i w′) ≡ post = drop-set-lt (i + 1) ws i w′ (omega arith) ∙ ap (λ (j : ℕ). drop j ws) (add-one i) in
-            omega (arith, ap (tally (takes e)) p, tally-is, g .room, k .used, k .most)
+            omega (arith, ap (tally (takes e)) p, tally-is, g .room, k .uses, k .most)
 
-        round-next : Round e subs₀ rows₀ d₀ subs′ rows′ r (base + t .inflight + t .held) (i + 1)
+        round-next : Round now e subs₀ rows₀ d₀ subs′ rows′ (r .used) (expired + r .expired) (over + r .over) (base + t .inflight + t .held) (i + 1)
         round-next = record {
           within = omega (arith, less);
           same-subs = length-set subs i w′ ∙ g .same-subs;
           same-rows = k .size ∙ g .same-rows;
           subs-past = drop-set-lt 32 subs i w′ (omega (arith, less, a .consumers)) ∙ g .subs-past;
           rows-past = k .past ∙ g .rows-past;
-          head = k .head ∙ ap (λ (x : Head). recounted x r) (g .head);
           begins = rw ws-is begins-next;
-          used = rw ws-is used-next;
+          uses = rw ws-is used-next;
           room = rw ws-is room-next;
-          discarded = omega (arith, k .discarded, g .discarded);
+          few = omega (arith, k .few, g .few);
           said = rw ws-is said-next;
-          stats = stats-next;
+          counts = counts-next;
           reserved = rw ws-is reserved-next;
           waiting = rw ws-is waiting-next;
           strict = rw ws-is strict-next;
         }
 
-      pub round-turn : (t u : Sub) (r : Head) (subs′ rows′ : List Row) → t ≡ subOf (getD subs i []) → u ≡ copiedSub e t d → r ≡ copiedHead e t d → rows′ ≡ copiedRows e base t d rows
-          → subs′ ≡ set subs i (subWords u) → Round e subs₀ rows₀ d₀ subs′ rows′ r (base + u .inflight + u .held) (i + 1)
-      round-turn t u r subs′ rows′ q p o l h =
+      pub round-turn : (t : Sub) (r : Copied) (subs′ rows′ : List Row) → t ≡ subOf (getD subs i []) → r ≡ copied now limit e base t used rows → rows′ ≡ copiedRows now limit e base t used rows
+          → subs′ ≡ set subs i (subWords (r .sub)) → Round now e subs₀ rows₀ d₀ subs′ rows′ (r .used) (expired + r .expired) (over + r .over) (base + r .sub .inflight + r .sub .held) (i + 1)
+      round-turn t r subs′ rows′ q p l h =
           let is : t ≡ s = q ∙ ap subOf row-is in
-          rw (h, p, o, l, is) (round-next (copiedSub e s d) (copiedHead e s d) (copiedRows e base s d rows) copy)
+          rw (h, p, l, is) (round-next (copied now limit e base s used rows) (copiedRows now limit e base s used rows) mine)
 
     -- all have theirs
     module _ (done : n ≤ i) where
@@ -390,21 +390,32 @@ module _ (e : Entry) (subs₀ rows₀ : List Row) (d₀ : Head) (a : Arrives e d
       kind-is : kindBy (d₀ .queue) ≡ topic
       kind-is = ap kindBy plain
 
-      view : (ps : List Id) (qs : List Audit) → headView d subs rows ps qs ≡ spread e (headView d₀ subs₀ rows₀ ps qs)
+      abbrev d : Head
+      d = countedBy used expired over d₀
+
+      counted : d .stats ≡ d₀ .stats ⊕ lost expired over
+      counted =
+          let s : Stats = d₀ .stats in
+          ap (λ (x : Stats). withDiscardedBy x over) (expired-plain s expired (omega (arith, g .few, a .expired, a .consumers, g .within)))
+          ∙ discarded-plain (s ⊕ addExpired expired) over (omega (arith, g .few, a .discarded, a .consumers, g .within))
+          ∙ ⊕-assoc s (addExpired expired) (addDiscarded over)
+          ∙ ap (λ (x : Stats). s ⊕ x) (sym (lost-is expired over))
+
+      view : (ps : List Id) (qs : List Audit) → headView d subs rows ps qs ≡ spread now e (headView d₀ subs₀ rows₀ ps qs)
       unfolding headView
       view ps qs =
-          let mine : subsAt (kindBy (d₀ .queue)) ws rows ≡ fanOutAll limit e (subsAt (kindBy (d₀ .queue)) ws₀ rows₀) .subs =
+          let mine : subsAt (kindBy (d₀ .queue)) ws rows ≡ fanOutAll now limit e (subsAt (kindBy (d₀ .queue)) ws₀ rows₀) .subs =
           ap (λ (k : Kind). subsAt k ws rows) kind-is
           ∙ g .said
-          ∙ ap₂ (λ (x y : List Def.Sub). fanOutAll limit e x .subs ++ y) whole none-left
-          ∙ append-nil (fanOutAll limit e all .subs)
-          ∙ ap (λ (k : Kind). fanOutAll limit e (subsAt k ws₀ rows₀) .subs) (sym kind-is) in
-          let counted : d .stats ≡ d₀ .stats ⊕ fanOutAll limit e (subsAt (kindBy (d₀ .queue)) ws₀ rows₀) .counts =
-          g .stats
-          ∙ ap (λ (x : List Def.Sub). d₀ .stats ⊕ fanOutAll limit e x .counts) whole
-          ∙ ap (λ (k : Kind). d₀ .stats ⊕ fanOutAll limit e (subsAt k ws₀ rows₀) .counts) (sym kind-is) in
-          ap (λ (x : Head). headView x subs rows ps qs) (g .head)
-          ∙ (λ j. record {
+          ∙ ap₂ (λ (x y : List Def.Sub). fanOutAll now limit e x .subs ++ y) whole none-left
+          ∙ append-nil (fanOutAll now limit e all .subs)
+          ∙ ap (λ (k : Kind). fanOutAll now limit e (subsAt k ws₀ rows₀) .subs) (sym kind-is) in
+          let sums : d .stats ≡ d₀ .stats ⊕ fanOutAll now limit e (subsAt (kindBy (d₀ .queue)) ws₀ rows₀) .counts =
+          counted
+          ∙ ap (λ (x : Stats). d₀ .stats ⊕ x) (g .counts)
+          ∙ ap (λ (x : List Def.Sub). d₀ .stats ⊕ fanOutAll now limit e x .counts) whole
+          ∙ ap (λ (k : Kind). d₀ .stats ⊕ fanOutAll now limit e (subsAt k ws₀ rows₀) .counts) (sym kind-is) in
+          (λ j. record {
             kind = kindBy (d₀ .queue);
             topicLimit = limit;
             callLimit = d₀ .«call_limit»;
@@ -415,7 +426,7 @@ module _ (e : Entry) (subs₀ rows₀ : List Row) (d₀ : Head) (a : Arrives e d
             rr = d₀ .turn;
             producers = ps;
             audits = qs;
-            stats = counted j;
+            stats = sums j;
             idle = headView d₀ subs₀ rows₀ ps qs .idle;
             reserved = map heldAt (g .reserved j);
           })
@@ -428,36 +439,28 @@ module _ (e : Entry) (subs₀ rows₀ : List Row) (d₀ : Head) (a : Arrives e d
           let t = tables-strict (r + w) ws₀ rows₀ o in
           let kept : take (r + w) (drop (subRows ws) rows) ≡ take (r + w) (drop (subRows ws₀) rows₀) =
           take-add r w (drop (subRows ws) rows) ∙ ap₂ (λ (x y : List Row). x ++ y) (g .reserved) (g .waiting) ∙ sym (take-add r w (drop (subRows ws₀) rows₀)) in
-          ap (λ (x : Head). strictTables x subs rows) (g .head)
-          ∙ strict-tables (r + w) ws rows (record { subs = g .strict (t .subs); others = ap (Base.all entryStrict) kept ∙ t .others })
+          strict-tables (r + w) ws rows (record { subs = g .strict (t .subs); others = ap (Base.all entryStrict) kept ∙ t .others })
 
-      abbrev same : {A : Type 0} (f : Head → A) → f d ≡ f (recounted d₀ d)
-      same f = ap f (g .head)
-
-      pub round-end : Arrived (spread e) d₀ d subs₀ rows₀ subs rows
-      round-end events =
-          let sent : d .events ≡ d₀ .events = same (λ (x : Head). x .events) in
-          let count : d .consumers ≡ n = same (λ (x : Head). x .consumers) in
-          let kept : d .reserved + d .waiting ≡ d₀ .reserved + d₀ .waiting = same (λ (x : Head). x .reserved + x .waiting) in
-          let own : subRows (take (d .consumers) subs) ≡ subRows ws = ap (λ (j : ℕ). subRows (take j subs)) count in (
-            record {
-              view = λ ps qs _. view ps qs;
-              sent = λ ps qs _. ap (λ (j : ℕ). take j events) sent ∙ sym (append-nil (take (d₀ .events) events));
-              later = refl;
-              more = omega (arith, sent);
-              producers = same (λ (x : Head). x .producers);
-              audits = same (λ (x : Head). x .audits);
-              queue = same (λ (x : Head). x .queue);
-              allowance = same (λ (x : Head). x .allowance);
-              consumers = omega (arith, count, a .consumers);
-              used = omega (arith, g .room);
-              rows-used = omega (arith, own, kept, g .used);
-              strict = strict;
-              subs-past = g .subs-past;
-              rows-past = g .rows-past;
-              subs-length = g .same-subs;
-              rows-length = g .same-rows;
-              events-length = refl;
-            },
-            (omega (arith, sent, g .room), count),
-          )
+      pub round-end : Arrived (spread now e) d₀ d subs₀ rows₀ subs rows
+      round-end events = (
+        record {
+          view = λ ps qs _. view ps qs;
+          sent = λ ps qs _. sym (append-nil (take (d₀ .events) events));
+          later = refl;
+          more = omega arith;
+          producers = refl;
+          audits = refl;
+          queue = refl;
+          allowance = refl;
+          consumers = a .consumers;
+          used = omega (arith, g .room);
+          rows-used = g .uses;
+          strict = strict;
+          subs-past = g .subs-past;
+          rows-past = g .rows-past;
+          subs-length = g .same-subs;
+          rows-length = g .same-rows;
+          events-length = refl;
+        },
+        (omega (arith, g .room), refl),
+      )

@@ -17,22 +17,22 @@ use Rattle.distinct.proofs.Laws.{member-append}
 
 -- ---- one consumer more
 
-module _ (limit : ℕ) (e : Entry) where
-  pub fan-length : (l : List Sub) → length (fanOutAll limit e l .subs) ≡ length l
+module _ (now limit : ℕ) (e : Entry) where
+  pub fan-length : (l : List Sub) → length (fanOutAll now limit e l .subs) ≡ length l
   unfolding fanOutAll
   fan-length [] = refl
   fan-length (s ∷ l) = ap suc (fan-length l)
 
-  pub fan-more : (l : List Sub) (s : Sub) → fanOutAll limit e (l ++ s ∷ []) .subs ≡ fanOutAll limit e l .subs ++ fanOut limit e s .sub ∷ []
+  pub fan-more : (l : List Sub) (s : Sub) → fanOutAll now limit e (l ++ s ∷ []) .subs ≡ fanOutAll now limit e l .subs ++ fanOut now limit e s .sub ∷ []
   unfolding fanOutAll
   fan-more [] s = refl
-  fan-more (x ∷ l) s = ap (λ (r : List Sub). fanOut limit e x .sub ∷ r) (fan-more l s)
+  fan-more (x ∷ l) s = ap (λ (r : List Sub). fanOut now limit e x .sub ∷ r) (fan-more l s)
 
-  pub fan-counts : (l : List Sub) (s : Sub) → fanOutAll limit e (l ++ s ∷ []) .counts ≡ fanOutAll limit e l .counts ⊕ fanOut limit e s .counts
+  pub fan-counts : (l : List Sub) (s : Sub) → fanOutAll now limit e (l ++ s ∷ []) .counts ≡ fanOutAll now limit e l .counts ⊕ fanOut now limit e s .counts
   unfolding fanOutAll
-  fan-counts [] s = ⊕-zero (fanOut limit e s .counts) ∙ sym (zero-⊕ (fanOut limit e s .counts))
+  fan-counts [] s = ⊕-zero (fanOut now limit e s .counts) ∙ sym (zero-⊕ (fanOut now limit e s .counts))
   fan-counts (x ∷ l) s =
-      ap (λ (r : Stats). fanOut limit e x .counts ⊕ r) (fan-counts l s) ∙ sym (⊕-assoc (fanOut limit e x .counts) (fanOutAll limit e l .counts) (fanOut limit e s .counts))
+      ap (λ (r : Stats). fanOut now limit e x .counts ⊕ r) (fan-counts l s) ∙ sym (⊕-assoc (fanOut now limit e x .counts) (fanOutAll now limit e l .counts) (fanOut now limit e s .counts))
 
 -- what stands at a place begins the rest
 pub nth-rest : (p r : List Sub) (s : Sub) → nth (length p) (p ++ r) ≡ some s → r ≡ s ∷ drop 1 r

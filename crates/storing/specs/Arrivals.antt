@@ -18,6 +18,7 @@ pub record Arrives (e : Entry) (d : Head) (subs rows : List Row) : Type 0 where
   pub rows-long : 512 ≤ length rows
   pub consumers : d .consumers ≤ 32
   pub room : d .events + d .used + rowsNeeded e d subs ≤ 512
+  pub expired : d .stats .expired ≤ 2 ^ 62
   pub discarded : d .stats .discarded ≤ 2 ^ 62
   pub rows-used : subRows (take (d .consumers) subs) + (d .reserved + d .waiting) ≡ d .used
   pub absent : holds (e .seq) (take (d .used) rows) ≡ false

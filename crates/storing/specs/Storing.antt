@@ -19,20 +19,20 @@ use Rattle.state.specs.Fits.{fits}
 
 -- ---- what it means
 
--- `enqueue` before its dispatch: stored on a queue, fanned out on a topic
-abbrev pub storedBy : Entry → Dest → Kind → Dest
-storedBy e t queue = stored e t
-storedBy e t topic = fannedOut e t
+-- `enqueue` before its dispatch: stored on a queue, fanned out on a topic, by the clock that entries expire by
+abbrev pub storedBy : ℕ → Entry → Dest → Kind → Dest
+storedBy now e t queue = stored e t
+storedBy now e t topic = fannedOut now e t
 
-abbrev pub kept : Entry → Dest → Dest
-kept e t = storedBy e t (t .kind)
+abbrev pub kept : ℕ → Entry → Dest → Dest
+kept now e t = storedBy now e t (t .kind)
 
 -- the same two after the entry was counted
 abbrev pub waits : Entry → Dest → Dest
 waits e t = withIdle none (withPending (insert e (t .pending)) (withSubs (map (holdBack (e .seq)) (t .subs)) t))
 
-abbrev pub spread : Entry → Dest → Dest
-spread e t = let r = fanOutAll (t .topicLimit) e (t .subs) in count (r .counts) (withSubs (r .subs) t)
+abbrev pub spread : ℕ → Entry → Dest → Dest
+spread now e t = let r = fanOutAll now (t .topicLimit) e (t .subs) in count (r .counts) (withSubs (r .subs) t)
 
 -- ---- when
 

@@ -1,15 +1,16 @@
 // An entry that arrives (`enqueue` of destination.rs, before its dispatch): refused, or stored on a queue or fanned out on a topic.
 ghost use mathlib.Core.Path.{_≡_};
-ghost use mathlib.Core.Bool.{true, false};
+ghost use mathlib.Core.Bool.{true, false, _&&_};
 ghost use Prim.Native.Nat.{_+_, _≤_, _<_, _^_};
+ghost use lib.Dec.{leb};
 ghost use lib.ListN.{length, take};
 ghost use Rattle.entry.specs.Entry.{rowOf};
 ghost use Rattle.consumers.specs.Table.{onFirst, heldBackRow};
 ghost use Rattle.state.specs.State.{firstWaiting};
 ghost use Rattle.state.specs.Leaves.{silent, LeavesIf};
-ghost use Rattle.table.specs.Table.{placeOf, insertRow, closeGap};
+ghost use Rattle.table.specs.Table.{placeOf, insertRow};
 ghost use Rattle.storing.specs.Storing.{holds, rowsNeeded, refusalOf, roomFor, stores, Room, queuedHead, kept, spread};
-ghost use Rattle.storing.specs.Copies.{overLimit, Copies};
+ghost use Rattle.storing.specs.Copies.{overLimit, goneOf, trimmed, copied, copiedRows};
 ghost use Rattle.storing.specs.Arrivals.{Arrives, Arrived};
 use consumers::Sub;
 use consumers::SubRow;
@@ -81,10 +82,17 @@ fn queued(subs: &mut [SubRow], rows: &mut [Row], mut d: Head, e: Entry) -> Head
 
 // ---- fanned out on a topic
 
-// What a copy for one consumer leaves: the consumer, the rows in use, and how many were over the topic limit.
+// What goes of a consumer's held rows: those that have expired, and besides them those over the topic limit.
+struct Gone {
+    expired: usize,
+    over: usize,
+}
+
+// What a copy for one consumer leaves: the consumer, the rows in use, and what went.
 struct Copied {
     sub: Sub,
     used: usize,
+    expired: usize,
     over: usize,
 }
 
@@ -101,58 +109,79 @@ fn over_of(limit: u64, n: usize) -> usize
     n - limit as usize
 }
 
-// Over the topic limit a consumer loses its lowest numbers; its held rows begin at from.
-fn limited(rows: &mut [Row], from: usize, over: usize, used: usize)
-    ensures { λ _. ⌜ now (rows .exit) ≡ closeGap from over used (now (rows .entry)) ⌝ }
+// Over the topic limit a consumer loses all that have expired, and then its lowest numbers while it is over. Its n held rows begin at from.
+fn trim(rows: &mut [Row], from: usize, n: usize, used: usize, limit: u64, clock: u64) -> Gone
+    requires { ⌜ (from + n ≤ used) × (used ≤ 513) ⌝ }
+    ensures { λ r. ⌜ r .expired + r .over ≤ n ⌝ }
+    ensures { λ r. ⌜ r ≡ goneOf clock limit from n used (now (rows .entry)) ⌝ }
+    ensures { λ _. ⌜ now (rows .exit) ≡ trimmed clock limit from n used (now (rows .entry)) ⌝ }
 {
-    if over == 0 {
-        return;
+    if over_of(limit, n) == 0 {
+        return Gone {
+            expired: 0,
+            over: 0,
+        };
     }
-    table::close_gap(rows, from, over, used);
+    let expired = table::remove_expired(rows, from, from + n, used, clock);
+    let over = over_of(limit, n - expired);
+    table::close_gap(rows, from, over, used - expired);
+    Gone { expired, over }
 }
 
 // The copy for one consumer, whose rows begin at base, if it accepts the entry.
-fn fan_out(rows: &mut [Row], base: usize, mut s: Sub, limit: u64, used: usize, e: Entry) -> Copied
+fn fan_out(
+    rows: &mut [Row],
+    base: usize,
+    mut s: Sub,
+    limit: u64,
+    used: usize,
+    e: Entry,
+    clock: u64,
+) -> Copied
     requires { ⌜ (base + s .inflight + s .held ≤ used) × (used ≤ 512) ⌝ }
-    ensures { λ r. ⌜ r .over ≤ s .held + 1 ⌝ }
-    ensures { λ r. ⌜ Copies e base s limit used (now (rows .entry)) (r .sub) (r .used) (r .over) (now (rows .exit)) ⌝ }
+    ensures { λ r. ⌜ r ≡ copied clock limit e base s used (now (rows .entry)) ⌝ }
+    ensures { λ _. ⌜ now (rows .exit) ≡ copiedRows clock limit e base s used (now (rows .entry)) ⌝ }
 {
     if !s.accepts(e) {
         return Copied {
             sub: s,
             used,
+            expired: 0,
             over: 0,
         };
     }
     let from = base + s.inflight;
     let place = table::place_of(rows, from, from + s.held, e.seq);
     table::insert_row(rows, place, used, entry::held_row(e));
-    let over = over_of(limit, s.held + 1);
-    limited(rows, from, over, used + 1);
-    s.held = s.held + 1 - over;
+    let g = trim(rows, from, s.held + 1, used + 1, limit, clock);
+    let gone = g.expired + g.over;
+    s.held = s.held + 1 - gone;
     Copied {
         sub: s,
-        used: used + 1 - over,
-        over,
+        used: used + 1 - gone,
+        expired: g.expired,
+        over: g.over,
     }
 }
 
-// Each consumer in turn; base is where its rows begin. What is discarded is counted once for all.
-fn fan_out_all(subs: &mut [SubRow], rows: &mut [Row], before: Head, e: Entry) -> Head
-    requires { ⌜ Arrives e before (now subs) (now rows) × (before .queue ≡ false) ⌝ }
-    ensures { λ r. ⌜ Arrived (spread e) before r (now (subs .entry)) (now (rows .entry)) (now (subs .exit)) (now (rows .exit)) ⌝ }
+// Each consumer in turn; base is where its rows begin. What has expired and what is discarded are counted once for all.
+fn fan_out_all(subs: &mut [SubRow], rows: &mut [Row], before: Head, e: Entry, clock: u64) -> Head
+    requires { ⌜ Arrives e before (now subs) (now rows) × (before .queue ≡ false) × (clock ≤ 2 ^ 62) ⌝ }
+    ensures { λ r. ⌜ Arrived (spread clock e) before r (now (subs .entry)) (now (rows .entry)) (now (subs .exit)) (now (rows .exit)) ⌝ }
 {
     let n = before.consumers;
     let limit = before.topic_limit;
     let mut used = before.used;
+    let mut expired = 0;
     let mut over = 0;
     let mut base = 0;
     let mut i = 0;
     while i < n {
         let s = consumers::load(subs, i);
-        let r = fan_out(rows, base, s, limit, used, e);
+        let r = fan_out(rows, base, s, limit, used, e, clock);
         let t = r.sub;
         used = r.used;
+        expired = expired + r.expired;
         over = over + r.over;
         base = base + t.inflight + t.held;
         consumers::store(subs, i, t);
@@ -160,16 +189,26 @@ fn fan_out_all(subs: &mut [SubRow], rows: &mut [Row], before: Head, e: Entry) ->
     }
     let mut d = before;
     d.used = used;
-    d.count_discarded(over as u64)
+    d.count_expired(expired as u64).count_discarded(over as u64)
 }
 
 // ---- stored by the kind
 
-// Stores an entry on a queue, or fans it out on a topic; nothing is dispatched yet. Where the numbers do not fit, where it is
-// refused, or where its rows are not free beside the events that were sent, nothing happens.
-pub fn store(subs: &mut [SubRow], rows: &mut [Row], events: &[Event], d: Head, e: Entry) -> Head
-    ensures { λ r. ⌜ LeavesIf (stores e d (now (subs .entry)) (now (rows .entry)) (length (now (events .entry)))) (Room d r) (silent (kept e)) d r (now (subs .entry)) (now (rows .entry)) (now (events .entry)) (now (subs .exit)) (now (rows .exit)) (now (events .entry)) ⌝ }
+// Stores an entry on a queue, or fans it out on a topic, by the clock that entries expire by; nothing is dispatched yet. Where the numbers do
+// not fit, where it is refused, where its rows are not free beside the events that were sent, or with a clock above 2^62, nothing happens.
+pub fn store(
+    subs: &mut [SubRow],
+    rows: &mut [Row],
+    events: &[Event],
+    d: Head,
+    e: Entry,
+    clock: u64,
+) -> Head
+    ensures { λ r. ⌜ LeavesIf (leb clock (2 ^ 62) && stores e d (now (subs .entry)) (now (rows .entry)) (length (now (events .entry)))) (Room d r) (silent (kept clock e)) d r (now (subs .entry)) (now (rows .entry)) (now (events .entry)) (now (subs .exit)) (now (rows .exit)) (now (events .entry)) ⌝ }
 {
+    if entry::CLOCK_MOST < clock {
+        return d;
+    }
     if !state::fits(subs, d, rows.len(), events.len()) {
         return d;
     }
@@ -183,5 +222,5 @@ pub fn store(subs: &mut [SubRow], rows: &mut [Row], events: &[Event], d: Head, e
     if d.queue {
         return queued(subs, rows, counted, e);
     }
-    fan_out_all(subs, rows, counted, e)
+    fan_out_all(subs, rows, counted, e, clock)
 }

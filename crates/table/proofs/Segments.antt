@@ -7,12 +7,23 @@ use Prim.Native.Nat.{ℕ, _+_, _-_, _≤_, _<_}
 use native.Mathlib.Nat.{add-zero, add-assoc}
 use native.Mathlib.Omega.{arith}
 use lib.ListN.{length, take, drop, getD, set, length-map}
-use lib.Seq.{slice, slice-empty, length-slice}
+use lib.Seq.{slice, slice-empty, length-slice, set-getD}
 use Rattle.words.proofs.Tests.{by-test}
 use Rattle.definition.specs.Base.{if_then_else_, keep, tally}
 use Rattle.table.specs.Table.{Row, closed, closeGap, mapped, removed, removeRows, compacted}
 use Rattle.table.proofs.Bounds.{close-in, remove-in}
 use Rattle.table.proofs.Lists.{slice-take, slice-snoc, written, written-none, written-length, written-at, written-drop, written-take, written-more, written-same}
+
+-- ---- lists through a map
+
+module _ {A B : Type 0} (g : A → B) (p : B → Bool) where
+  pub tally-map : (l : List A) → tally p (map g l) ≡ tally (λ x. p (g x)) l
+  tally-map [] = refl
+  tally-map (x ∷ l) = ap (λ (n : ℕ). (if p (g x) then 1 else 0) + n) (tally-map l)
+
+  pub keep-map : (l : List A) → keep p (map g l) ≡ map g (keep (λ x. p (g x)) l)
+  keep-map [] = refl
+  keep-map (x ∷ l) = by-test (p (g x)) (λ t. rw t (ap (λ (m : List B). g x ∷ m) (keep-map l))) (λ t. rw t (keep-map l))
 
 -- ---- counting
 
@@ -165,6 +176,12 @@ module _ (p : Row → Bool) where
         ∙ ap (λ (l : List Row). set l j x) q
         ∙ written-more from j (left s) rs (left-length from i rs h (omega arith)) x (omega arith)
         ∙ ap₂ (λ (l : List Row) (n : ℕ). take from rs ++ (l ++ drop n rs)) (sym (ap left grows ∙ left-more s x t)) e
+
+    -- with none gone before it, a row stays where it is
+    pub compacted-still : (g : ℕ) → g ≡ tally p (slice from i rs) → g ≡ 0 → p (getD now i []) ≡ false → now ≡ compacted p from (i + 1) rs
+    compacted-still g u z t =
+        let v : i ≡ i - g = omega arith in
+        sym (set-getD now i []) ∙ ap (λ (n : ℕ). set now n (getD now i [])) v ∙ compacted-kept g u t
 
 -- the rows that pass are taken out: first the others of the segment move together, then the later ones close up
 pub taken-out : (p : Row → Bool) (from to n g : ℕ) (rs middle end : List Row) → from ≤ to → to ≤ n → n ≤ length rs

@@ -6,8 +6,8 @@ use Prim.Native.Nat.{ℕ, suc, _+_, _-_}
 use lib.Dec.{leb, eqb}
 use lib.ListN.{length, take, drop, getD, set}
 use lib.Seq.{slice}
-use Rattle.words.specs.Words.{unsigned, int}
-use Rattle.entry.specs.Entry.{oneMore}
+use Rattle.words.specs.Words.{signed, unsigned, int}
+use Rattle.entry.specs.Entry.{expired, oneMore, entryOf}
 use Rattle.definition.specs.Base.{if_then_else_, keep, tally, member}
 use Rattle.table.specs.declared.Found.{Found}
 use Rattle.table.specs.declared.Found.the-variants.{At, Nothing}
@@ -80,6 +80,10 @@ isFreed r = not (eqb (getD r 7 0) 0)
 
 abbrev pub hasSeq : ℕ → Row → Bool
 hasSeq seq r = eqb (getD r 0 0) seq
+
+-- expired by the clock that a word holds
+abbrev pub expiredRow : ℕ → Row → Bool
+expiredRow clock r = expired (signed clock) (entryOf r)
 
 -- how many rows of from..to pass a test
 unfoldable pub countRows : (Row → Bool) → ℕ → ℕ → List Row → ℕ

@@ -8,7 +8,7 @@ ghost use lib.Seq.{slice};
 ghost use Rattle.definition.specs.Base.{if_then_else_, tally};
 ghost use Rattle.table.specs.Table.{closed, closeGap, insertRow, lifted, openGap, findSeq, hasSeqIn, placeFrom, placeOf};
 ghost use Rattle.table.specs.Table.{inRange, isFreed, hasSeq, countRows, mapRows, freedRow, markRow, raisedRow, redeliverRow, unmarkRow, flownRow};
-ghost use Rattle.table.specs.Table.{compacted, removeRows, removedRows, removedRange};
+ghost use Rattle.table.specs.Table.{expiredRow, compacted, removeRows, removedRows, removedRange};
 use entry::DSEQ;
 use entry::FREED;
 use entry::Row;
@@ -418,6 +418,29 @@ fn compact_seq(rows: &mut [Row], from: usize, to: usize, seq: u64) -> usize
     gone
 }
 
+// Moves together the rows of from..to that have not expired; before the first that has, none moves.
+fn compact_expired(rows: &mut [Row], from: usize, to: usize, clock: u64) -> usize
+    requires { ⌜ (from ≤ to) × (to ≤ length (now rows)) ⌝ }
+    ensures { λ r. ⌜ r ≡ tally (expiredRow clock) (slice from to (now (rows .entry))) ⌝ }
+    ensures { λ _. ⌜ now (rows .exit) ≡ compacted (expiredRow clock) from to (now (rows .entry)) ⌝ }
+{
+    let mut gone = 0;
+    let mut i = from;
+    while i < to {
+        let row = rows[i];
+        if entry::expired_by(entry::entry_of(row), clock) {
+            gone += 1;
+            i += 1;
+        } else if gone == 0 {
+            i += 1;
+        } else {
+            rows[i - gone] = row;
+            i += 1;
+        }
+    }
+    gone
+}
+
 // Takes the rows of from..to with a delivery number from first to last out of the n used ones.
 pub fn remove_range(
     rows: &mut [Row],
@@ -460,6 +483,25 @@ pub fn remove_seq(rows: &mut [Row], from: usize, to: usize, n: usize, seq: u64) 
         return 0;
     }
     let gone = compact_seq(rows, from, to, seq);
+    close_gap(rows, to - gone, gone, n);
+    gone
+}
+
+// Takes the rows of from..to that have expired by that clock out of the n used ones, and says how many there were.
+pub fn remove_expired(rows: &mut [Row], from: usize, to: usize, n: usize, clock: u64) -> usize
+    ensures { λ r. ⌜ r ≡ removedRows (expiredRow clock) from to n (now (rows .entry)) ⌝ }
+    ensures { λ _. ⌜ now (rows .exit) ≡ removeRows (expiredRow clock) from to n (now (rows .entry)) ⌝ }
+{
+    if rows.len() < n {
+        return 0;
+    }
+    if n < to {
+        return 0;
+    }
+    if to < from {
+        return 0;
+    }
+    let gone = compact_expired(rows, from, to, clock);
     close_gap(rows, to - gone, gone, n);
     gone
 }

@@ -44,6 +44,7 @@ fn main() -> ExitCode {
         codes: [[0; 2]; 17],
         refusals: [0; 10],
         halves: [0; 3],
+        surplus: [0; 6],
         seen: Vec::new(),
     };
     match run.all(&arguments) {
@@ -66,6 +67,8 @@ struct Run {
     refusals: [u64; 10],
     /// Releases in two halves by the broker's one call, and marks that the harness cleared or put back.
     halves: [u64; 3],
+    /// Enqueues that bring a topic's list over its limit, by what has expired.
+    surplus: [u64; 6],
     /// Conditions, and after how many calls they held.
     seen: Vec<(&'static str, u64)>,
 }
@@ -144,6 +147,9 @@ impl Run {
         for (sum, more) in self.halves.iter_mut().zip(sides.halves()) {
             *sum += more;
         }
+        for (sum, more) in self.surplus.iter_mut().zip(sides.surplus()) {
+            *sum += more;
+        }
     }
 
     /// Counts a call, and spoils what it has left if that is asked.
@@ -182,6 +188,12 @@ impl Run {
         let [both, first, second] = self.halves;
         println!("releases, both halves: {both}");
         println!("halves alone, of a consumer with marks: {first} first, {second} second");
+        let [over, expired, several, new, others, discards] = self.surplus;
+        println!("enqueues that bring a topic's list over its limit: {over}");
+        println!(
+            "with something expired in such a list: {expired} (several waiting copies: {several}, the new one: {new}, \
+             beside lists within the limit: {others}, beside discards: {discards})"
+        );
         for (name, times) in &self.seen {
             println!("{name}: {times}");
         }

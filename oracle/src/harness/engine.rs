@@ -10,7 +10,8 @@ use super::arguments::{self, ROWS};
 use super::callfile::{ack_bit, code, join_flag, Call};
 use super::host::{self, AckNumbers, EntryNumbers, Id};
 use crate::broker::conn::{ConnHandle, Out};
-use crate::broker::destination::{probe, Dest, Effect, ProducerMeta, Stats, SubSpec};
+use crate::broker::destination::probe::{self, Surplus};
+use crate::broker::destination::{Dest, Effect, ProducerMeta, Stats, SubSpec};
 use crate::broker::entry::{Entry, Memory};
 use crate::openwire::model::{
     ack_type, Command, ConsumerId, DestKind, Destination, Message, MessageAck, MessageDispatch, ProducerId,
@@ -183,10 +184,55 @@ pub enum Half {
     Second,
 }
 
+/// How often document 02 §5 was read by the harness, as the broker discards what is over the limit and does not ask what has expired.
+#[derive(Clone, Copy, Default)]
+pub struct SurplusCounts {
+    /// Enqueues that bring a list over its limit.
+    pub over: u64,
+    /// Of these, with something expired in such a list, so that the harness has taken it out.
+    pub expired: u64,
+    /// Of these, with several expired copies waiting in such lists.
+    pub several: u64,
+    /// Of these, with an entry that has itself expired.
+    pub new: u64,
+    /// Of these, with other consumers that are given a copy.
+    pub others: u64,
+    /// Of these, with a discard by the broker in another list.
+    pub discards: u64,
+}
+
+impl SurplusCounts {
+    /// Counts an enqueue.
+    fn add(&mut self, taken: &Surplus, accepting: u64, discards: bool) {
+        let expired = taken.expired + taken.kept_out() > 0;
+        self.over += u64::from(taken.over > 0);
+        self.expired += u64::from(expired);
+        self.several += u64::from(taken.expired > 1);
+        self.new += u64::from(taken.kept_out() > 0);
+        self.others += u64::from(expired && accepting > taken.over);
+        self.discards += u64::from(expired && discards);
+    }
+
+    /// The counts in the order above.
+    pub fn numbers(&self) -> [u64; 6] {
+        [
+            self.over,
+            self.expired,
+            self.several,
+            self.new,
+            self.others,
+            self.discards,
+        ]
+    }
+}
+
 pub struct Engine {
     opened: Option<Opened>,
     /// How often each was needed.
     pub halves: [u64; 4],
+    pub surplus: SurplusCounts,
+    /// A selector that takes nothing.
+    nothing: Arc<Selector>,
     /// One connection for all consumers keeps the sends in order.
     conn: Arc<ConnHandle>,
     sends: mpsc::UnboundedReceiver<Out>,
@@ -207,6 +253,8 @@ impl Engine {
         Engine {
             opened: None,
             halves: [0; 4],
+            surplus: SurplusCounts::default(),
+            nothing: host::nothing(),
             conn: Arc::new(ConnHandle::new(1, address, tx)),
             sends,
             memory: Arc::new(Memory::new(0)),
@@ -240,6 +288,15 @@ impl Engine {
         let (answer, effects) = if call.code == code::RELEASE && half != Half::Both {
             self.halves[opened.second_half(call, &mut prepared) as usize] += 1;
             (0, Vec::new())
+        } else if let Prepared::Enqueue(Some(entry), now) = &prepared {
+            let accepting = probe::accepting(&opened.dest, entry) as u64;
+            let before = probe::stats(&opened.dest).discarded;
+            let taken = probe::take_surplus(&opened.dest, entry, *now, &self.nothing);
+            let done = prepared.run(&opened.dest);
+            let discards = probe::stats(&opened.dest).discarded > before;
+            self.surplus.add(&taken, accepting, discards);
+            probe::put_back(&opened.dest, taken);
+            done
         } else {
             prepared.run(&opened.dest)
         };

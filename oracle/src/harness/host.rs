@@ -80,6 +80,12 @@ pub fn selector(number: u64) -> Option<Arc<Selector>> {
     Some(Arc::new(compiled.expect("the selector is not blank")))
 }
 
+/// A selector that takes no entry: no match word's text starts with 2.
+pub fn nothing() -> Arc<Selector> {
+    let compiled = Selector::compile("JMSCorrelationID LIKE '2%'").expect("the selector is well formed");
+    Arc::new(compiled.expect("the selector is not blank"))
+}
+
 pub fn selector_number(text: Option<&str>) -> u64 {
     match text {
         None => NO_SELECTOR,

@@ -56,6 +56,11 @@ impl Sides {
         [both, first, second]
     }
 
+    /// Enqueues that bring a topic's list over its limit, and those that the harness has read itself.
+    pub fn surplus(&self) -> [u64; 6] {
+        self.engine.surplus.numbers()
+    }
+
     fn both(&self, reply: Reply, outcome: Outcome, before: Option<Lent>) -> Both {
         let opened = self.engine.opened();
         if self.calls.is_multiple_of(DERIVED_EVERY) {

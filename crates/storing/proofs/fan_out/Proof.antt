@@ -6,9 +6,10 @@ use native.Mathlib.Omega.{arith}
 use borrow.Author.Tests.{not-true, not-false}
 use denote.Ref.{now}
 use Rattle.definition.specs.Layout.{Row}
-use Rattle.table.specs.Table.{insertRow, closeGap}
+use Rattle.table.specs.Table.{insertRow}
 use Rattle.consumers.specs.Consumers.{acceptsOf}
-use Rattle.storing.proofs.Copy.{over-most, copies-no, copies-yes}
+use Rattle.storing.specs.Copies.{goneOf, trimmed}
+use Rattle.storing.proofs.Copy.{got, copied-no, copied-yes}
 use borrow.Author.Needs.{needs}
 use Rattle.storing.proofs.fan_out.Statement.{statement}
 use Rattle.storing.proofs.fan_out.Tie as tie
@@ -20,7 +21,7 @@ returns : tie.Need-returns
 returns c =
     let a = c .before .before .args in
     let no : acceptsOf (a .s) (a .e) ≡ false = sym (c .before .accepts .ensures) ∙ not-true _ (c .if1 .taken) in
-    (omega arith, copies-no (a .e) (a .base) (a .s) (a .limit) (a .used) (now (a .rows)) no)
+    copied-no (a .clock) (a .limit) (a .e) (a .base) (a .s) (a .used) (now (a .rows)) no
 
 add-from : tie.Need-add-from
 add-from c = search needs
@@ -37,34 +38,29 @@ held-row-requires c κs = search needs
 insert-row-requires : tie.Need-insert-row-requires
 insert-row-requires c κs = search needs
 
-add-over-of : tie.Need-add-over-of
-add-over-of c = search needs
+add-trim : tie.Need-add-trim
+add-trim c = search needs
 
-over-of-requires : tie.Need-over-of-requires
-over-of-requires c κs = search needs
+add-trim-2 : tie.Need-add-trim-2
+add-trim-2 c = search needs
 
-add-limited : tie.Need-add-limited
-add-limited c = search needs
+trim-requires : tie.Need-trim-requires
+trim-requires c κs = search needs
 
-limited-requires : tie.Need-limited-requires
-limited-requires c κs = search needs
+add-gone : tie.Need-add-gone
+add-gone c = omega (arith, c .before .before .trim .ensures .0, c .before .before .before .before .before .before .before .before .before .before .before .before .before .before .before .pre .0, c .before .before .before .before .before .before .before .before .before .before .before .before .before .before .before .pre .1)
 
 add-s : tie.Need-add-s
-add-s c = let p = c .before .before .before .before .before .before .before .before .before .before .before .before .before .before .before .before .pre in omega arith
+add-s c = omega (arith, c .before .before .before .before .before .before .before .before .before .before .before .before .before .before .before .before .pre .0, c .before .before .before .before .before .before .before .before .before .before .before .before .before .before .before .before .pre .1)
 
 sub-s : tie.Need-sub-s
-sub-s c =
-    let a = c .before .before .before .before .before .before .before .before .before .before .before .before .before .before .before .before .args in
-    omega (arith, over-most (a .limit) (a .s .held + 1), c .before .before .before .before .over-of .ensures)
+sub-s c = omega (arith, c .before .before .before .trim .ensures .0)
 
-add-t14 : tie.Need-add-t14
-add-t14 c = let p = c .before .before .before .before .before .before .before .before .before .before .before .before .before .before .before .before .pre in omega arith
+add-t23 : tie.Need-add-t23
+add-t23 c = omega (arith, c .before .before .before .before .before .before .before .before .before .before .before .before .before .before .before .before .pre .1)
 
-sub-t21 : tie.Need-sub-t21
-sub-t21 c =
-    let a = c .before .before .before .before .before .before .before .before .before .before .before .before .before .before .before .before .args in
-    let p = c .before .before .before .before .before .before .before .before .before .before .before .before .before .before .before .before .pre in
-    omega (arith, over-most (a .limit) (a .s .held + 1), c .before .before .before .before .over-of .ensures)
+sub-t16 : tie.Need-sub-t16
+sub-t16 c = omega (arith, c .before .before .before .trim .ensures .0, c .before .before .before .before .before .before .before .before .before .before .before .before .before .before .before .before .pre .0)
 
 same-length : tie.Need-same-length
 same-length c = search needs
@@ -72,11 +68,12 @@ same-length c = search needs
 returns-2 : tie.Need-returns-2
 returns-2 c =
     let a = c .before .before .before .before .before .before .before .before .before .before .before .before .before .before .before .before .args in
-    let o = c .before .before .before .before .over-of in
+    let t = c .before .before .before .trim .ensures .1 in
     let yes : acceptsOf (a .s) (a .e) ≡ true = sym (c .before .before .before .before .before .before .before .before .before .before .before .before .before .before .before .accepts .ensures) ∙ not-false _ (c .before .before .before .before .before .before .before .before .before .before .before .before .before .before .if1 .left) in
-    let put = c .before .before .before .before .before .before .before .insert-row .ensures ∙ ap₂ (λ (n : ℕ) (r : Row). insertRow n (a .used) r (now (a .rows))) (c .before .before .before .before .before .before .before .before .before .before .place-of .ensures) (c .before .before .before .before .before .before .before .before .held-row .ensures) in (
-      omega (arith, over-most (a .limit) (a .s .held + 1), o .ensures),
-      copies-yes (a .e) (a .base) (a .s) (a .limit) (a .used) (now (a .rows)) (o .result) _ yes (o .ensures) (c .before .before .limited .ensures ∙ ap (closeGap (a .base + a .s .inflight) (o .result) (a .used + 1)) put),
+    let put = c .before .before .before .before .before .before .before .insert-row .ensures ∙ ap₂ (λ (n : ℕ) (r : Row). insertRow n (a .used) r (now (a .rows))) (c .before .before .before .before .before .before .before .before .before .before .place-of .ensures) (c .before .before .before .before .before .before .before .before .held-row .ensures) in
+    let y = copied-yes (a .clock) (a .limit) (a .e) (a .base) (a .s) (a .used) (now (a .rows)) yes in (
+      ap (got (a .s) (a .used)) (t .0 ∙ ap (goneOf (a .clock) (a .limit) (a .base + a .s .inflight) (a .s .held + 1) (a .used + 1)) put) ∙ y .0,
+      t .1 ∙ ap (trimmed (a .clock) (a .limit) (a .base + a .s .inflight) (a .s .held + 1) (a .used + 1)) put ∙ y .1,
     )
 
 pub fan-out-spec : {M : Type 1} → statement M
@@ -90,13 +87,13 @@ fan-out-spec =
     place-of-requires
     held-row-requires
     insert-row-requires
-    add-over-of
-    over-of-requires
-    add-limited
-    limited-requires
+    add-trim
+    add-trim-2
+    trim-requires
+    add-gone
     add-s
     sub-s
-    add-t14
-    sub-t21
+    add-t23
+    sub-t16
     same-length
     returns-2)

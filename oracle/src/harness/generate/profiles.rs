@@ -406,15 +406,44 @@ const DRIFT: Profile = Profile {
     ..ALLOWANCE
 };
 
+const SURPLUS: Profile = Profile {
+    name: "surplus",
+    kinds: &[1],
+    topic_limits: &[1, 1, 2, 2, 3, 3],
+    allowances: &[0, 0, 1, 5, 20],
+    weights: &[
+        (OPEN, 1),
+        (ENQUEUE, 80),
+        (JOIN, 12),
+        (LEAVE, 5),
+        (ACK, 24),
+        (PULL, 8),
+        (TIMEOUT, 2),
+        (PREFETCH, 4),
+        (SWEEP, 1),
+    ],
+    consumers: 6,
+    prefetches: &[0, 0, 1, 1, 2],
+    browsers: 1,
+    selectors: 3,
+    no_locals: 2,
+    expiring: 7,
+    clock_step: 3,
+    clock_back: 8,
+    wild: false,
+    bad_words: 0,
+    ..MIXED
+};
+
 const DAMAGED: Profile = Profile {
     name: "damaged",
     damaged: true,
     ..MIXED
 };
 
-static PROFILES: [Profile; 19] = [
+static PROFILES: [Profile; 20] = [
     QUEUE, TOPIC, BROWSER, TX, PULLS, EXPIRY, ROWS, CONSUMERS, LIMITS, BADWORDS, AUDITS, SWEEP_MANY,
-    CLEAR_MANY, PRODUCERS, HALVES, ALLOWANCE, DRIFT, DAMAGED, MIXED,
+    CLEAR_MANY, PRODUCERS, HALVES, ALLOWANCE, DRIFT, SURPLUS, DAMAGED, MIXED,
 ];
 
 impl Profile {

@@ -29,6 +29,9 @@ returns c =
     let k = c .before .before .refusal in
     enqueue-refused (a .d) (now (a .subs)) (now (a .rows)) (now (a .events)) (p .0) (a .clock) (p .1) (a .e) (p .2) (k .result) (k .ensures) (c .refused .result) (c .before .if1 .taken) (c .refused .ensures)
 
+due-requires : tie.Need-due-requires
+due-requires c κs = search needs
+
 store-requires : tie.Need-store-requires
 store-requires c κs = search needs
 
@@ -50,13 +53,14 @@ same-length-5 c = search needs
 -- nothing can go
 returns-2 : tie.Need-returns-2
 returns-2 c =
-    let a = c .before .before .before .before .before .before .before .before .before .before .before .before .before .before .args in
-    let p = c .before .before .before .before .before .before .before .before .before .before .before .before .before .before .pre in
-    let k = c .before .before .before .before .before .before .before .before .before .before .before .refusal in
+    let a = c .before .before .before .before .before .before .before .before .before .before .before .before .before .before .before .args in
+    let p = c .before .before .before .before .before .before .before .before .before .before .before .before .before .before .before .pre in
+    let k = c .before .before .before .before .before .before .before .before .before .before .before .before .refusal in
+    let t = c .before .before .before .before .before .before .before .before .before .before .due in
     let m = c .before .before .before .before .before .before .store in
     let quiet : goesOut (m .result .consumers) (m .result .waiting) (m .result .queue) (m .last .0) ≡ false = sym (c .before .before .goes .ensures) ∙ not-true _ (c .before .if2 .taken) in
-    enqueue-done (a .d) (now (a .subs)) (now (a .rows)) (now (a .events)) (p .0) (a .clock) (p .1) (a .e) (p .2) (k .result) (k .ensures) (c .done .result) (c .before .before .before .before .before .before .before .before .before .before .if1 .left)
-    (m .result) (m .last .0) (m .last .1 .0) (m .result) (m .last .0) (m .last .1 .0) (now (a .events)) (m .ensures)
+    enqueue-done (a .d) (now (a .subs)) (now (a .rows)) (now (a .events)) (p .0) (a .clock) (p .1) (a .e) (p .2) (k .result) (k .ensures) (c .done .result) (c .before .before .before .before .before .before .before .before .before .before .before .if1 .left)
+    (t .result) (t .ensures) (m .result) (m .last .0) (m .last .1 .0) (m .result) (m .last .0) (m .last .1 .0) (now (a .events)) (m .ensures)
     (goes-not (a .clock) (m .result) (m .last .0) (m .last .1 .0) (now (a .events)) quiet) (c .done .ensures)
 
 dispatch-requires : tie.Need-dispatch-requires
@@ -76,13 +80,14 @@ same-length-8 c = search needs
 
 returns-3 : tie.Need-returns-3
 returns-3 c =
-    let a = c .before .before .before .before .before .before .before .before .before .before .before .before .before .before .before .before .before .before .before .before .before .args in
-    let p = c .before .before .before .before .before .before .before .before .before .before .before .before .before .before .before .before .before .before .before .before .before .pre in
-    let k = c .before .before .before .before .before .before .before .before .before .before .before .before .before .before .before .before .before .before .refusal in
+    let a = c .before .before .before .before .before .before .before .before .before .before .before .before .before .before .before .before .before .before .before .before .before .before .args in
+    let p = c .before .before .before .before .before .before .before .before .before .before .before .before .before .before .before .before .before .before .before .before .before .before .pre in
+    let k = c .before .before .before .before .before .before .before .before .before .before .before .before .before .before .before .before .before .before .before .refusal in
+    let t = c .before .before .before .before .before .before .before .before .before .before .before .before .before .before .before .before .before .due in
     let m = c .before .before .before .before .before .before .before .before .before .before .before .before .before .store in
     let s = c .before .before .before .before .dispatch in
-    enqueue-done (a .d) (now (a .subs)) (now (a .rows)) (now (a .events)) (p .0) (a .clock) (p .1) (a .e) (p .2) (k .result) (k .ensures) (c .done2 .result) (c .before .before .before .before .before .before .before .before .before .before .before .before .before .before .before .before .before .if1 .left)
-    (m .result) (m .last .0) (m .last .1 .0) (s .result) (s .last .0) (s .last .1 .0) (s .last .1 .1 .0) (m .ensures) (s .ensures) (c .done2 .ensures)
+    enqueue-done (a .d) (now (a .subs)) (now (a .rows)) (now (a .events)) (p .0) (a .clock) (p .1) (a .e) (p .2) (k .result) (k .ensures) (c .done2 .result) (c .before .before .before .before .before .before .before .before .before .before .before .before .before .before .before .before .before .before .if1 .left)
+    (t .result) (t .ensures) (m .result) (m .last .0) (m .last .1 .0) (s .result) (s .last .0) (s .last .1 .0) (s .last .1 .1 .0) (m .ensures) (s .ensures) (c .done2 .ensures)
 
 pub enqueue-spec : {M : Type 1} → statement M
 enqueue-spec =
@@ -93,6 +98,7 @@ enqueue-spec =
     same-length
     same-length-2
     returns
+    due-requires
     store-requires
     goes-requires
     done-requires
