@@ -61,7 +61,7 @@ module _ (n : ℕ) where
       let later = rounds fuel now (here .dest) in
       let next : Out → Out = λ r. if not (here .took) || empty (here .dest .pending) then record { dest = withCallsUsed n (here .dest); events = here .events } else record { dest = r .dest; events = here .events ++ r .events } in
       ap (λ (r : Turn). let later = rounds fuel now (r .dest) in
-        if not (r .took) || empty (r .dest .pending) then record { dest = r .dest; events = r .events } else record { dest = later .dest; events = r .events ++ later .events }) (scan-used now (turns t) t)
+      if not (r .took) || empty (r .dest .pending) then record { dest = r .dest; events = r .events } else record { dest = later .dest; events = r .events ++ later .events }) (scan-used now (turns t) t)
       ∙ ap next (rounds-used fuel now (here .dest))
       ∙ sym (if-map outUsed (not (here .took) || empty (here .dest .pending)) (record { dest = here .dest; events = here .events }) (record { dest = later .dest; events = here .events ++ later .events }))
 

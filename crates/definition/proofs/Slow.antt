@@ -22,8 +22,10 @@ spares w now (negsuc x) h = absurd (true≢false (sym h))
 
 pub expires-by : ExpiresBy
 unfolding expired
-expires-by now t e = (spares (t .allowance) now (e .expiration),
-    λ h. ap (λ (z : ℤ). ltZ (pos 0) z && leZ z (pos (now - t .allowance))) (h .1) ∙ and-both (ltb 0 (h .0)) _ (lt-ltb 0 (h .0) (h .2)) (le-leb (h .0) (now - t .allowance) (omega (arith, h .3))))
+expires-by now t e = (
+  spares (t .allowance) now (e .expiration),
+  λ h. ap (λ (z : ℤ). ltZ (pos 0) z && leZ z (pos (now - t .allowance))) (h .1) ∙ and-both (ltb 0 (h .0)) _ (lt-ltb 0 (h .0) (h .2)) (le-leb (h .0) (now - t .allowance) (omega (arith, h .3))),
+)
 
 pub no-allowance : NoAllowance
 no-allowance now t h = omega (arith, h)

@@ -150,7 +150,7 @@ module _ (f : Row → Row) (from to : ℕ) (rs : List Row) where
   pub map-used : from ≤ to → to ≤ length rs → take to (mapRows f from to rs) ≡ take from rs ++ map f (slice from to rs)
   map-used h b = ap (take to) (map-in f from to rs h b ∙ mapped-is f from to rs h b) ∙ written-take from to (map f (slice from to rs)) rs (mapped-size f from to rs h b) b
 
--- ---- remove_range, remove_seq
+-- ---- remove_range, remove_seq, remove_expired
 
 module _ (p : Row → Bool) (from to n : ℕ) (rs : List Row) where
   pub remove-length : length (removeRows p from to n rs) ≡ length rs
