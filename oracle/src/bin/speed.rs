@@ -27,7 +27,7 @@ const PART: usize = 256;
 const BATCH_EVENTS: usize = EVENTS + 16 * PART;
 
 const UNKNOWN: CallWords = CallWords {
-    code: 15,
+    code: u64::MAX,
     words: [0; 8],
 };
 
