@@ -1,17 +1,1 @@
-pub mod Refusing
-pub mod Ending
-pub mod Called
-pub mod Parts
-pub mod Heads
-pub mod Asks
-pub mod Pulling
-pub mod Performed
-pub mod Worded
-pub mod Arriving
-pub mod Going
-pub mod Handled
-pub mod Headed
-pub mod Ran
-pub mod Bare
-pub mod Batched
 pub mod Sources

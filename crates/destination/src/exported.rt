@@ -7,11 +7,11 @@ ghost use Rattle.definition.specs.Layout.{bufferStep, bufferCall, bufferQuery, 
 ghost use Rattle.sound.specs.Sound.{lent};
 ghost use Rattle.queries.specs.Answers.{asAsked, asCounted};
 ghost use Rattle.queries.specs.Pages.{asPaged, written};
-ghost use Rattle.destination.specs.Called.{Called};
-ghost use Rattle.destination.specs.Batch.{bufferBatch, Batched};
+ghost use Rattle.engine.specs.Called.{Called};
+ghost use Rattle.engine.specs.Batch.{bufferBatch, Batched};
 ghost use Rattle.destination.specs.Exported.{asCounters};
-use crate::Done;
-use crate::Outcome;
+use engine::Done;
+use engine::Outcome;
 use calls::Call;
 use consumers::SubRow;
 use entry::Row;
@@ -70,7 +70,7 @@ pub extern "C" fn destination_call(
 ) -> Outcome
     ensures { λ r. ⌜ Called (bufferStep (lent (now (head .entry)) (now (subs .entry)) (now (rows .entry))) (length (now (events .entry))) (c .code) (c .words)) (lent (now (head .entry)) (now (subs .entry)) (now (rows .entry))) (lent (now (head .exit)) (now (subs .exit)) (now (rows .exit))) (now (events .entry)) (now (events .exit)) r ⌝ }
 {
-    crate::call(head, subs, rows, events, c)
+    engine::call(head, subs, rows, events, c)
 }
 
 // `Dest::add_discarded`.
@@ -83,7 +83,7 @@ pub extern "C" fn destination_add_discarded(
 ) -> Outcome
     ensures { λ r. ⌜ Called (bufferCall (lent (now (head .entry)) (now (subs .entry)) (now (rows .entry))) (length (now (events .entry))) discarding) (lent (now (head .entry)) (now (subs .entry)) (now (rows .entry))) (lent (now (head .exit)) (now (subs .exit)) (now (rows .exit))) (now (events .entry)) (now (events .exit)) r ⌝ }
 {
-    crate::add_discarded(head, subs, rows, events)
+    engine::add_discarded(head, subs, rows, events)
 }
 
 // `Dest::expired_before_storing`.
@@ -96,7 +96,7 @@ pub extern "C" fn destination_expired_before_storing(
 ) -> Outcome
     ensures { λ r. ⌜ Called (bufferCall (lent (now (head .entry)) (now (subs .entry)) (now (rows .entry))) (length (now (events .entry))) missing) (lent (now (head .entry)) (now (subs .entry)) (now (rows .entry))) (lent (now (head .exit)) (now (subs .exit)) (now (rows .exit))) (now (events .entry)) (now (events .exit)) r ⌝ }
 {
-    crate::expired_before_storing(head, subs, rows, events)
+    engine::expired_before_storing(head, subs, rows, events)
 }
 
 // Many calls, nine words each, one after another, with one test of the state.
@@ -111,7 +111,7 @@ pub extern "C" fn destination_calls(
 ) -> Done
     ensures { λ r. ⌜ Batched (bufferBatch (lent (now (head .entry)) (now (subs .entry)) (now (rows .entry))) (length (now (events .entry))) (length (now (outcomes .entry))) (now (words .entry))) (lent (now (head .entry)) (now (subs .entry)) (now (rows .entry))) (lent (now (head .exit)) (now (subs .exit)) (now (rows .exit))) (now (events .entry)) (now (events .exit)) (now (outcomes .entry)) (now (outcomes .exit)) r ⌝ }
 {
-    crate::calls(head, subs, rows, events, words, outcomes)
+    engine::calls(head, subs, rows, events, words, outcomes)
 }
 
 // ---- queries

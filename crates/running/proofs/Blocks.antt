@@ -12,7 +12,7 @@ use Rattle.definition.specs.Layout.{Row, Buffers, soundBuffers, lengthsOf, buff
 use Rattle.definition.proofs.Tests.{by-test, by-if, if-true, if-false, and-left, and-right, or-no-left, or-no-right}
 use Rattle.stats.specs.Counted.{more}
 use Rattle.calls.specs.declared.Call.{Call}
-use Rattle.destination.specs.Called.{Past, Called}
+use Rattle.engine.specs.Called.{Past, Called}
 use Rattle.callfile.specs.Blocks.{numberAt, check, good, callsIn, callAt}
 use Rattle.callfile.specs.Lines.{badLine}
 use Rattle.callfile.specs.Placed.{Puts, Line}

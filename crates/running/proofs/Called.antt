@@ -13,8 +13,8 @@ use Rattle.definition.specs.Layout.{Row, Buffers, eventWords, view, formed, sou
 use Rattle.definition.proofs.Tests.{by-test, by-if, and-left}
 use Rattle.definition.proofs.Claims.{step-sends}
 use Rattle.calls.specs.declared.Call.{Call}
-use Rattle.destination.specs.declared.Outcome.{Outcome}
-use Rattle.destination.specs.Called.{Called}
+use Rattle.engine.specs.declared.Outcome.{Outcome}
+use Rattle.engine.specs.Called.{Called}
 use Rattle.callfile.specs.Lines.{callLine}
 use Rattle.callfile.specs.Placed.{Puts, Line}
 use Rattle.callfile.proofs.Parts.{then}

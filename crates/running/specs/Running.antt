@@ -14,8 +14,8 @@ use Rattle.stats.specs.Counted.{more}
 use Rattle.calls.specs.declared.Call.{Call}
 use Rattle.callfile.specs.Blocks.{callsIn, callAt}
 use Rattle.callfile.specs.Lines.{callLine, eventLine, wordsLine, badLine}
-use Rattle.destination.specs.declared.Outcome.{Outcome}
-use Rattle.destination.specs.Called.{outcome, Past}
+use Rattle.engine.specs.declared.Outcome.{Outcome}
+use Rattle.engine.specs.Called.{outcome, Past}
 use Rattle.running.specs.declared.Ran.{Ran}
 
 -- ---- lines

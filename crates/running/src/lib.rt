@@ -5,7 +5,7 @@ ghost use Prim.Native.Nat.{_+_, _*_, _≤_};
 ghost use lib.ListN.{length, take, getD};
 ghost use Rattle.definition.specs.Layout.{statsAt, lengthsOf, bufferStep};
 ghost use Rattle.sound.specs.Sound.{lent};
-ghost use Rattle.destination.specs.Called.{Called};
+ghost use Rattle.engine.specs.Called.{Called};
 ghost use Rattle.callfile.specs.Lines.{countersLine};
 ghost use Rattle.callfile.specs.Placed.{Puts, Line};
 ghost use Rattle.running.specs.Running.{rowsText, callText, outcomeOf, lentBy, blockCalls, runCalls, runBlock, Runs};
@@ -54,7 +54,7 @@ fn run_call(
     ensures { λ _. ⌜ Called (bufferStep (lent (now (head .entry)) (now (subs .entry)) (now (rows .entry))) (length (now (events .entry))) (c .code) (c .words)) (lent (now (head .entry)) (now (subs .entry)) (now (rows .entry))) (lent (now (head .exit)) (now (subs .exit)) (now (rows .exit))) (now (events .entry)) (now (events .exit)) (outcomeOf (bufferStep (lent (now (head .entry)) (now (subs .entry)) (now (rows .entry))) (length (now (events .entry))) (c .code) (c .words))) ⌝ }
     ensures { λ r. ⌜ Puts (callText index (bufferStep (lent (now (head .entry)) (now (subs .entry)) (now (rows .entry))) (length (now (events .entry))) (c .code) (c .words))) at (now (out .entry)) r (now (out .exit)) ⌝ }
 {
-    let r = destination::call(head, subs, rows, events, c);
+    let r = engine::call(head, subs, rows, events, c);
     let next = callfile::put_call(out, at, index, r.refusal, r.answer);
     put_events(out, next, events, r.events)
 }

@@ -1,0 +1,80 @@
+-- What a call leaves of the lent buffers and answers, where q is what its definition gives. Assumes nothing.
+use mathlib.Core.Path.{_≡_}
+use mathlib.Core.Bool.{Bool, true, _||_}
+use mathlib.Core.List.{List, [], map}
+use mathlib.Core.Option.{Option, none, some}
+use Prim.Native.Nat.{ℕ, _≤_}
+use lib.Dec.{eqb, ltb}
+use lib.ListN.{length, take, drop}
+use Rattle.definition.specs.Types.{Id, Audit, Dest}
+use Rattle.definition.specs.Destination.{Out}
+use Rattle.definition.specs.Calls.{Call, Result, ownRefusal, perform}
+use Rattle.definition.specs.Layout.{Row, Buffers, eventWords, view, soundBuffers}
+use Rattle.producers.specs.Producers as Producers
+use Rattle.state.specs.declared.Head.{Head}
+use Rattle.state.specs.declared.Answer.{Answer}
+use Rattle.state.specs.State.{headView}
+use Rattle.state.specs.Leaves.{Leaves, Untouched}
+use Rattle.engine.specs.declared.Outcome.{Outcome}
+
+abbrev pub outcome : ℕ → ℕ → ℕ → Outcome
+outcome refusal answer events = record { refusal = refusal; answer = answer; events = events }
+
+-- what is no part of the state is as it was
+pub record Past (b b′ : Buffers) (events events′ : List Row) : Type 0 where
+  pub head-past : drop 8346 (b′ .head) ≡ drop 8346 (b .head)
+  pub subs-past : drop 32 (b′ .subs) ≡ drop 32 (b .subs)
+  pub rows-past : drop 512 (b′ .rows) ≡ drop 512 (b .rows)
+  pub head-length : length (b′ .head) ≡ length (b .head)
+  pub subs-length : length (b′ .subs) ≡ length (b .subs)
+  pub rows-length : length (b′ .rows) ≡ length (b .rows)
+  pub events-length : length events′ ≡ length events
+
+-- refusal, answer, events and state are q's; a refused call changes nothing, and an accepted one leaves sound buffers.
+-- Open after an accepted call, and no answer, event or later view depends on it: the words that `view` and soundness do not look at, which may hold
+-- anything (rows past those in use, places of consumers, producers and audits past their counts, numbers of a window past its count, words 6 to 8 of a
+-- row that neither flies nor is reserved, the idle clock and a pull's number without their marks); and where a full window begins, of which soundness
+-- asks that it is below 1,024 and `view` shows the order that it gives. Everything past the state's sizes is as it was.
+pub record Called (q : Result) (b b′ : Buffers) (events events′ : List Row) (r : Outcome) : Type 0 where
+  pub refusal : r .refusal ≡ q .refusal
+  pub answer : r .answer ≡ q .answer
+  pub count : r .events ≡ length (q .events)
+  pub sent : take (r .events) events′ ≡ map eventWords (q .events)
+  pub later : drop (r .events) events′ ≡ drop (r .events) events
+  pub shows : view b′ ≡ q .dest
+  pub leaves-sound : q .refusal ≡ 0 → soundBuffers b′ ≡ true
+  pub kept : (q .refusal ≡ 0 → ⊥) → (b′ ≡ b) × (events′ ≡ events)
+  pub past : Past b b′ events events′
+
+-- ---- a call whose arguments are c, on a destination by value and in its tables, before one more is counted
+
+-- whether a code changes the tables: 1 to 10 and 15; the codes between change the head's words alone
+abbrev pub onTables : ℕ → Bool
+onTables code = ltb code 11 || eqb code 15
+
+-- what it means
+abbrev pub performed : Call → Dest → Out
+performed c t = record { dest = perform t c .dest; events = perform t c .events }
+
+-- it is refused for its own reasons, and nothing has happened; or it is done
+pub record Performs (c : Call) (d : Head) (a : Answer) (subs rows events subs′ rows′ events′ : List Row) : Type 0 where
+  pub refusal : (producers : List Id) (audits : List Audit) → length producers ≡ d .producers → a .refusal ≡ ownRefusal (headView d subs rows producers audits) c
+  pub kept : (a .refusal ≡ 0 → ⊥) → Untouched d (a .head) subs rows events subs′ rows′ events′
+  pub answer : a .refusal ≡ 0 → (producers : List Id) (audits : List Audit) → length producers ≡ d .producers → a .answer ≡ perform (headView d subs rows producers audits) c .answer
+  pub few : a .refusal ≡ 0 → a .head .events ≤ 545
+  pub leaves : a .refusal ≡ 0 → Leaves (performed c) d (a .head) subs rows events subs′ rows′ events′
+
+-- the same of what a call's words give; of words that are no arguments nothing is said
+abbrev pub PerformsBy : Option Call → Head → Answer → List Row → List Row → List Row → List Row → List Row → List Row → Type 0
+PerformsBy none d a subs rows events subs′ rows′ events′ = Unit {0}
+PerformsBy (some c) d a subs rows events subs′ rows′ events′ = Performs c d a subs rows events subs′ rows′ events′
+
+-- a call in the head's words: it performs, the allowance and what is no part of the state are as they were, and it sends nothing
+pub record InHead (c : Call) (d : Head) (h : List ℕ) (a : Answer) (k : List ℕ) : Type 0 where
+  pub performs : Producers.Performs c d h a k
+  pub past : drop 8345 k ≡ drop 8345 h
+  pub silent : (t : Dest) → perform t c .events ≡ []
+
+abbrev pub HeadBy : Option Call → Head → List ℕ → Answer → List ℕ → Type 0
+HeadBy none d h a k = Unit {0}
+HeadBy (some c) d h a k = InHead c d h a k

@@ -1,0 +1,105 @@
+// A consumer's request from the words of its call (codes 4 to 7).
+ghost use mathlib.Core.Path.{_≡_};
+ghost use mathlib.Core.Bool.{true};
+ghost use Rattle.definition.specs.Base.{is-some};
+ghost use Rattle.definition.specs.Words.{decode};
+ghost use Rattle.definition.specs.Words as Words;
+ghost use Rattle.acks.specs.Acks.{ackOf};
+ghost use Rattle.state.specs.Ready.{Ready};
+ghost use Rattle.engine.specs.Called.{PerformsBy};
+use crate::requests;
+use acks::Ack;
+use consumers::SubRow;
+use entry::Row;
+use model::Id;
+use state::Answer;
+use state::Event;
+use state::Head;
+
+// The ack in a call's words.
+fn ack_of(w: [u64; 8]) -> Ack
+    ensures { λ r. ⌜ ackOf r ≡ Words.ackOf w ⌝ }
+{
+    let flags = w[3];
+    let kind = calls::kind_of(flags);
+    let transacted = calls::flag_of(flags, 8);
+    let has_first = calls::flag_of(flags, 9);
+    let has_last = calls::flag_of(flags, 10);
+    let cause = calls::flag_of(flags, 11);
+    Ack {
+        first: w[4],
+        last: w[5],
+        kind,
+        transacted,
+        has_first,
+        has_last,
+        cause,
+    }
+}
+
+// Code 4.
+pub(crate) fn ask_ack(
+    subs: &mut [SubRow],
+    rows: &mut [Row],
+    events: &mut [Event],
+    d: Head,
+    w: [u64; 8],
+) -> Answer
+    requires { ⌜ Ready d (now subs) (now rows) (now events) × (is-some (decode 4 w) ≡ true) ⌝ }
+    ensures { λ r. ⌜ PerformsBy (decode 4 w) d r (now (subs .entry)) (now (rows .entry)) (now (events .entry)) (now (subs .exit)) (now (rows .exit)) (now (events .exit)) ⌝ }
+{
+    let id = Id::of_words(w[0], w[1], w[2]);
+    let a = ack_of(w);
+    let r = requests::ack(subs, rows, events, d, id, a, w[6]);
+    Answer::done(0, r)
+}
+
+// Code 5.
+pub(crate) fn ask_pull(
+    subs: &mut [SubRow],
+    rows: &mut [Row],
+    events: &mut [Event],
+    d: Head,
+    w: [u64; 8],
+) -> Answer
+    requires { ⌜ Ready d (now subs) (now rows) (now events) × (is-some (decode 5 w) ≡ true) ⌝ }
+    ensures { λ r. ⌜ PerformsBy (decode 5 w) d r (now (subs .entry)) (now (rows .entry)) (now (events .entry)) (now (subs .exit)) (now (rows .exit)) (now (events .exit)) ⌝ }
+{
+    let id = Id::of_words(w[0], w[1], w[2]);
+    let timeout = words::signed_of(w[3]);
+    requests::pull(subs, rows, events, d, id, timeout, w[4])
+}
+
+// Code 6.
+pub(crate) fn ask_timeout(
+    subs: &mut [SubRow],
+    rows: &[Row],
+    events: &mut [Event],
+    d: Head,
+    w: [u64; 8],
+) -> Answer
+    requires { ⌜ Ready d (now subs) (now rows) (now events) × (is-some (decode 6 w) ≡ true) ⌝ }
+    ensures { λ r. ⌜ PerformsBy (decode 6 w) d r (now (subs .entry)) (now (rows .entry)) (now (events .entry)) (now (subs .exit)) (now (rows .entry)) (now (events .exit)) ⌝ }
+{
+    let id = Id::of_words(w[0], w[1], w[2]);
+    let r = requests::pull_timeout(subs, rows, events, d, id, w[3]);
+    Answer::done(0, r)
+}
+
+// Code 7.
+pub(crate) fn ask_prefetch(
+    subs: &mut [SubRow],
+    rows: &mut [Row],
+    events: &mut [Event],
+    d: Head,
+    w: [u64; 8],
+) -> Answer
+    requires { ⌜ Ready d (now subs) (now rows) (now events) × (is-some (decode 7 w) ≡ true) ⌝ }
+    ensures { λ r. ⌜ PerformsBy (decode 7 w) d r (now (subs .entry)) (now (rows .entry)) (now (events .entry)) (now (subs .exit)) (now (rows .exit)) (now (events .exit)) ⌝ }
+{
+    let id = Id::of_words(w[0], w[1], w[2]);
+    calls::words_fit(w);
+    let prefetch = words::int_of(w[3]);
+    let r = requests::set_prefetch(subs, rows, events, d, id, prefetch, w[4]);
+    Answer::done(0, r)
+}

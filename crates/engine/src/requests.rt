@@ -1,0 +1,130 @@
+// What a consumer asks (codes 4 to 7), on a sound destination with a call left.
+ghost use mathlib.Core.Path.{_≡_};
+ghost use mathlib.Core.Bool.{true};
+ghost use Prim.Native.Nat.{_≤_, _^_};
+ghost use Rattle.definition.specs.Calls.{within};
+ghost use Rattle.definition.specs.Destination.{ack, setPrefetch, pullTimeout};
+ghost use Rattle.acks.specs.Acks.{ackOf, acked};
+ghost use Rattle.state.specs.Ready.{Ready};
+ghost use Rattle.engine.specs.Requests.{sentOn, Absent, Sends, Pulled};
+use acks::Ack;
+use consumers::SubRow;
+use entry::Row;
+use model::Id;
+use state::Answer;
+use state::Event;
+use state::Head;
+
+// The ack of a consumer that is there, `touch_idle`, and the dispatch where anything can go.
+fn ack_present(
+    subs: &mut [SubRow],
+    rows: &mut [Row],
+    events: &mut [Event],
+    d: Head,
+    id: Id,
+    a: Ack,
+    clock: u64,
+) -> Head
+    requires { ⌜ Ready d (now subs) (now rows) (now events) × (clock ≤ 2 ^ 62) ⌝ }
+    ensures { λ r. ⌜ Sends (sentOn clock (acked id (ackOf a))) d r (now (subs .entry)) (now (rows .entry)) (now (events .entry)) (now (subs .exit)) (now (rows .exit)) (now (events .exit)) ⌝ }
+{
+    let acked = acks::ack_sub(subs, rows, events, d, id, a).touch_idle(clock);
+    if !dispatch::goes(subs, acked.consumers, acked.waiting, acked.queue) {
+        return acked;
+    }
+    dispatch::dispatch(subs, rows, events, acked, clock)
+}
+
+// The ack of a consumer that is not there: of what is reserved for it.
+fn ack_absent(
+    subs: &mut [SubRow],
+    rows: &mut [Row],
+    events: &mut [Event],
+    d: Head,
+    id: Id,
+    a: Ack,
+    clock: u64,
+) -> Head
+    requires { ⌜ Ready d (now subs) (now rows) (now events) × (clock ≤ 2 ^ 62) × Absent id d (now subs) (now rows) ⌝ }
+    ensures { λ r. ⌜ Sends (ack clock id (ackOf a)) d r (now (subs .entry)) (now (rows .entry)) (now (events .entry)) (now (subs .exit)) (now (rows .exit)) (now (events .exit)) ⌝ }
+{
+    if a.transacted {
+        return d;
+    }
+    if !reserved::has_reserved(rows, d, id) {
+        return d;
+    }
+    let taken = reserved::ack_reserved(subs, rows, events, d, id, a);
+    dispatch::dispatch(subs, rows, events, taken.touch_idle(clock), clock)
+}
+
+// `Dest::ack`.
+pub(crate) fn ack(
+    subs: &mut [SubRow],
+    rows: &mut [Row],
+    events: &mut [Event],
+    d: Head,
+    id: Id,
+    a: Ack,
+    clock: u64,
+) -> Head
+    requires { ⌜ Ready d (now subs) (now rows) (now events) × (clock ≤ 2 ^ 62) ⌝ }
+    ensures { λ r. ⌜ Sends (ack clock id (ackOf a)) d r (now (subs .entry)) (now (rows .entry)) (now (events .entry)) (now (subs .exit)) (now (rows .exit)) (now (events .exit)) ⌝ }
+{
+    if returns::is_present(subs, d, id) {
+        return ack_present(subs, rows, events, d, id, a, clock);
+    }
+    ack_absent(subs, rows, events, d, id, a, clock)
+}
+
+// `Dest::pull_timeout`.
+pub(crate) fn pull_timeout(
+    subs: &mut [SubRow],
+    rows: &[Row],
+    events: &mut [Event],
+    d: Head,
+    id: Id,
+    generation: u64,
+) -> Head
+    requires { ⌜ Ready d (now subs) (now rows) (now events) ⌝ }
+    ensures { λ r. ⌜ Sends (pullTimeout id generation) d r (now (subs .entry)) (now (rows .entry)) (now (events .entry)) (now (subs .exit)) (now (rows .entry)) (now (events .exit)) ⌝ }
+{
+    pulls::pull_timeout(subs, rows, events, d, id, generation)
+}
+
+// `Dest::set_prefetch`.
+pub(crate) fn set_prefetch(
+    subs: &mut [SubRow],
+    rows: &mut [Row],
+    events: &mut [Event],
+    d: Head,
+    id: Id,
+    prefetch: i32,
+    clock: u64,
+) -> Head
+    requires { ⌜ Ready d (now subs) (now rows) (now events) × (clock ≤ 2 ^ 62) × (within 2147483648 prefetch ≡ true) ⌝ }
+    ensures { λ r. ⌜ Sends (setPrefetch clock id prefetch) d r (now (subs .entry)) (now (rows .entry)) (now (events .entry)) (now (subs .exit)) (now (rows .exit)) (now (events .exit)) ⌝ }
+{
+    pulls::set_prefetch(subs, rows, events, d, id, prefetch);
+    dispatch::dispatch(subs, rows, events, d, clock)
+}
+
+// `Dest::pull`.
+pub(crate) fn pull(
+    subs: &mut [SubRow],
+    rows: &mut [Row],
+    events: &mut [Event],
+    d: Head,
+    id: Id,
+    timeout: i64,
+    clock: u64,
+) -> Answer
+    requires { ⌜ Ready d (now subs) (now rows) (now events) × (clock ≤ 2 ^ 62) ⌝ }
+    ensures { λ r. ⌜ Pulled clock id timeout d r (now (subs .entry)) (now (rows .entry)) (now (events .entry)) (now (subs .exit)) (now (rows .exit)) (now (events .exit)) ⌝ }
+{
+    if !pulls::register(subs, rows, events, d, id) {
+        return Answer::done(0, d);
+    }
+    let sent = dispatch::dispatch(subs, rows, events, d, clock);
+    pulls::answer_pull(subs, rows, events, sent, id, timeout)
+}
