@@ -13,14 +13,14 @@
  *
  *     head    8,346 words             the destination's own numbers, producers, duplicate windows
  *     subs       32 of 16 words       a consumer each
- *     rows      512 of  9 words       a copy of an entry each
+ *     rows      512 of 10 words       a copy of an entry each
  *     events    545 of  6 words       what the call has sent, from the first on
  *
  * `struct destination` has all four. Longer arrays will do: what stands past these sizes is never read or written. A shorter
  * one gets refusal 1. docs/LAYOUT.md says what each word of the state holds; a caller that only calls need not know.
  * The state starts with an accepted `open`, whatever the arrays held before. They may be copied, stored and lent again, at another
- * address too. What comes back is tested: a state whose numbers do not fit together, with a kind or a mark that is not 0 or 1, or with a
- * redelivery that is no 32-bit number (document 01: not sound), gets refusal 2. Words that are not in use may be any.
+ * address too. What comes back is tested: a state whose numbers do not fit together, with a kind or a mark that is not 0 or 1, with a
+ * redelivery or a size that is no 32-bit number, or with two sizes of one entry (not sound), gets refusal 2. Words that are not in use may be any.
  *
  * Whose memory. All of it is the caller's. The library keeps no pointer after a call. Each array is passed as a pointer to its first
  * element and its number of elements (words of head; rows of the others). No pointer may be null. Nobody else may read or write the
@@ -56,7 +56,7 @@ extern "C" {
 #define DESTINATION_PAGE_LINES 50   /* destination_page_lines(): the most lines that a page has, and the fewest that its list may have */
 
 #define DESTINATION_SUB_WORDS 16
-#define DESTINATION_ROW_WORDS 9
+#define DESTINATION_ROW_WORDS 10
 #define DESTINATION_EVENT_WORDS 6
 
 #define DESTINATION_PRODUCERS 32 /* registered at a time */
@@ -67,6 +67,7 @@ extern "C" {
 #define DESTINATION_SEQUENCE_MOST (UINT64_MAX >> 1)      /* a sequence number is 1 to this, 2^63 - 1 */
 #define DESTINATION_TOPIC_LIMIT_MOST 512                 /* a topic limit is 0 (off) to this */
 #define DESTINATION_SWEEP_MOST 512                       /* a sweep's maximum is 0 to this */
+#define DESTINATION_SIZE_MOST UINT32_MAX                 /* an entry's size is 0 to this, in bytes */
 #define DESTINATION_ALLOWANCE_MOST 86400000              /* an allowance for slow clocks is 0 to this: a day of milliseconds */
 
 /* ---- refusals, in the order in which they are tested (a join tests 6, 7, 5) */
@@ -147,7 +148,7 @@ extern "C" {
 
 /* ---- structs */
 
-/* A state and an event list. 133,888 bytes: better not on a small stack. */
+/* A state and an event list. 137,984 bytes: better not on a small stack. */
 struct destination {
     uint64_t head[DESTINATION_HEAD_WORDS];
     uint64_t subs[DESTINATION_CONSUMERS][DESTINATION_SUB_WORDS];
@@ -159,7 +160,7 @@ struct destination {
  * `id` stands for three words: connection, session, value.
  *
  *      0 open              kind, topic limit, call limit, clock, allowance
- *      1 enqueue           sequence, expiration, persistent (0 or 1), producer's connection, match word, redelivery, clock
+ *      1 enqueue           sequence, expiration, persistent (0 or 1), producer's connection, match word, redelivery, clock, size
  *      2 join              id, prefetch, selector, flags, clock
  *      3 leave             id, last delivered, clock
  *      4 ack               id, type's word, first, last, clock
@@ -238,6 +239,7 @@ struct destination_entry {
     uint64_t producer;   /* its producer's connection; 0: none */
     uint64_t match_word; /* bit s says whether selector s accepts it */
     int32_t redelivery;  /* how often it was delivered in vain */
+    uint32_t size;       /* its bytes, for destination_bytes_held alone */
 };
 
 /* A consumer, as it joins. */
@@ -318,6 +320,12 @@ struct destination_asked destination_message_count(const uint64_t *head, size_t 
                                                    const uint64_t (*subs)[DESTINATION_SUB_WORDS], size_t subs_length,
                                                    const uint64_t (*rows)[DESTINATION_ROW_WORDS], size_t rows_length);
 
+/* The bytes held: the sizes of the entries that have a copy in any place (waiting, in flight, reserved, yet to be seen by a browser), each
+ * counted once however many copies it has, from its enqueue until its last copy goes. At most 512 times 4,294,967,295. */
+struct destination_asked destination_bytes_held(const uint64_t *head, size_t head_words,
+                                                const uint64_t (*subs)[DESTINATION_SUB_WORDS], size_t subs_length,
+                                                const uint64_t (*rows)[DESTINATION_ROW_WORDS], size_t rows_length);
+
 /* Whether nothing waits, nobody is there, consumer or producer, and it has been so for at least so many seconds. */
 struct destination_asked destination_idle_for(const uint64_t *head, size_t head_words,
                                               const uint64_t (*subs)[DESTINATION_SUB_WORDS], size_t subs_length,
@@ -362,7 +370,7 @@ static inline struct destination_request destination_request_enqueue(struct dest
 {
     struct destination_request r = {DESTINATION_ENQUEUE,
                                     {e.sequence, (uint64_t)e.expiration, e.persistent, e.producer, e.match_word,
-                                     (uint64_t)(int64_t)e.redelivery, clock, 0}};
+                                     (uint64_t)(int64_t)e.redelivery, clock, e.size}};
     return r;
 }
 
@@ -611,6 +619,11 @@ static inline struct destination_asked destination_has_expiring_of(const struct 
 static inline struct destination_asked destination_message_count_of(const struct destination *d)
 {
     return destination_message_count(d->head, DESTINATION_HEAD_WORDS, d->subs, DESTINATION_CONSUMERS, d->rows, DESTINATION_ROWS);
+}
+
+static inline struct destination_asked destination_bytes_held_of(const struct destination *d)
+{
+    return destination_bytes_held(d->head, DESTINATION_HEAD_WORDS, d->subs, DESTINATION_CONSUMERS, d->rows, DESTINATION_ROWS);
 }
 
 static inline struct destination_asked destination_idle_for_of(const struct destination *d, uint64_t clock, uint64_t seconds)

@@ -1,7 +1,7 @@
 #!/usr/bin/env python3
-"""model.py <CALL_FILE: the definitions of crates/definition/specs in Python, function by function and under the same names, with a mark
-for each branch. Prints what a run of the file prints. No proof covers it: it shows which branches a call file reaches (see `reach`), and
-it can be the reference of `run` where there is no other."""
+"""model.py [--bytes] <CALL_FILE: the definitions of crates/definition/specs in Python, function by function and under the same names, with a
+mark for each branch. Prints what a run of the file prints, with --bytes also the bytes held after each call. No proof covers it: it shows which
+branches a call file reaches (see `reach`), and it can be the reference of `run` where there is no other."""
 import struct
 import sys
 from dataclasses import dataclass, field, replace
@@ -39,6 +39,7 @@ class Entry:
     producer: int
     match_word: int
     redelivery: int
+    size: int
 
 
 @dataclass(frozen=True)
@@ -718,7 +719,7 @@ def optional(test, k):
 
 
 def entry_ok(e):
-    return 1 <= e.seq < 1 << 63 and within(1 << 31, e.redelivery)
+    return 1 <= e.seq < 1 << 63 and within(1 << 31, e.redelivery) and e.size < 1 << 32
 
 
 def spec_ok(p):
@@ -777,6 +778,11 @@ def all_rows(t):
     return list(t.pending) + [e for _, e in t.reserved] + [e for s in each("consumerRows", t.subs) for e in rows_of(s)]
 
 
+def sizes_agree(rows):
+    sizes = {}
+    return all(sizes.setdefault(e.seq, e.size) == e.size for e in each("sizesAgree", rows))
+
+
 def sound(t):
     most = 65536 * t.calls_used + 1
     return (
@@ -797,6 +803,7 @@ def sound(t):
         and t.allowance <= 86400000
         and len(t.audits) <= 8
         and all(len(order) <= 1024 for _, order in t.audits)
+        and sizes_agree(all_rows(t))
     )
 
 
@@ -865,7 +872,7 @@ def ack_words(ws):
 
 
 def entry_of(ws):
-    return Entry(ws[0], signed(ws[1]), ws[2] == 1, ws[3], ws[4], signed(ws[5]))
+    return Entry(ws[0], signed(ws[1]), ws[2] == 1, ws[3], ws[4], signed(ws[5]), ws[7])
 
 
 def spec_of(ws):
@@ -882,7 +889,7 @@ class Call:
 
 
 CALLS = {
-    1: Call("enqueuing", False, lambda w: w[2] <= 1 and unused_from(7, w), lambda w: entry_ok(entry_of(w)) and clock_ok(w[6]),
+    1: Call("enqueuing", False, lambda w: w[2] <= 1 and unused_from(8, w), lambda w: entry_ok(entry_of(w)) and clock_ok(w[6]),
             lambda w, t: (0, enqueue(w[6], entry_of(w), t))),
     2: Call("joining", False, lambda w: w[5] <= 3 and unused_from(7, w), lambda w: spec_ok(spec_of(w)) and clock_ok(w[6]),
             lambda w, t: (0, add_sub(w[6], spec_of(w), t))),
@@ -957,6 +964,14 @@ def step(code, ws, t):
     return 0, answer, events, t
 
 
+# ---- Queries
+
+
+def bytes_held(t):
+    """Document 02 §3: each entry once, however many copies it has."""
+    return sum({e.seq: e.size for e in all_rows(t)}.values())
+
+
 # ---- the call file
 
 
@@ -970,8 +985,8 @@ def calls_of(block):
     return [struct.unpack_from("<9Q", block, 72 * k) for k in range(count)]
 
 
-def run(data):
-    """The lines that a run prints."""
+def run(data, held=False):
+    """The lines that a run prints; with `held` also the bytes held after each call, once a destination is open."""
     lines, t, index = [], Dest(), 0
     for k in range(0, len(data), 512):
         calls = calls_of(data[k : k + 512])
@@ -982,9 +997,10 @@ def run(data):
             refusal, answer, events, t = step(words[0], words[1:], t)
             lines.append(f"{index} {refusal} {answer}")
             lines += [" ".join(map(str, e)) for e in events]
+            lines += [f"h {bytes_held(t)}"] if held and sound(t) else []
             index += 1
     return lines + ["= " + " ".join(str(t.stats[n]) for n in t.stats)]
 
 
 if __name__ == "__main__":
-    sys.stdout.write("\n".join(run(sys.stdin.buffer.read())) + "\n")
+    sys.stdout.write("\n".join(run(sys.stdin.buffer.read(), "--bytes" in sys.argv[1:])) + "\n")

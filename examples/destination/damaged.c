@@ -1,5 +1,5 @@
 /* Random calls on states that real calls have left, on the same with up to four words damaged, on wholly random words and on arrays of
- * random lengths. Each call gets the refusal that document 01 says (paper.h). A refused one leaves every word as it was. An accepted one leaves a
+ * random lengths. Each call gets the refusal that the papers say (paper.h). A refused one leaves every word as it was. An accepted one leaves a
  * sound state, and nothing changes past the state's sizes and past its events.
  *
  *     damaged [SEED [STATES]]
@@ -43,6 +43,7 @@ static struct buffers clean;  /* what real calls have left */
 static uint64_t seed = 1;
 static uint64_t states, sent, most_sent, batches, batched;
 static uint64_t marked[2]; /* states with one mark, kind or redelivery set: not sound, sound */
+static uint64_t sized[2];  /* states with another size: not sound, sound */
 
 /* states by kind and by what their call got (0: accepted) */
 enum kind { REAL, DAMAGED, LENGTHS, RANDOM };
@@ -75,7 +76,7 @@ static bool one_in(uint64_t n)
 static uint64_t odd_number(void)
 {
     static const uint64_t ends[] = {0, 1, 2, 3, 4, 8, 9, 32, 33, 64, 65, 512, 513, 1023, 1024, 1025, 4095, 4096, INT32_MAX,
-                                    UINT64_C(1) << 31, (uint64_t)INT32_MIN, (uint64_t)INT32_MIN - 1, DESTINATION_CALL_LIMIT_MOST,
+                                    UINT64_C(1) << 31, DESTINATION_SIZE_MOST, UINT64_C(1) << 32, (uint64_t)INT32_MIN, (uint64_t)INT32_MIN - 1, DESTINATION_CALL_LIMIT_MOST,
                                     DESTINATION_CALL_LIMIT_MOST + 1, DESTINATION_ALLOWANCE_MOST, DESTINATION_ALLOWANCE_MOST + 1,
                                     DESTINATION_CLOCK_MOST, DESTINATION_CLOCK_MOST + 1, DESTINATION_SEQUENCE_MOST,
                                     DESTINATION_SEQUENCE_MOST + 1};
@@ -147,6 +148,7 @@ static void some_entry(uint64_t *w)
     w[4] = any() | any();
     w[5] = one_in(20) ? INT32_MAX : below(3);
     w[6] = world.clock;
+    w[7] = one_in(4) ? below(4) : one_in(10) ? DESTINATION_SIZE_MOST - below(2) : below(UINT64_C(1) << below(33));
 }
 
 static void some_consumer(uint64_t *w)
@@ -314,9 +316,9 @@ static uint64_t *some_word(struct buffers *b)
         return &b->subs[below(consumers != 0 ? consumers : 32)][below(16)];
     case 7:
     case 8:
-        return &b->rows[below(used != 0 ? used : 512)][below(9)];
+        return &b->rows[below(used != 0 ? used : 512)][below(10)];
     default:
-        return &b->rows[below(512)][below(9)];
+        return &b->rows[below(512)][below(10)];
     }
 }
 
@@ -374,7 +376,30 @@ static void damage_pair(void)
 }
 
 static struct lent lent(struct lengths n);
+
+/* whether another row in use has this row's number */
+static bool shared(uint64_t at)
+{
+    uint64_t used = used_rows(), n = 0;
+    for (uint64_t i = 0; i < used; i++)
+        n += work.rows[i][0] == work.rows[at][0];
+    return n > 1;
+}
+
 static const struct lengths exact = {DESTINATION_HEAD_WORDS, DESTINATION_CONSUMERS, DESTINATION_ROWS, DESTINATION_EVENTS};
+
+/* The size of a row, mostly of one that has copies: all of them, or it alone, another size. */
+static void damage_size(void)
+{
+    uint64_t used = used_rows(), at = below(used + 1), size = one_in(8) ? odd_number() : one_in(4) ? 0 : work.rows[at % ROWS][9] + below(3) - 1;
+    bool together = one_in(2);
+    for (uint64_t n = 0; n < used && !shared(at); n++)
+        at = (at + 1) % used;
+    for (uint64_t i = 0; i < used; i++)
+        if (i == at || (together && work.rows[i][0] == work.rows[at][0]))
+            put(&work.rows[i][9], size);
+    sized[paper_sound(lent(exact))]++;
+}
 
 /* the kind, a mark or a redelivery, sometimes where it is not in use */
 static void damage_mark(void)
@@ -398,6 +423,10 @@ static void damage_mark(void)
 
 static void damage(uint64_t words)
 {
+    if (words == 1 && one_in(4)) {
+        damage_size();
+        return;
+    }
     if (words == 1 && one_in(2)) {
         damage_mark();
         return;
@@ -496,7 +525,7 @@ static struct lent lent(struct lengths n)
 static bool outside_kept(size_t events)
 {
     return SAME(g0, 0) && SAME(g1, 0) && SAME(g2, 0) && SAME(g3, 0) && SAME(g4, 0) && SAME(head, DESTINATION_HEAD_WORDS * 8) &&
-           SAME(subs, DESTINATION_CONSUMERS * 128) && SAME(rows, DESTINATION_ROWS * 72) && SAME(events, events * 48);
+           SAME(subs, DESTINATION_CONSUMERS * 128) && SAME(rows, DESTINATION_ROWS * 80) && SAME(events, events * 48);
 }
 
 static void ask(struct lengths n);
@@ -558,6 +587,8 @@ static struct destination_asked answered(struct lent s, enum query q, uint64_t a
         return destination_has_expiring(LENT);
     case MESSAGE_COUNT:
         return destination_message_count(LENT);
+    case BYTES_HELD:
+        return destination_bytes_held(LENT);
     case IDLE_FOR:
         return destination_idle_for(LENT, a, b);
     default:
@@ -567,7 +598,7 @@ static struct destination_asked answered(struct lent s, enum query q, uint64_t a
 
 static void ask_number(struct lent s, uint64_t barred)
 {
-    enum query q = (enum query)below(6);
+    enum query q = (enum query)below(7);
     uint64_t a = q == IDLE_FOR && !one_in(4) ? world.clock + below(5000) : below(2) ? odd_number() : below(40);
     uint64_t b = below(6), refusal = barred == 0 && q == IDLE_FOR && a > DESTINATION_CLOCK_MOST ? 3 : barred;
     struct destination_asked r = answered(s, q, a, b);
@@ -582,7 +613,7 @@ static void ask_counters(struct lent s, uint64_t barred)
     struct destination_counted c = destination_counters(LENT);
     uint64_t got[5] = {c.enqueued, c.dequeued, c.expired, c.discarded, c.dispatched};
     if (c.refusal != barred || memcmp(got, barred != 0 ? none : s.head + 7, sizeof got) != 0)
-        wrong("other counters", 6, 0, 0);
+        wrong("other counters", 7, 0, 0);
     asked[barred]++;
 }
 
@@ -603,12 +634,12 @@ static void ask_page(struct lent s, uint64_t barred)
     uint64_t refusal = length < 50 ? 1 : barred, waiting = refusal != 0 ? 0 : s.head[16];
     uint64_t most = limit < 50 ? limit : 50, left = offset < waiting ? waiting - offset : 0, count = left < most ? left : most;
     if (p.refusal != refusal || p.total != waiting || p.count != count)
-        wrong("another page", 7, offset, limit);
+        wrong("another page", 8, offset, limit);
     for (size_t i = 0; i < count; i++)
         if (!same_line(&lines[i], s.rows[paper_used(s) - waiting + offset + i]))
-            wrong("another line", 7, offset, limit);
+            wrong("another line", 8, offset, limit);
     if (memcmp(lines + count, was + count, (60 - count) * sizeof *lines) != 0)
-        wrong("a line past the page has changed", 7, offset, limit);
+        wrong("a line past the page has changed", 8, offset, limit);
     asked[refusal]++;
 }
 
@@ -764,7 +795,8 @@ static int table(void)
     printf("queries: answered %" PRIu64 ", refused with 1 %" PRIu64 ", 2 %" PRIu64 ", 3 %" PRIu64 "\n", asked[0], asked[1], asked[2], asked[3]);
     printf("many calls at once %" PRIu64 " times, %" PRIu64 " calls\n", batches, batched);
     printf("one mark, kind or redelivery set: sound %" PRIu64 ", not sound %" PRIu64 "\n", marked[1], marked[0]);
-    missing |= marked[0] == 0 || marked[1] == 0;
+    printf("another size of a row or of all its copies: sound %" PRIu64 ", not sound %" PRIu64 "\n", sized[1], sized[0]);
+    missing |= marked[0] == 0 || marked[1] == 0 || sized[0] == 0 || sized[1] == 0;
     missing |= asked[0] == 0 || asked[1] == 0 || asked[2] == 0 || asked[3] == 0;
     if (missing)
         printf("not every refusal was met\n");

@@ -43,16 +43,17 @@ ALWAYS(offsetof(struct destination_page_line, expiration) == 8);
 ALWAYS(offsetof(struct destination_page_line, redelivery) == 16);
 ALWAYS(sizeof(((struct destination_page_line *)0)->redelivery) == 4);
 ALWAYS(sizeof(((struct destination *)0)->subs[0]) == 128);
-ALWAYS(sizeof(((struct destination *)0)->rows[0]) == 72);
+ALWAYS(sizeof(((struct destination *)0)->rows[0]) == 80);
 ALWAYS(sizeof(((struct destination *)0)->events[0]) == 48);
 ALWAYS(offsetof(struct destination, head) == 0);
 ALWAYS(offsetof(struct destination, subs) == 66768);
 ALWAYS(offsetof(struct destination, rows) == 70864);
-ALWAYS(offsetof(struct destination, events) == 107728);
-ALWAYS(sizeof(struct destination) == 133888);
+ALWAYS(offsetof(struct destination, events) == 111824);
+ALWAYS(sizeof(struct destination) == 137984);
 ALWAYS(DESTINATION_CLOCK_MOST == UINT64_C(4611686018427387904));
 ALWAYS(DESTINATION_CALL_LIMIT_MOST == UINT64_C(1099511627776));
 ALWAYS(DESTINATION_SEQUENCE_MOST == UINT64_C(9223372036854775807));
+ALWAYS(DESTINATION_SIZE_MOST == UINT64_C(4294967295));
 
 /* ---- checks that are counted */
 
@@ -161,6 +162,10 @@ static void limits(void)
     CHECK(is(call(entry), 0, 0, 0));
     entry.words[0]++;
     CHECK(is(call(entry), 3, 0, 0));
+    struct destination_request sized = {1, {5, 0, 1, 0, 0, 0, 0, DESTINATION_SIZE_MOST}};
+    CHECK(is(call(sized), 0, 0, 0));
+    sized.words[7]++;
+    CHECK(is(call(sized), 3, 0, 0));
     CHECK(is(call((struct destination_request){9, {0, DESTINATION_SWEEP_MOST}}), 0, 0, 0));
     CHECK(is(call((struct destination_request){9, {0, DESTINATION_SWEEP_MOST + 1}}), 3, 0, 0));
     CHECK(is(call((struct destination_request){16, {0}}), 3, 0, 0));
@@ -189,8 +194,8 @@ static void places(void)
     CHECK(b.subs[0][0] == GUARD_WORD && b.rows[0][0] == GUARD_WORD && b.events[0][0] == GUARD_WORD);
 
     CHECK(is(call((struct destination_request){0, {0, 0, 30, 4}}), 0, 0, 0));
-    CHECK(is(call((struct destination_request){1, {11, 12, 1, 13, 14, 15, 9}}), 0, 0, 0));
-    CHECK(same(b.rows[0], WORDS(11, 12, 1, 13, 14, 15, 0, 0, 0), 9));
+    CHECK(is(call((struct destination_request){1, {11, 12, 1, 13, 14, 15, 9, 16}}), 0, 0, 0));
+    CHECK(same(b.rows[0], WORDS(11, 12, 1, 13, 14, 15, 0, 0, 0, 16), 10));
     CHECK(b.rows[1][0] == GUARD_WORD && b.subs[0][0] == GUARD_WORD && b.events[0][0] == GUARD_WORD);
     CHECK(b.head[DESTINATION_HEAD_CALLS_USED] == 1 && b.head[DESTINATION_HEAD_CALL_LIMIT] == 30);
 
@@ -264,6 +269,7 @@ static void lengths(void)
     SHORT(destination_has_consumers);
     SHORT(destination_has_expiring);
     SHORT(destination_message_count);
+    SHORT(destination_bytes_held);
     SHORT(destination_idle_for, AND 0, 0);
     SHORT(destination_seq_at, AND 0);
     SHORT(destination_counters);
@@ -295,14 +301,15 @@ static void queries(void)
     CHECK(asked(destination_idle_for(STATE, 7000, 4), 0, 0));
     CHECK(asked(destination_idle_for(STATE, DESTINATION_CLOCK_MOST + 1, 3), 3, 0));
     CHECK(asked(destination_idle_for(STATE, 7000, DESTINATION_CLOCK_MOST + 1), 0, 0));
-    CHECK(is(call((struct destination_request){1, {33, 0, 1, 0, 0, 0, 5000}}), 0, 0, 0));
-    CHECK(is(call((struct destination_request){1, {31, 0, 1, 0, 0, 0, 5000}}), 0, 0, 0));
+    CHECK(is(call((struct destination_request){1, {33, 0, 1, 0, 0, 0, 5000, 700}}), 0, 0, 0));
+    CHECK(is(call((struct destination_request){1, {31, 0, 1, 0, 0, 0, 5000, DESTINATION_SIZE_MOST}}), 0, 0, 0));
     CHECK(is(call((struct destination_request){1, {32, (uint64_t)-5, 1, 0, 0, 6, 5000}}), 0, 0, 0));
     CHECK(asked(destination_has_expiring(STATE), 0, 0));
     CHECK(is(call((struct destination_request){1, {34, 9000, 1, 0, 0, UINT64_MAX, 5000}}), 0, 0, 0));
     CHECK(asked(destination_has_expiring(STATE), 0, 1));
     CHECK(asked(destination_has_consumers(STATE), 0, 0));
     CHECK(asked(destination_message_count(STATE), 0, 4));
+    CHECK(asked(destination_bytes_held(STATE), 0, UINT64_C(4294967995)));
     CHECK(asked(destination_seq_at(STATE, 3), 0, 34));
     CHECK(asked(destination_seq_at(STATE, 4), 0, 0));
     lengths();
@@ -311,7 +318,7 @@ static void queries(void)
     CHECK(asked(destination_has_consumers(STATE), 0, 1));
     CHECK(all_guarded());
     b.head[4] = 1; /* turn of a consumer that is not there */
-    CHECK(asked(destination_is_queue(STATE), 2, 0) && asked(destination_seq_at(STATE, 0), 2, 0));
+    CHECK(asked(destination_is_queue(STATE), 2, 0) && asked(destination_seq_at(STATE, 0), 2, 0) && asked(destination_bytes_held(STATE), 2, 0));
     CHECK(destination_counters(STATE).refusal == 2 && destination_page(STATE, page.lines, 50, 0, 1).refusal == 2);
 }
 
@@ -339,7 +346,7 @@ static void inline_functions(void)
 {
     const uint64_t m1 = UINT64_MAX, m2 = UINT64_MAX - 1, m3 = UINT64_MAX - 2;
     const struct destination_id id = {7, -2, -3}, other = {8, 1, 2};
-    const struct destination_entry entry = {41, -1, true, 42, 43, -2}, plain = {44, 45, false, 46, 47, 48};
+    const struct destination_entry entry = {41, -1, true, 42, 43, -2, UINT32_MAX}, plain = {44, 45, false, 46, 47, 48, 49};
     const struct destination_consumer consumer = {id, 0, 64, false, false}, local = {other, -1, 5, true, false};
     const struct destination_consumer browser = {{9, 9, 9}, 6, 64, false, true}, both = {{9, 9, 8}, 6, 64, true, true};
     const struct destination_acknowledgement last = {.type = 2, .has_last = true, .first = 5, .last = 41};
@@ -348,8 +355,8 @@ static void inline_functions(void)
 
     INLINED(open, (DESTINATION_TOPIC, 2, 3, 4, 5), DESTINATION_OPEN, 1, 2, 3, 4, 5);
     INLINED(open, (DESTINATION_QUEUE, 0, 100, 4, 0), 0, 0, 0, 100, 4);
-    INLINED(enqueue, (entry, 40), 1, 41, m1, 1, 42, 43, m2, 40);
-    INLINED(enqueue, (plain, 40), 1, 44, 45, 0, 46, 47, 48, 40);
+    INLINED(enqueue, (entry, 40), 1, 41, m1, 1, 42, 43, m2, 40, 4294967295);
+    INLINED(enqueue, (plain, 40), 1, 44, 45, 0, 46, 47, 48, 40, 49);
     INLINED(join, (browser, 40), 2, 9, 9, 9, 6, 64, 2, 40);
     INLINED(join, (both, 40), 2, 9, 9, 8, 6, 64, 3, 40);
     INLINED(join, (consumer, 40), 2, 7, m2, m3, 0, 64, 0, 40);
@@ -384,13 +391,14 @@ static void on_struct(void)
 {
     CHECK(destination_open(&one, DESTINATION_QUEUE, 0, 100, 0, 0).refusal == 0);
     CHECK(destination_enqueue(&one, (struct destination_entry){.sequence = 5, .expiration = 6}, 1).refusal == 0);
-    CHECK(destination_enqueue(&one, (struct destination_entry){.sequence = 7, .redelivery = -8}, 1).refusal == 0);
+    CHECK(destination_enqueue(&one, (struct destination_entry){.sequence = 7, .redelivery = -8, .size = 9}, 1).refusal == 0);
     two = one;
     CHECK(is(destination_add_discarded_of(&one), 0, 0, 0) && one.head[10] == 1 && one.head[9] == 0);
     CHECK(is(destination_expired_before_storing_of(&one), 0, 0, 0) && one.head[10] == 1 && one.head[9] == 1);
     two = one;
     CHECK(asked(destination_is_queue_of(&one), 0, 1) && asked(destination_has_consumers_of(&one), 0, 0));
     CHECK(asked(destination_has_expiring_of(&one), 0, 1) && asked(destination_message_count_of(&one), 0, 2));
+    CHECK(asked(destination_bytes_held_of(&one), 0, 9));
     CHECK(asked(destination_seq_at_of(&one, 1), 0, 7) && asked(destination_idle_for_of(&one, 9000, 1), 0, 0));
     struct destination_counted c = destination_counters_of(&one), raw = destination_counters(TWO);
     CHECK(SAME(c, raw) && c.enqueued == 2 && c.expired == 1 && c.discarded == 1);

@@ -40,7 +40,8 @@ static struct destination_outcome show(const char *what, struct destination_outc
 
 static struct destination_outcome enqueue(uint64_t sequence, int64_t expiration, uint64_t clock)
 {
-    struct destination_entry e = {.sequence = sequence, .expiration = expiration, .persistent = true, .producer = 7};
+    struct destination_entry e = {.sequence = sequence, .expiration = expiration, .persistent = true, .producer = 7,
+                                  .size = (uint32_t)(100 * sequence)};
     char what[40];
     snprintf(what, sizeof what, "enqueue %" PRIu64, sequence);
     return show(what, destination_enqueue(&queue, e, clock));
@@ -66,7 +67,7 @@ static void show_waiting(void)
     for (size_t i = 0; i < p.count; i++)
         printf(" %" PRIu64 " (expiration %" PRId64 ", redelivery %" PRId32 ")", lines[i].sequence, lines[i].expiration,
                lines[i].redelivery);
-    printf("\n");
+    printf("\nbytes held %" PRIu64 "\n", destination_bytes_held_of(&queue).answer);
 }
 
 static void show_counters(void)

@@ -26,7 +26,7 @@ fn show(what: &str, called: Result<Done, Refusal>) -> u64 {
 }
 
 fn enqueue(queue: &mut Destination, sequence: u64, expiration: i64, clock: u64) {
-    let entry = Entry { sequence, expiration, persistent: true, producer: 7, ..Entry::default() };
+    let entry = Entry { sequence, expiration, persistent: true, producer: 7, size: 100 * sequence as u32, ..Entry::default() };
     show(&format!("enqueue {sequence}"), queue.enqueue(entry, clock));
 }
 
@@ -46,7 +46,7 @@ fn show_waiting(queue: &Destination) {
     for line in lines {
         print!(" {} (expiration {}, redelivery {})", line.sequence, line.expiration, line.redelivery);
     }
-    println!();
+    println!("\nbytes held {}", queue.bytes_held().expect("the state is sound"));
 }
 
 fn main() {

@@ -46,7 +46,7 @@ mod library {
 
     type Head = *const u64;
     type Subs = *const [u64; 16];
-    type Rows = *const [u64; 9];
+    type Rows = *const [u64; 10];
 
     unsafe extern "C" {
         pub safe fn destination_head_words() -> usize;
@@ -59,7 +59,7 @@ mod library {
             head_words: usize,
             subs: *mut [u64; 16],
             subs_length: usize,
-            rows: *mut [u64; 9],
+            rows: *mut [u64; 10],
             rows_length: usize,
             events: *mut [u64; 6],
             events_length: usize,
@@ -70,7 +70,7 @@ mod library {
             head_words: usize,
             subs: *mut [u64; 16],
             subs_length: usize,
-            rows: *mut [u64; 9],
+            rows: *mut [u64; 10],
             rows_length: usize,
             events: *mut [u64; 6],
             events_length: usize,
@@ -80,7 +80,7 @@ mod library {
             head_words: usize,
             subs: *mut [u64; 16],
             subs_length: usize,
-            rows: *mut [u64; 9],
+            rows: *mut [u64; 10],
             rows_length: usize,
             events: *mut [u64; 6],
             events_length: usize,
@@ -90,7 +90,7 @@ mod library {
             head_words: usize,
             subs: *mut [u64; 16],
             subs_length: usize,
-            rows: *mut [u64; 9],
+            rows: *mut [u64; 10],
             rows_length: usize,
             events: *mut [u64; 6],
             events_length: usize,
@@ -103,6 +103,7 @@ mod library {
         pub fn destination_has_consumers(h: Head, hn: usize, s: Subs, sn: usize, r: Rows, rn: usize) -> Asked;
         pub fn destination_has_expiring(h: Head, hn: usize, s: Subs, sn: usize, r: Rows, rn: usize) -> Asked;
         pub fn destination_message_count(h: Head, hn: usize, s: Subs, sn: usize, r: Rows, rn: usize) -> Asked;
+        pub fn destination_bytes_held(h: Head, hn: usize, s: Subs, sn: usize, r: Rows, rn: usize) -> Asked;
         pub fn destination_idle_for(h: Head, hn: usize, s: Subs, sn: usize, r: Rows, rn: usize, clock: u64, seconds: u64) -> Asked;
         pub fn destination_seq_at(h: Head, hn: usize, s: Subs, sn: usize, r: Rows, rn: usize, index: u64) -> Asked;
         pub fn destination_counters(h: Head, hn: usize, s: Subs, sn: usize, r: Rows, rn: usize) -> Counted;
@@ -149,6 +150,8 @@ pub struct Entry {
     /// Bit s says whether selector s accepts it.
     pub match_word: u64,
     pub redelivery: i32,
+    /// Its bytes.
+    pub size: u32,
 }
 
 /// A consumer, as it joins.
@@ -211,7 +214,7 @@ impl Request {
 
     pub fn enqueue(e: Entry, clock: u64) -> Request {
         let (expiration, redelivery) = (e.expiration as u64, e.redelivery as i64 as u64);
-        Request::new(1, &[e.sequence, expiration, e.persistent as u64, e.producer, e.match_word, redelivery, clock])
+        Request::new(1, &[e.sequence, expiration, e.persistent as u64, e.producer, e.match_word, redelivery, clock, e.size.into()])
     }
 
     pub fn join(c: Consumer, clock: u64) -> Request {
@@ -399,7 +402,7 @@ type Called<'a> = Result<Done<'a>, Refusal>;
 pub struct Destination {
     head: Vec<u64>,
     subs: Vec<[u64; 16]>,
-    rows: Vec<[u64; 9]>,
+    rows: Vec<[u64; 10]>,
     events: Vec<[u64; 6]>,
 }
 
@@ -415,7 +418,7 @@ impl Destination {
         Destination {
             head: vec![0; library::destination_head_words()],
             subs: vec![[0; 16]; library::destination_consumers()],
-            rows: vec![[0; 9]; library::destination_rows()],
+            rows: vec![[0; 10]; library::destination_rows()],
             events: vec![[0; 6]; library::destination_events()],
         }
     }
@@ -578,6 +581,12 @@ impl Destination {
         answer(unsafe { query!(self, destination_message_count) })
     }
 
+    /// The sizes of the entries that have a copy in any place, each once.
+    pub fn bytes_held(&self) -> Result<u64, Refusal> {
+        // Safety: as in `is_queue`.
+        answer(unsafe { query!(self, destination_bytes_held) })
+    }
+
     pub fn idle_for(&self, clock: u64, seconds: u64) -> Result<bool, Refusal> {
         // Safety: as in `is_queue`.
         yes(unsafe { query!(self, destination_idle_for, clock, seconds) })
@@ -642,7 +651,7 @@ mod tests {
 
     const M1: u64 = u64::MAX;
     const ID: Id = Id { connection: 7, session: -2, value: -3 };
-    const ENTRY: Entry = Entry { sequence: 41, expiration: -1, persistent: true, producer: 42, match_word: 43, redelivery: -2 };
+    const ENTRY: Entry = Entry { sequence: 41, expiration: -1, persistent: true, producer: 42, match_word: 43, redelivery: -2, size: 44 };
     const PULLER: Consumer = Consumer { id: ID, prefetch: -1, selector: None, no_local: false, browser: false };
     const BROWSER: Consumer = Consumer {
         id: Id { connection: 8, session: 1, value: 2 },
@@ -667,7 +676,7 @@ mod tests {
         let d = &mut Destination::new();
         same(d, |d| d.open(Kind::Topic, 2, 30, 4, 5), 0, &[1, 2, 30, 4, 5]);
         same(d, |d| d.open(Kind::Queue, 0, 100, 4, 0), 0, &[0, 0, 100, 4]);
-        same(d, |d| d.enqueue(ENTRY, 40), 1, &[41, M1, 1, 42, 43, M1 - 1, 40]);
+        same(d, |d| d.enqueue(ENTRY, 40), 1, &[41, M1, 1, 42, 43, M1 - 1, 40, 44]);
         same(d, |d| d.join(BROWSER, 40), 2, &[8, 1, 2, 5, 5, 3, 40]);
         same(d, |d| d.join(PULLER, 40), 2, &[7, M1 - 1, M1 - 2, M1, 64, 0, 40]);
         same(d, |d| d.pull(ID, -1, 40), 5, &[7, M1 - 1, M1 - 2, M1, 40]);
@@ -716,7 +725,7 @@ mod tests {
     fn questions() {
         let mut d = Destination::new();
         assert_eq!(d.is_queue(), Err(Refusal::NotSound));
-        assert_eq!(d.counters(), Err(Refusal::NotSound));
+        assert_eq!((d.counters(), d.bytes_held()), (Err(Refusal::NotSound), Err(Refusal::NotSound)));
         assert_eq!(d.page(0, 1), Err(Refusal::NotSound));
         d.open(Kind::Topic, 0, 100, 0, 0).expect("accepted");
         assert_eq!((d.is_queue(), d.has_consumers(), d.has_expiring()), (Ok(false), Ok(false), Ok(false)));
@@ -726,7 +735,7 @@ mod tests {
         d.expired_before_storing().expect("accepted");
         d.expired_before_storing().expect("accepted");
         for sequence in [12, 11, 13] {
-            d.enqueue(Entry { sequence, expiration: 9000, redelivery: -1, ..Entry::default() }, 6000).expect("accepted");
+            d.enqueue(Entry { sequence, expiration: 9000, redelivery: -1, size: 100, ..Entry::default() }, 6000).expect("accepted");
         }
         assert_eq!((d.is_queue(), d.has_consumers(), d.has_expiring()), (Ok(true), Ok(false), Ok(true)));
         assert_eq!((d.seq_at(0), d.seq_at(2), d.seq_at(3)), (Ok(Some(11)), Ok(Some(13)), Ok(None)));
@@ -734,9 +743,9 @@ mod tests {
         assert_eq!(d.page(1, 60), Ok((3, vec![line(12), line(13)])));
         d.join(PULLER, 6000).expect("accepted");
         d.pull(ID, 0, 6000).expect("accepted");
-        assert_eq!((d.message_count(), d.has_consumers()), (Ok(3), Ok(true)));
+        assert_eq!((d.message_count(), d.has_consumers(), d.bytes_held()), (Ok(3), Ok(true), Ok(300)));
         d.ack(ID, Ack { last: Some(11), ..LAST }, 6000).expect("accepted");
-        assert_eq!(d.message_count(), Ok(2));
+        assert_eq!((d.message_count(), d.bytes_held()), (Ok(2), Ok(200)));
         let counters = Counters { enqueued: 3, dequeued: 1, expired: 2, discarded: 1, dispatched: 1 };
         assert_eq!(d.counters(), Ok(counters));
     }

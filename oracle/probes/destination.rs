@@ -2,6 +2,7 @@
 //! of a release that comes alone, and the surplus of a topic's lists in which something has expired.
 
 use std::collections::{BTreeMap, BTreeSet, HashMap};
+use std::sync::atomic::Ordering;
 use std::sync::Arc;
 use std::time::Instant;
 
@@ -168,7 +169,12 @@ pub fn put_back(dest: &Dest, taken: Surplus) {
     }
 }
 
-// -- a private query ----------------------------------------------------------
+// -- private queries ----------------------------------------------------------
+
+/// The bytes that the broker counts for this destination (`DestUsage`).
+pub fn usage(dest: &Dest) -> u64 {
+    dest.usage.bytes.load(Ordering::Relaxed)
+}
 
 pub fn seq_at(dest: &Dest, index: usize) -> Option<u64> {
     dest.seq_at(index)

@@ -25,7 +25,7 @@ use Rattle.table.proofs.Segments.{tally-map, keep-map}
 use Rattle.table.proofs.Search.{find-from-at, find-at}
 use Rattle.acks.specs.declared.Span.{Span}
 use Rattle.acks.specs.Rules.{inSpan}
-use Rattle.acks.specs.Parts.{nine}
+use Rattle.acks.specs.Parts.{full}
 
 -- ---- by_seq
 
@@ -107,31 +107,31 @@ raised-inflight r h =
     inflight-eq (word-kept r 5 v 6 (above (omega arith))) (raised-entry r (omega arith)) (ap flag (word-kept r 5 v 7 (above (omega arith)))) (ap flag (word-kept r 5 v 8 (above (omega arith))))
 
 module _ (p : Span) where
-  mark-inflight : (tx : Bool) (r : Row) → nine r ≡ true → inflightAt (markRow (p .first) (p .last) tx r) ≡ marked (inSpan p) tx (inflightAt r)
+  mark-inflight : (tx : Bool) (r : Row) → full r ≡ true → inflightAt (markRow (p .first) (p .last) tx r) ≡ marked (inSpan p) tx (inflightAt r)
   mark-inflight tx r h = by (inRange (p .first) (p .last) r)
     where
       by : (b : Bool) → inflightAt (if b then freedRow tx r else r) ≡ (if b then record { dseq = getD r 6 0; entry = entryOf r; freed = true; tx = tx || flag (getD r 8 0) } else inflightAt r)
-      by true = freed-inflight tx r (omega (arith, eqb-true (length r) 9 h))
+      by true = freed-inflight tx r (omega (arith, eqb-true (length r) 10 h))
       by false = refl
 
-  raise-inflight : (r : Row) → nine r ≡ true → inflightAt (redeliverRow (p .first) (p .last) r) ≡ bumped (inSpan p) (inflightAt r)
+  raise-inflight : (r : Row) → full r ≡ true → inflightAt (redeliverRow (p .first) (p .last) r) ≡ bumped (inSpan p) (inflightAt r)
   raise-inflight r h = by (inRange (p .first) (p .last) r)
     where
       by : (b : Bool) → inflightAt (if b then raisedRow r else r) ≡ (if b then record { dseq = getD r 6 0; entry = redelivered (entryOf r); freed = flag (getD r 7 0); tx = flag (getD r 8 0) } else inflightAt r)
-      by true = raised-inflight r (omega (arith, eqb-true (length r) 9 h))
+      by true = raised-inflight r (omega (arith, eqb-true (length r) 10 h))
       by false = refl
 
 -- what is so of each row is so of the list
-changed : (g : Row → Row) (c : Inflight → Inflight) → ((r : Row) → nine r ≡ true → inflightAt (g r) ≡ c (inflightAt r))
-    → (l : List Row) → all nine l ≡ true → map inflightAt (map g l) ≡ map c (map inflightAt l)
+changed : (g : Row → Row) (c : Inflight → Inflight) → ((r : Row) → full r ≡ true → inflightAt (g r) ≡ c (inflightAt r))
+    → (l : List Row) → all full l ≡ true → map inflightAt (map g l) ≡ map c (map inflightAt l)
 changed g c law [] h = refl
-changed g c law (r ∷ l) h = ap₂ (λ (x : Inflight) (m : List Inflight). x ∷ m) (law r (and-left (nine r) (all nine l) h)) (changed g c law l (and-right (nine r) (all nine l) h))
+changed g c law (r ∷ l) h = ap₂ (λ (x : Inflight) (m : List Inflight). x ∷ m) (law r (and-left (full r) (all full l) h)) (changed g c law l (and-right (full r) (all full l) h))
 
 module _ (p : Span) (l : List Row) where
-  pub mark-flying : (tx : Bool) → all nine l ≡ true → map inflightAt (map (markRow (p .first) (p .last) tx) l) ≡ map (marked (inSpan p) tx) (map inflightAt l)
+  pub mark-flying : (tx : Bool) → all full l ≡ true → map inflightAt (map (markRow (p .first) (p .last) tx) l) ≡ map (marked (inSpan p) tx) (map inflightAt l)
   mark-flying tx = changed _ _ (mark-inflight p tx) l
 
-  pub raise-flying : all nine l ≡ true → map inflightAt (map (redeliverRow (p .first) (p .last)) l) ≡ map (bumped (inSpan p)) (map inflightAt l)
+  pub raise-flying : all full l ≡ true → map inflightAt (map (redeliverRow (p .first) (p .last)) l) ≡ map (bumped (inSpan p)) (map inflightAt l)
   raise-flying = changed _ _ (raise-inflight p) l
 
   pub keep-flying : keep (λ i. not (inSpan p i)) (map inflightAt l) ≡ map inflightAt (keep (λ r. not (inRange (p .first) (p .last) r)) l)

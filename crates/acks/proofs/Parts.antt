@@ -30,7 +30,7 @@ use Rattle.table.proofs.Segments.{tally-map, kept-length}
 use Rattle.table.proofs.Strict.{mark-strict, redeliver-strict}
 use Rattle.acks.specs.declared.Span.{Span}
 use Rattle.acks.specs.Rules.{inSpan, silently, acts, removedCounts, removedEvents}
-use Rattle.acks.specs.Parts.{nine, ownFlying, ownHeld, ownAfter, ownView, Own, Told, Acted}
+use Rattle.acks.specs.Parts.{full, ownFlying, ownHeld, ownAfter, ownView, Own, Told, Acted}
 use Rattle.acks.proofs.Flying.{mark-flying, raise-flying, keep-flying, tally-flying}
 use Rattle.acks.proofs.Telling.{told-none}
 
@@ -177,25 +177,25 @@ module _ (k : Kind) (base : ℕ) (s : Sub) (d : Head) (rows : List Row) (own : O
       (ap (drop 512) e ∙ map-after g base end rows 512 (omega arith)) (ap length e ∙ map-length g base end rows) view (all-map flyingStrict flyingStrict g strict f) (told-none 0 d events) refl (omega arith) refl
 
   module _ (p : Span) where
-    pub acted-mark : (tx : Bool) (n : ℕ) (rows′ events : List Row) → all nine (slice base end rows) ≡ true
+    pub acted-mark : (tx : Bool) (n : ℕ) (rows′ events : List Row) → all full (slice base end rows) ≡ true
         → n ≡ countRows (λ w. inRange (p .first) (p .last) w && not (isFreed w)) base end rows → rows′ ≡ mapRows (markRow (p .first) (p .last) tx) base end rows
         → Acted (silently (free (inSpan p) tx)) k base s (withFreed (s .freed + n) s) d d rows events rows′ events
     unfolding subView
-    acted-mark tx n rows′ events nines en e =
-        let own-nine : all nine f ≡ true = ap (all nine) (sym (flying-slice base s rows)) ∙ nines in
+    acted-mark tx n rows′ events fulls en e =
+        let own-full : all full f ≡ true = ap (all full) (sym (flying-slice base s rows)) ∙ fulls in
         let fresh : n ≡ tally (λ i. inSpan p i && not (i .freed)) (map inflightAt f) =
         en ∙ count-in (λ w. inRange (p .first) (p .last) w && not (isFreed w)) base end rows (omega arith) (omega arith)
         ∙ ap (tally (λ w. inRange (p .first) (p .last) w && not (isFreed w))) (flying-slice base s rows)
         ∙ sym (tally-map inflightAt (λ i. inSpan p i && not (i .freed)) f) in
         placed (markRow (p .first) (p .last) tx) (free (inSpan p) tx) (s .freed + n) rows′ events e (mark-strict (p .first) (p .last) tx)
-        (ap₂ (λ (l : List Def.Inflight) (m : ℕ). Def.withInflight l (Def.withFreed (s .freed + m) v)) (mark-flying p f tx own-nine) fresh)
+        (ap₂ (λ (l : List Def.Inflight) (m : ℕ). Def.withInflight l (Def.withFreed (s .freed + m) v)) (mark-flying p f tx own-full) fresh)
 
-    pub acted-raise : (rows′ events : List Row) → all nine (slice base end rows) ≡ true → rows′ ≡ mapRows (redeliverRow (p .first) (p .last)) base end rows
+    pub acted-raise : (rows′ events : List Row) → all full (slice base end rows) ≡ true → rows′ ≡ mapRows (redeliverRow (p .first) (p .last)) base end rows
         → Acted (silently (redeliver (inSpan p))) k base s s d d rows events rows′ events
     unfolding subView
-    acted-raise rows′ events nines e =
-        let own-nine : all nine f ≡ true = ap (all nine) (sym (flying-slice base s rows)) ∙ nines in
-        placed (redeliverRow (p .first) (p .last)) (redeliver (inSpan p)) (s .freed) rows′ events e (redeliver-strict (p .first) (p .last)) (ap (λ (l : List Def.Inflight). Def.withInflight l v) (raise-flying p f own-nine))
+    acted-raise rows′ events fulls e =
+        let own-full : all full f ≡ true = ap (all full) (sym (flying-slice base s rows)) ∙ fulls in
+        placed (redeliverRow (p .first) (p .last)) (redeliver (inSpan p)) (s .freed) rows′ events e (redeliver-strict (p .first) (p .last)) (ap (λ (l : List Def.Inflight). Def.withInflight l v) (raise-flying p f own-full))
 
     -- ---- rows that go
 

@@ -29,7 +29,7 @@ use Rattle.state.proofs.Counts.{discarded-plain}
 use Rattle.state.proofs.Events.{pushed-room, events-up-to, events-after}
 use Rattle.acks.specs.declared.Span.{Span}
 use Rattle.acks.specs.Rules.{inSpan, countsOf, eventsOf, removedCounts, removedEvents}
-use Rattle.acks.specs.Parts.{nine, Dying, Told, deadHead, deadEvents, rowLetters, rowDiscards}
+use Rattle.acks.specs.Parts.{full, Dying, Told, deadHead, deadEvents, rowLetters, rowDiscards}
 use Rattle.acks.proofs.Flying.{tally-flying}
 
 -- ---- nothing sent
@@ -226,17 +226,17 @@ told-flying cause p l d r events events′ x =
     ap (deadLetters cause) (keep-map inflightAt (inSpan p) l) ∙ deadLetters-flying cause (keep (λ w. inSpan p (inflightAt w)) l) in
     rw (n, e, tally-flying p l) x
 
--- ---- nine words
+-- ---- rows with all their words
 
 -- while the rows from..to are looked at, up to i
-pub record Nines (from to i : ℕ) (rows : List Row) : Type 0 where
+pub record Full (from to i : ℕ) (rows : List Row) : Type 0 where
   pub within : from ≤ i
   pub end : i ≤ to
   pub room : to ≤ length rows
-  pub done : all nine (slice from i rows) ≡ true
+  pub done : all full (slice from i rows) ≡ true
 
-pub nine-none : (from : ℕ) (rows : List Row) → all nine (slice from from rows) ≡ true
-nine-none from rows = ap (all nine) (slice-empty from rows)
+pub full-none : (from : ℕ) (rows : List Row) → all full (slice from from rows) ≡ true
+full-none from rows = ap (all full) (slice-empty from rows)
 
-pub nine-turn : (from i : ℕ) (rows : List Row) → from ≤ i → i < length rows → nine (getD rows i []) ≡ true → all nine (slice from i rows) ≡ true → all nine (slice from (i + 1) rows) ≡ true
-nine-turn from i rows h b t g = ap (all nine) (slice-snoc from i rows [] h b) ∙ all-end nine (slice from i rows) (getD rows i []) g t
+pub full-turn : (from i : ℕ) (rows : List Row) → from ≤ i → i < length rows → full (getD rows i []) ≡ true → all full (slice from i rows) ≡ true → all full (slice from (i + 1) rows) ≡ true
+full-turn from i rows h b t g = ap (all full) (slice-snoc from i rows [] h b) ∙ all-end full (slice from i rows) (getD rows i []) g t

@@ -18,9 +18,9 @@ use Rattle.consumers.specs.Consumers.{subView}
 use Rattle.state.specs.declared.Head.{Head}
 use Rattle.state.specs.State.{withStats, withUsed, withEvents, pushed}
 
--- a row of nine words
-abbrev pub nine : Row → Bool
-nine w = eqb (length w) 9
+-- a row with all its words
+abbrev pub full : Row → Bool
+full w = eqb (length w) 10
 
 -- its rows in flight, those that it holds, and those after them
 abbrev pub ownFlying : ℕ → Sub → List Row → List Row

@@ -21,7 +21,7 @@ ghost use Rattle.state.specs.Fits.{fits, Fits};
 ghost use Rattle.state.specs.Leaves.{Leaves, LeavesIf};
 ghost use Rattle.acks.specs.Acks.{ackOf, acked};
 ghost use Rattle.acks.specs.Rules.{noSpan, inNumbers, spanOf, inSpan, silently, acts, removedCounts, removedEvents};
-ghost use Rattle.acks.specs.Parts.{nine, Own, Dying, Told, deadHead, deadEvents, Acted, Kept};
+ghost use Rattle.acks.specs.Parts.{full, Own, Dying, Told, deadHead, deadEvents, Acted, Kept};
 use consumers::Sub;
 use consumers::SubRow;
 use entry::DSEQ;
@@ -132,13 +132,13 @@ fn ranged(range: AckRange, first: u64, last: u64) -> Span
 // ---- what becomes of them
 
 fn sized(row: Row)
-    ensures { λ _. ⌜ nine row ≡ true ⌝ }
+    ensures { λ _. ⌜ full row ≡ true ⌝ }
 {}
 
-// Each row of from..to has nine words: nothing is done, this is said for the proofs.
-fn nine_words(rows: &[Row], from: usize, to: usize)
+// Each row of from..to has all its words: nothing is done, this is said for the proofs.
+fn full_rows(rows: &[Row], from: usize, to: usize)
     requires { ⌜ (from ≤ to) × (to ≤ length (now rows)) ⌝ }
-    ensures { λ _. ⌜ all nine (slice from to (now (rows .entry))) ≡ true ⌝ }
+    ensures { λ _. ⌜ all full (slice from to (now (rows .entry))) ≡ true ⌝ }
 {
     let mut i = from;
     while i < to {
@@ -153,7 +153,7 @@ fn mark(rows: &mut [Row], base: usize, mut s: Sub, d: Head, p: Span, tx: bool) -
     ensures { λ r. ⌜ ((events : List Row) → Acted (silently (free (inSpan p) tx)) (kindBy (d .queue)) base s (r .sub) d (r .head) (now (rows .entry)) events (now (rows .exit)) events) ⌝ }
 {
     let end = base + s.inflight;
-    nine_words(rows, base, end);
+    full_rows(rows, base, end);
     let fresh = table::mark_range(rows, base, end, p.first, p.last, tx);
     s.freed = s.freed + fresh;
     Acked { sub: s, head: d }
@@ -165,7 +165,7 @@ fn raise(rows: &mut [Row], base: usize, s: Sub, d: Head, p: Span) -> Acked
     ensures { λ r. ⌜ ((events : List Row) → Acted (silently (redeliver (inSpan p))) (kindBy (d .queue)) base s (r .sub) d (r .head) (now (rows .entry)) events (now (rows .exit)) events) ⌝ }
 {
     let end = base + s.inflight;
-    nine_words(rows, base, end);
+    full_rows(rows, base, end);
     table::redeliver_range(rows, base, end, p.first, p.last);
     Acked { sub: s, head: d }
 }

@@ -147,7 +147,7 @@ module _ (now base : ℕ) (rows₀ events₀ : List Row) (s₀ : Sub) (d₀ : He
 
     pub sending-sent : (s′ : Sub) (d′ : Head) (events′ : List Row) (x : Row) → s′ ≡ sentSub s → d′ ≡ withEvents (d .events + 1) d
         → events′ ≡ set events (d .events) (eventWords (message (id-of s) (entryOf row .seq) (entryOf row .redelivery)))
-        → x ≡ flownRow (s .«next_dseq») row → length row ≡ 9 → expired (pos now) (entryOf row) ≡ false
+        → x ≡ flownRow (s .«next_dseq») row → length row ≡ 10 → expired (pos now) (entryOf row) ≡ false
         → Sending now base rows₀ events₀ s₀ d₀ (set rows (base + s .inflight) x) events′ s′ d′
     unfolding shown subView
     sending-sent s′ d′ events′ x o p q r n y =

@@ -8,10 +8,11 @@ use mathlib.Core.List.{List}
 use borrow.Author.Tests.{ltb-true, ltb-false, leb-true, leb-false, lt-ltb, le-ltb, lt-leb}
 use lib.Dec.{leb, ltb, eqb}
 use lib.IntN.{ℤ}
+use lib.Seq.{drop-length}
 use Rattle.words.specs.Words.{signed, int, isInt}
 use Rattle.words.proofs.Words.{int-signed}
 use Rattle.entry.specs.Entry.{bit, withRedelivery}
-use Rattle.definition.specs.Base.{is-some}
+use Rattle.definition.specs.Base.{is-some, all}
 use Rattle.definition.specs.Calls.{word, within, clockOk, idOk, optional, argumentsOk}
 use Rattle.definition.specs.Words.{at, idOf, entryOf, present, unusedFrom, read, decode}
 use Rattle.definition.proofs.Tests.{by-test, and-left, and-right}
@@ -61,12 +62,16 @@ module _ (ws : List ℕ) (h : Words ws) where
   int-ok : (k : ℕ) → within (2 ^ 31) (signed (at k ws)) ≡ isInt (at k ws)
   int-ok k = within-int (at k ws) (h .word k)
 
+  -- no word is left after eight
+  all-used : unusedFrom 8 ws ≡ true
+  all-used = ap (λ (n : ℕ). unusedFrom n ws) (sym (h .eight)) ∙ ap (all (eqb 0)) (drop-length ws)
+
   -- ---- codes
 
   pub enqueue-range : is-some (decode 1 ws) ≡ enqueues ws
   unfolding decode read argumentsOk enqueues
   enqueue-range = some-provided _ _
-      ∙ (λ i. (leb (at 2 ws) 1 && unusedFrom 7 ws) && ((leb 1 (at 0 ws) && (ltb (at 0 ws) (2 ^ 63) && (signed-ok 1 i && (word-ok 3 i && (word-ok 4 i && (int-ok 5 i && true)))))) && clockOk (at 6 ws)))
+      ∙ (λ i. (leb (at 2 ws) 1 && all-used i) && ((leb 1 (at 0 ws) && (ltb (at 0 ws) (2 ^ 63) && (signed-ok 1 i && (word-ok 3 i && (word-ok 4 i && (int-ok 5 i && (ltb (at 7 ws) (2 ^ 32) && true))))))) && clockOk (at 6 ws)))
       ∙ simp (and-assoc, and-true)
 
   pub join-range : is-some (decode 2 ws) ≡ joins ws
@@ -149,8 +154,9 @@ module _ (ws : List ℕ) (h : Words ws) where
 pub entry-whole : (ws : List ℕ) → Words ws → is-some (decode 1 ws) ≡ true → withRedelivery (int (at 5 ws)) (entryOf ws) ≡ entryOf ws
 unfolding enqueues
 entry-whole ws h t =
-    let known : Bool = leb (at 2 ws) 1 && unusedFrom 7 ws && leb 1 (at 0 ws) && ltb (at 0 ws) (2 ^ 63) in
-    let p : (known && isInt (at 5 ws)) ≡ true = and-left (known && isInt (at 5 ws)) (clockOk (at 6 ws)) (sym (enqueue-range ws h) ∙ t) in
+    let known : Bool = leb (at 2 ws) 1 && leb 1 (at 0 ws) && ltb (at 0 ws) (2 ^ 63) in
+    let q : (known && isInt (at 5 ws) && ltb (at 7 ws) (2 ^ 32)) ≡ true = and-left (known && isInt (at 5 ws) && ltb (at 7 ws) (2 ^ 32)) (clockOk (at 6 ws)) (sym (enqueue-range ws h) ∙ t) in
+    let p : (known && isInt (at 5 ws)) ≡ true = and-left (known && isInt (at 5 ws)) (ltb (at 7 ws) (2 ^ 32)) q in
     ap (λ (z : ℤ). withRedelivery z (entryOf ws)) (int-signed (at 5 ws) (h .word 5) (and-right known (isInt (at 5 ws)) p))
 
 -- ---- an arm of the match on the code

@@ -8,9 +8,9 @@ use Rattle.words.specs.Words.{isInt}
 use Rattle.entry.specs.Entry.{bit}
 use Rattle.definition.specs.Words.{at, unusedFrom}
 
--- code 1: flag, unused, sequence number, redelivery, clock
+-- code 1: flag, sequence number, redelivery, size, clock; all eight words are used
 unfoldable pub enqueues : List ℕ → Bool
-enqueues ws = leb (at 2 ws) 1 && unusedFrom 7 ws && leb 1 (at 0 ws) && ltb (at 0 ws) (2 ^ 63) && isInt (at 5 ws) && leb (at 6 ws) (2 ^ 62)
+enqueues ws = leb (at 2 ws) 1 && leb 1 (at 0 ws) && ltb (at 0 ws) (2 ^ 63) && isInt (at 5 ws) && ltb (at 7 ws) (2 ^ 32) && leb (at 6 ws) (2 ^ 62)
 
 -- code 2: flags, unused, prefetch, selector, clock
 unfoldable pub joins : List ℕ → Bool

@@ -11,12 +11,14 @@ ghost use Rattle.calls.specs.Ranges.{enqueues, joins, acks, timed, prefe
 use entry::Entry;
 use model::Id;
 
-// No call limit is above 2^40, no allowance above a day, no sequence number above 2^63 - 1.
+// No call limit is above 2^40, no allowance above a day, no sequence number above 2^63 - 1, no size above 2^32 - 1.
 const CALLS_MOST: u64 = 1099511627776;
 
 const ALLOWANCE_MOST: u64 = 86400000;
 
 const SEQ_END: u64 = 9223372036854775808;
+
+const SIZE_END: u64 = 4294967296;
 
 #[repr(C)]
 pub struct Call {
@@ -118,6 +120,7 @@ impl Call {
             match_word: w[4],
             redelivery: words::int_of(w[5]),
             persistent: w[2] == 1,
+            size: w[7],
         }
     }
 }
@@ -166,8 +169,8 @@ fn enqueue_ok(w: [u64; 8]) -> bool
     ensures { λ r. ⌜ r ≡ enqueues w ⌝ }
 {
     let seq = w[0];
-    let known = (w[2] <= 1) & unused(w, 7);
-    known & (1 <= seq) & (seq < SEQ_END) & words::is_int(w[5]) & (w[6] <= entry::CLOCK_MOST)
+    let known = (w[2] <= 1) & (1 <= seq) & (seq < SEQ_END);
+    known & words::is_int(w[5]) & (w[7] < SIZE_END) & (w[6] <= entry::CLOCK_MOST)
 }
 
 fn join_ok(w: [u64; 8]) -> bool

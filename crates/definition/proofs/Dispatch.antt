@@ -17,8 +17,8 @@ use Rattle.definition.specs.Destination.{visitAt, count, Look, look, giv
 use Rattle.definition.specs.Calls.{entryOk, seqs, flying, rowsOf}
 use Rattle.definition.proofs.Tests.{or-no-left, by-if, by-test, and-left, and-right}
 use Rattle.definition.proofs.Lists.{none-some, some-inj, All, empty-nil}
-use Rattle.definition.proofs.Thin.{Thin, done, skip, stay, thin-refl, thin-trans, map-append, tally-append, ascending-more}
-use Rattle.definition.proofs.Sums.{sum, Tame, one, occ, bad, sum-append, sum-thin, sum-one, ok-sum, sum-ok, sum-once, thin-ascending, thin-keep, bad-ok}
+use Rattle.definition.proofs.Thin.{alike-refl, Thin, done, skip, stay, thin-refl, thin-trans, map-append, tally-append, ascending-more}
+use Rattle.definition.proofs.Sums.{odd, sum, Tame, one, occ, bad, sum-append, sum-thin, sum-one, ok-sum, sum-ok, sum-once, thin-ascending, thin-keep, bad-ok}
 use Rattle.definition.proofs.Fit.{Fit, Little, total, met, dseqs, drain-little, browses-little}
 use Rattle.definition.proofs.Grown.{counted}
 use Rattle.definition.proofs.Local.{drained-id, browsed-id, alone}
@@ -154,12 +154,12 @@ looks : (now : ℕ) (s : Sub) (c : ℕ) (l : List Entry) → Looked c l (look no
 unfolding look
 looks now s c [] = record { thin = done; sums = λ f. omega arith; gone = omega arith; cursor = λ h b. h }
 looks now s c (e ∷ es) = by-test (leb (e .seq) (s .cursor))
-    (λ x. rw x (let r = looks now s c es in record { thin = stay refl (λ h. h) (r .thin); sums = λ f. omega (arith, r .sums f); gone = omega (arith, r .gone); cursor = λ h b. r .cursor h (omega arith) }))
+    (λ x. rw x (let r = looks now s c es in record { thin = stay (alike-refl e) (r .thin); sums = λ f. omega (arith, r .sums f); gone = omega (arith, r .gone); cursor = λ h b. r .cursor h (omega arith) }))
     (λ x. rw x (by-test (expired (pos now) e)
     (λ y. rw y (let r = looks now s c es in record { thin = skip (r .thin); sums = λ f. omega (arith, r .sums f); gone = omega (arith, r .gone); cursor = λ h b. r .cursor h (omega arith) }))
     (λ y. rw y (by-test (accepts s e)
     (λ z. rw z (record { thin = skip (thin-refl es); sums = λ f. omega arith; gone = omega arith; cursor = λ h b. seq-ok e (head-ok e es b) }))
-    (λ z. rw z (let r = looks now s (e .seq) es in record { thin = stay refl (λ h. h) (r .thin); sums = λ f. omega (arith, r .sums f); gone = omega (arith, r .gone); cursor = λ h b. r .cursor (seq-ok e (head-ok e es b)) (omega arith) }))))))
+    (λ z. rw z (let r = looks now s (e .seq) es in record { thin = stay (alike-refl e) (r .thin); sums = λ f. omega (arith, r .sums f); gone = omega (arith, r .gone); cursor = λ h b. r .cursor (seq-ok e (head-ok e es b)) (omega arith) }))))))
 
 -- ---- one consumer in its place
 
@@ -269,6 +269,7 @@ module _ (L U : ℕ) where
     rows = omega (arith, g .rows, a one, sums-set (rowsM one) i (t .subs) s v e);
     ok = omega (arith, g .ok, a bad, sums-set (rowsM bad) i (t .subs) s v e);
     once = λ x. omega (arith, g .once x, b (occ x), sums-set (countM (occ x)) i (t .subs) s v e);
+    agree = λ x. let z = g .agree x in (z .0, omega (arith, z .1, a (odd x (z .0)), sums-set (rowsM (odd x (z .0))) i (t .subs) s v e));
     sorted = o;
     turn = ap (λ n. ltb r n || eqb r 0) (length-set (t .subs) i v) ∙ w;
     counters = u;

@@ -19,7 +19,7 @@ use mathlib.Core.Option.{Option, none, some}
 use Rattle.definition.proofs.Reorder.{nil-cons}
 use Rattle.definition.proofs.Sums.{keep-tally}
 use Rattle.definition.proofs.Local.{serve, alone, meet-tpending}
-use Rattle.definition.proofs.Thin.{every-all, all-every, Thin, done, skip, stay, thin-refl, thin-append, thin-trans, thin-ok, thin-distinct, redelivered-ok, ascending-keep, ascending-more, ascending-tail, map-append, tally-append}
+use Rattle.definition.proofs.Thin.{every-all, all-every, alike-refl, alike-same, alike-redelivered, Thin, done, skip, stay, thin-refl, thin-append, thin-trans, thin-ok, thin-distinct, redelivered-ok, ascending-keep, ascending-more, ascending-tail, map-append, tally-append}
 
 -- the pull that waits is at most m
 abbrev pub Waits : ℕ → Sub → Type 0
@@ -129,7 +129,7 @@ marked-entry hit tx i = by-test (hit i) (λ c. rw c) (λ c. rw c)
 marked-thin : (hit : Inflight → Bool) (tx : Bool) (l : List Inflight) → Thin (map (λ i. i .entry) l) (map (λ i. i .entry) (map (marked hit tx) l))
 marked-thin hit tx [] = done
 marked-thin hit tx (i ∷ l) =
-    stay (ap (λ (e : Entry). e .seq) (marked-entry hit tx i)) (λ h. ap entryOk (marked-entry hit tx i) ∙ h) (marked-thin hit tx l)
+    stay (alike-same (i .entry) (marked hit tx i .entry) (marked-entry hit tx i)) (marked-thin hit tx l)
 
 marked-dseqs : (hit : Inflight → Bool) (tx : Bool) (l : List Inflight) → map (λ i. i .dseq) (map (marked hit tx) l) ≡ map (λ i. i .dseq) l
 marked-dseqs hit tx [] = refl
@@ -149,7 +149,7 @@ free-acked k hit tx s f = refit k s f (map (marked hit tx) (s .inflight)) _ (mar
 -- removed
 kept-thin : (p : Inflight → Bool) (l : List Inflight) → Thin (map (λ i. i .entry) l) (map (λ i. i .entry) (keep p l))
 kept-thin p [] = done
-kept-thin p (i ∷ l) = by-test (p i) (λ c. rw c (stay refl (λ h. h) (kept-thin p l))) (λ c. rw c (skip (kept-thin p l)))
+kept-thin p (i ∷ l) = by-test (p i) (λ c. rw c (stay (alike-refl (i .entry)) (kept-thin p l))) (λ c. rw c (skip (kept-thin p l)))
 
 kept-count : (hit : Inflight → Bool) (l : List Inflight) → tally (λ i. i .freed) l ≡ tally (λ i. hit i && i .freed) l + tally (λ i. i .freed) (keep (λ i. not (hit i)) l)
 kept-count hit [] = refl
@@ -166,8 +166,8 @@ remove-acked k hit s f = refit k s f (keep (λ i. not (hit i)) (s .inflight)) _ 
 bumped-thin : (hit : Inflight → Bool) (l : List Inflight) → Thin (map (λ i. i .entry) l) (map (λ i. i .entry) (map (bumped hit) l))
 bumped-thin hit [] = done
 bumped-thin hit (i ∷ l) = by-test (hit i)
-    (λ c. rw c (stay refl (redelivered-ok (i .entry)) (bumped-thin hit l)))
-    (λ c. rw c (stay refl (λ h. h) (bumped-thin hit l)))
+    (λ c. rw c (stay (alike-redelivered (i .entry)) (bumped-thin hit l)))
+    (λ c. rw c (stay (alike-refl (i .entry)) (bumped-thin hit l)))
 
 bumped-dseqs : (hit : Inflight → Bool) (l : List Inflight) → map (λ i. i .dseq) (map (bumped hit) l) ≡ map (λ i. i .dseq) l
 bumped-dseqs hit [] = refl

@@ -18,7 +18,7 @@ use Rattle.definition.proofs.Tests.{if-true, if-false, by-if, by-test, 
 use Rattle.definition.proofs.Lists.{All}
 use Rattle.definition.proofs.Thin.{tally-length}
 use Rattle.definition.proofs.Ids.{same-sym}
-use Rattle.definition.proofs.Sums.{sum, one, occ, bad, sum-one, sum-keep, thin-ascending, thin-keep, ok-sum, sum-ok, sum-once}
+use Rattle.definition.proofs.Sums.{odd, sum, one, occ, bad, sum-one, sum-keep, thin-ascending, thin-keep, ok-sum, sum-ok, sum-once}
 use Rattle.definition.proofs.Grown.{room-within}
 use Rattle.definition.proofs.Whole.{sums, rowsM, countM, rowsSum, Sane, Once, Fine, fine-more}
 use Rattle.definition.proofs.Each.{thin-once}
@@ -88,9 +88,9 @@ unfolding rowsM
 sane-bad k N s h = ok-sum (rowsOf s) (h .fits .ok)
 
 module _ (L U : ℕ) (k : Kind) where
-  more-fine : (N : ℕ) (t : Dest) (v : Sub) → Fine L U k N t → Sane k N v → length (t .subs) + 1 ≤ 32 → is-some (find (isId (v .id)) (t .subs)) ≡ false → rowsSum one t + rowsM one v ≤ 512 → ((f : Entry → ℕ) → countM f v ≡ 0) →
+  more-fine : (N : ℕ) (t : Dest) (v : Sub) → Fine L U k N t → Sane k N v → length (t .subs) + 1 ≤ 32 → is-some (find (isId (v .id)) (t .subs)) ≡ false → rowsSum one t + rowsM one v ≤ 512 → ((f : Entry → ℕ) → countM f v ≡ 0) → ((f : Entry → ℕ) → rowsM f v ≤ sum f (t .pending)) →
       Fine L U k N (withSubs (t .subs ++ v ∷ []) t)
-  more-fine N t v g y n d r c = record {
+  more-fine N t v g y n d r c w = record {
     kind = g .kind;
     frame = record { limit = g .frame .limit; used = g .frame .used; topic-limit = g .frame .topic-limit; allowance = g .frame .allowance; few-producers = g .frame .few-producers; producers = g .frame .producers; few-audits = g .frame .few-audits; audits = g .frame .audits; holders = g .frame .holders; mark = g .frame .mark };
     few-subs = omega (arith, n, length-append (t .subs) (v ∷ []));
@@ -99,6 +99,7 @@ module _ (L U : ℕ) (k : Kind) where
     rows = omega (arith, r, sums-more (rowsM one) (t .subs) v);
     ok = omega (arith, g .ok, sums-more (rowsM bad) (t .subs) v, sane-bad k N v y);
     once = thin-once k t (withSubs (t .subs ++ v ∷ []) t) (g .once) (λ q f w. omega (arith, sums-more (countM f) (t .subs) v, c f)) (once-topic k t (g .once));
+    agree = λ x. let z = g .agree x in (z .0, omega (arith, z .1, sums-more (rowsM (odd x (z .0))) (t .subs) v, w (odd x (z .0))));
     sorted = g .sorted;
     turn = turn-more (t .rr) (length (t .subs)) (length (t .subs ++ v ∷ [])) (omega (arith, length-append (t .subs) (v ∷ []))) (g .turn);
     counters = g .counters;
@@ -119,8 +120,8 @@ module _ (L U : ℕ) (k : Kind) where
       by-if (λ (u : Dest). Fine L U k (N + 513) (withIdle none u)) (p .browser) _ _
       (λ c. idle-more (N + 512) (N + 513) _ (omega arith) (more-fine (N + 512) browsed (newSub p (some chosen)) seen
       (new-sane k (N + 512) p (some chosen) (omega arith) h (omega (arith, sum-keep bad wanted live, sum-keep bad fresh (t .pending), g .ok)) (λ x. omega (arith, sum-keep (occ x) wanted live, sum-keep (occ x) fresh (t .pending), pending-once k t (g .once) x)) (λ e. ap (λ l. keep wanted (keep fresh l)) (once-topic k t (g .once) e .0)))
-      m d (omega (arith, few c, new-rows one p (some chosen), sum-one chosen, sum-keep one fresh (t .pending))) (λ f. new-count f p (some chosen))))
-      (λ c. idle-more N (N + 513) _ (omega arith) (more-fine N t (newSub p none) g (new-sane k N p none n h (omega arith) (λ x. omega arith) (λ e. refl)) m d (omega (arith, r, new-rows one p none)) (λ f. new-count f p none)))
+      m d (omega (arith, few c, new-rows one p (some chosen), sum-one chosen, sum-keep one fresh (t .pending))) (λ f. new-count f p (some chosen)) (λ f. omega (arith, new-rows f p (some chosen), sum-keep f wanted live))))
+      (λ c. idle-more N (N + 513) _ (omega arith) (more-fine N t (newSub p none) g (new-sane k N p none n h (omega arith) (λ x. omega arith) (λ e. refl)) m d (omega (arith, r, new-rows one p none)) (λ f. new-count f p none) (λ f. omega (arith, new-rows f p none))))
     where
       fresh : Entry → Bool
       fresh e = not (expired (pos (due now t)) e)

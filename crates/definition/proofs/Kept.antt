@@ -209,6 +209,7 @@ open-sound k topicLimit callLimit now allowance h =
       few-audits = refl;
       audits = refl;
       allowance = f .1 .1 .1 .1 .0;
+      sizes = refl;
     })
   where
     stands : (j : Kind) → placed (opened k topicLimit callLimit now allowance) j ≡ true

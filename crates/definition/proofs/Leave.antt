@@ -16,7 +16,7 @@ use Rattle.definition.specs.Destination.{count, isId, subOf, insertAll, 
 use Rattle.definition.specs.Calls.{entryOk, idOk, clockOk, seqs, flying, rowsOf, held, distinctIds}
 use Rattle.definition.proofs.Tests.{if-true, if-false, by-if, by-test, and-left, and-right, and-both}
 use Rattle.definition.proofs.Lists.{none-some, some-inj, All, empty-nil, all-append, all-keep}
-use Rattle.definition.proofs.Thin.{Thin, done, thin-refl, thin-trans, thin-append, thin-ok, thin-distinct, redelivered-ok, map-append, tally-length}
+use Rattle.definition.proofs.Thin.{Thin, done, thin-refl, thin-trans, thin-append, thin-ok, thin-distinct, alike-redelivered, map-append, tally-length}
 use Rattle.definition.proofs.Sums.{sum, Tame, one, one-tame, sum-append, sum-thin, sum-one, sum-keep, sum-insertAll, insertAll-ascending, thin-ascending, thin-keep, thin-redelivered}
 use Rattle.definition.proofs.Fit.{Fit, Acked, refit}
 use Rattle.definition.proofs.Whole.{sums, rowsM, countM, rowsSum, queueSum, Sane, sane-more, Under, all-map, Frame, Fine, fine-more}
@@ -74,7 +74,7 @@ returned-sum f w last j (i ∷ l) = by-bool
     (i .tx)
   where
     once-more : f (if wasDelivered last (i .entry) then redelivered (i .entry) else i .entry) ≤ f (i .entry)
-    once-more = by-if (λ (e : Entry). f e ≤ f (i .entry)) (wasDelivered last (i .entry)) (redelivered (i .entry)) (i .entry) (λ c. w (i .entry) (redelivered (i .entry)) refl (redelivered-ok (i .entry))) (λ c. omega arith)
+    once-more = by-if (λ (e : Entry). f e ≤ f (i .entry)) (wasDelivered last (i .entry)) (redelivered (i .entry)) (i .entry) (λ c. w (i .entry) (redelivered (i .entry)) (alike-redelivered (i .entry))) (λ c. omega arith)
 
 holders-from : (j : Id) (l : List Inflight) → idOk j ≡ true → all (λ h. idOk (h .holder)) (reservedFrom j l) ≡ true
 holders-from j [] h = refl

@@ -22,6 +22,7 @@ pub mod Leave
 pub mod Halves
 pub mod Slow
 pub mod Surplus
+pub mod Bytes
 pub mod Kept
 pub mod Order
 pub mod Room

@@ -23,7 +23,7 @@ use Rattle.definition.proofs.Fit.{Waits, Fit, Acked, ack-acked, null-fi
 use Rattle.definition.proofs.Own.{ack-id, pulling-sub}
 use Rattle.definition.proofs.Grown.{ack-total, prefetch-fit, pulling-fit}
 use Rattle.definition.proofs.Whole.{sums, rowsM, countM, rowsSum, queueSum, Sane, sane-more, Under, under-more, Once, Frame, Fine, fine-more}
-use Rattle.definition.proofs.Each.{Eased, Each, each-refl, each-put, each-fine, renewed, thin-once}
+use Rattle.definition.proofs.Each.{Eased, Each, each-refl, each-put, each-fine, renewed, agree-less, thin-once}
 use Rattle.definition.proofs.Dispatch.{not-topic, under-plus, dispatch-fine, rows-parts}
 
 -- a topic has nothing waiting and nothing reserved
@@ -43,6 +43,7 @@ fine-from L U k N K t u g a b c d e r q n o w y = record {
   rows = omega (arith, r one one-tame, g .rows);
   ok = omega (arith, r bad bad-tame, g .ok);
   once = thin-once k t u (g .once) q n;
+  agree = agree-less t u (g .agree) r;
   sorted = o;
   turn = w;
   counters = y;

@@ -13,14 +13,14 @@ use Rattle.definition.specs.Base.{if_then_else_, keep, tally}
 use Rattle.definition.specs.Types.{Kind, queue, topic, Entry, Sub, Stats, Dest, withCursor, withTpending, withPending}
 use Rattle.definition.specs.Consumer.{expired, accepts, _⊕_, addEnqueued, isBrowser, snapshot}
 use Rattle.definition.specs.Destination.{insert, holdBack, holdBackAll, stored, Trimmed, trim, fanOut, fanOutAll, fannedOut, enqueueBy, dispatchBy, due}
-use Rattle.definition.specs.Calls.{entryOk, flying, rowsOf, rowsFor}
+use Rattle.definition.specs.Calls.{entryOk, flying, rowsOf, held, rowsFor}
 use Rattle.definition.proofs.Tests.{by-if, by-test}
 use Rattle.definition.proofs.Lists.{All, length-map}
 use Rattle.definition.proofs.Thin.{Thin, thin-refl, thin-trans}
-use Rattle.definition.proofs.Sums.{sum, Tame, one, occ, bad, one-tame, occ-tame, bad-tame, sum-append, sum-thin, sum-one, sum-insert, insert-ascending, thin-ascending, thin-keep, thin-drop, keep-tally, occ-yes, occ-no, ok-sum, sum-ok, sum-once, once-sum, bad-ok}
+use Rattle.definition.proofs.Sums.{odd, odd-tame, odd-own, odd-other, sum-odd-occ, sum, Tame, one, occ, bad, one-tame, occ-tame, bad-tame, sum-append, sum-thin, sum-one, sum-insert, insert-ascending, thin-ascending, thin-keep, thin-drop, keep-tally, occ-yes, occ-no, ok-sum, sum-ok, sum-once, once-sum, bad-ok}
 use Rattle.definition.proofs.Fit.{total}
 use Rattle.definition.proofs.Grown.{counted}
-use Rattle.definition.proofs.Whole.{sums, rowsM, countM, rowsSum, Sane, sane-more, under-more, all-map, Fine, fine-more}
+use Rattle.definition.proofs.Whole.{sums, rowsM, countM, rowsSum, Sane, sane-more, under-more, all-map, Agree, Fine, fine-more}
 use Rattle.definition.proofs.Each.{Eased, Each, each-map, ids-same, renewed}
 use Rattle.definition.proofs.Dispatch.{under-plus, dispatch-fine, cursor-rows, cursor-count, cursor-sane}
 use Rattle.definition.proofs.Ops.{subs-fine}
@@ -50,6 +50,18 @@ pub counts-rows : (f : Entry → ℕ) (l : List Sub) → sums (countM f) l ≤ s
 counts-rows f [] = omega arith
 counts-rows f (s ∷ l) = omega (arith, count-rows f s, counts-rows f l)
 
+rows-odd : (x z : ℕ) (l : List Sub) → sums (rowsM (odd x z)) l ≤ sums (rowsM (occ x)) l
+unfolding rowsM
+rows-odd x z [] = omega arith
+rows-odd x z (s ∷ l) = omega (arith, sum-odd-occ x z (rowsOf s), rows-odd x z l)
+
+-- a size for each number, that of a new entry too
+agree-new : (e : Entry) (t : Dest) → Agree t → rowsSum (occ (e .seq)) t ≤ 0 → (x : ℕ) → (z : ℕ) × (odd x z e ≤ 0) × (rowsSum (odd x z) t ≤ 0)
+agree-new e t g o x = by-test (eqb x (e .seq))
+    (λ c. subst⁻¹ (λ (y : ℕ). (z : ℕ) × (odd y z e ≤ 0) × (rowsSum (odd y z) t ≤ 0)) (eqb-true x (e .seq) c)
+    (e .size, omega (arith, odd-own e), omega (arith, o, rows-odd (e .seq) (e .size) (t .subs), sum-odd-occ (e .seq) (e .size) (t .pending), sum-odd-occ (e .seq) (e .size) (held t))))
+    (λ c. let z = g x in (z .0, omega (arith, odd-other x (z .0) e c), z .1))
+
 module _ (L U : ℕ) where
   -- ---- enqueue, on a queue
 
@@ -65,6 +77,7 @@ module _ (L U : ℕ) where
     once = λ x. by-test (eqb x (e .seq))
         (λ c. let p : rowsSum (occ x) t ≤ 0 = subst⁻¹ (λ y. rowsSum (occ y) t ≤ 0) (eqb-true x (e .seq) c) o in omega (arith, p, occ-yes x e c, sum-insert (occ x) e (t .pending), counts-rows (occ x) (t .subs)))
         (λ c. omega (arith, g .once x, occ-no x e c, sum-insert (occ x) e (t .pending)));
+    agree = λ x. let z = agree-new e t (g .agree) o x in (z .0, omega (arith, z .1, z .2, sum-insert (odd x (z .0)) e (t .pending)));
     sorted = insert-ascending e (t .pending) (g .sorted);
     turn = g .turn;
     counters = g .counters;
@@ -86,14 +99,14 @@ module _ (L U : ℕ) where
     ids : map (λ s. s .id) (fanOutAll now limit e l .subs) ≡ map (λ s. s .id) l
     sane : All (Sane topic N) (fanOutAll now limit e l .subs)
     rows : sums (rowsM one) (fanOutAll now limit e l .subs) ≤ sums (rowsM one) l + tally (λ s. accepts s e) l
-    ok : sums (rowsM bad) (fanOutAll now limit e l .subs) ≤ sums (rowsM bad) l
+    more : (f : Entry → ℕ) → Tame f → f e ≤ 0 → sums (rowsM f) (fanOutAll now limit e l .subs) ≤ sums (rowsM f) l
     counts : total (fanOutAll now limit e l .counts) ≤ sums (rowsM one) l + length l
 
   record FannedOne (N : ℕ) (e : Entry) (s : Sub) (a : Bool) (v : Sub) (c : Stats) : Type 0 where
     id : v .id ≡ s .id
     sane : Sane topic N v
     rows : rowsM one v ≤ rowsM one s + (if a then 1 else 0)
-    ok : rowsM bad v ≤ rowsM bad s
+    more : (f : Entry → ℕ) → Tame f → f e ≤ 0 → rowsM f v ≤ rowsM f s
     counts : total c ≤ rowsM one s + 1
 
   list-rows : (f : Entry → ℕ) (l : List Entry) (s : Sub) → rowsM f (withTpending l s) ≡ sum f (flying s) + (sum f l + sum f (snapshot s))
@@ -167,14 +180,14 @@ module _ (L U : ℕ) where
         id = refl;
         sane = fan-sane N e m s h k o (w .thin);
         rows = omega (arith, fan-sum one one-tame e m s (w .thin));
-        ok = omega (arith, fan-sum bad bad-tame e m s (w .thin), bad-ok e k);
+        more = λ f y z. omega (arith, fan-sum f y e m s (w .thin), z);
         counts = omega (arith, w .counts, insert-length e s);
       }))
-      (λ c. rw c (record { id = refl; sane = h; rows = omega arith; ok = omega arith; counts = omega arith }))
+      (λ c. rw c (record { id = refl; sane = h; rows = omega arith; more = λ f y z. omega arith; counts = omega arith }))
 
   fan-all : (N now limit : ℕ) (e : Entry) (l : List Sub) → All (Sane topic N) l → entryOk e ≡ true → sums (rowsM (occ (e .seq))) l ≤ 0 → Fanned N now limit e l
   unfolding fanOutAll
-  fan-all N now limit e [] a k o = record { ids = refl; sane = tt; rows = omega arith; ok = omega arith; counts = omega arith }
+  fan-all N now limit e [] a k o = record { ids = refl; sane = tt; rows = omega arith; more = λ f y z. omega arith; counts = omega arith }
   fan-all N now limit e (s ∷ l) a k o =
       let p = fan-one N now limit e s (a .0) k (omega (arith, o)) in
       let r = fan-all N now limit e l (a .1) k (omega (arith, o)) in
@@ -182,7 +195,7 @@ module _ (L U : ℕ) where
         ids = ap (λ i. i ∷ map (λ s. s .id) (fanOutAll now limit e l .subs)) (p .id) ∙ ap (λ x. s .id ∷ x) (r .ids);
         sane = (p .sane, r .sane);
         rows = omega (arith, p .rows, r .rows);
-        ok = omega (arith, p .ok, r .ok);
+        more = λ f y z. omega (arith, p .more f y z, r .more f y z);
         counts = omega (arith, p .counts, r .counts);
       }
 
@@ -197,8 +210,9 @@ module _ (L U : ℕ) where
         subs = all-map (Sane topic N) (Sane topic (N + 1024)) (fanOutAll now (t .topicLimit) e (t .subs) .subs) (λ s. sane-more topic N (N + 1024) s (omega arith)) (p .sane);
         ids = ids-same (t .subs) (fanOutAll now (t .topicLimit) e (t .subs) .subs) (p .ids) ∙ g .ids;
         rows = omega (arith, r, p .rows);
-        ok = omega (arith, g .ok, p .ok);
+        ok = omega (arith, g .ok, p .more bad bad-tame (omega (arith, bad-ok e k)));
         once = g .once;
+        agree = λ x. let z = agree-new e t (g .agree) o x in (z .0, omega (arith, z .2, p .more (odd x (z .0)) (odd-tame x (z .0)) (z .1)));
         sorted = g .sorted;
         turn = ap (λ n. ltb (t .rr) n || eqb (t .rr) 0) n ∙ g .turn;
         counters = under-more (N + 1 + 1000) (N + 1024) _ (omega arith) (under-plus (N + 1) 1000 (t .stats ⊕ addEnqueued 1) (fanOutAll now (t .topicLimit) e (t .subs) .counts) (under-plus N 1 (t .stats) (addEnqueued 1) (g .counters) (omega arith)) (omega (arith, p .counts, g .rows, g .few-subs)));

@@ -12,11 +12,12 @@ use Rattle.definition.specs.Base.{all, find, put, ascending}
 use Rattle.definition.specs.Types.{Kind, queue, topic, Id, Sub, Stats, Dest}
 use Rattle.definition.specs.Consumer.{sameId, _⊕_}
 use Rattle.definition.specs.Destination.{isId, subOf}
-use Rattle.definition.specs.Calls.{Request, asking, argumentsOk, requestOk, used, bound, seqs, rowsOf, subSound, consumerRows, taken, held, allRows, distinctIds, countersOk, placed, soundTests, sound, idOk, entryOk, optional, clockOk, auditOk}
+use Rattle.definition.specs.Calls.{sizesAgree, Request, asking, argumentsOk, requestOk, used, bound, seqs, rowsOf, subSound, consumerRows, taken, held, allRows, distinctIds, countersOk, placed, soundTests, sound, idOk, entryOk, optional, clockOk, auditOk}
 use Rattle.definition.proofs.Tests.{if-true, if-false, by-test, and-left, and-right, and-both}
 use Rattle.definition.proofs.Lists.{none-some, some-inj, length-put}
 use Rattle.definition.proofs.Thin.{every-all, all-every, Thin, done, thin-refl, thin-append, thin-length, thin-distinct}
 use Rattle.definition.proofs.Local.{changed}
+use Rattle.definition.proofs.Sums.{odd, odd-tame, sum-thin, agree-sum, sum-agree}
 use Rattle.definition.proofs.Own.{own, own-id}
 use Rattle.definition.proofs.Fit.{Waits, Fit, fit, unfit, total}
 use Rattle.definition.proofs.Grown.{Grown, own-grown, counted, Flight}
@@ -96,16 +97,17 @@ pub record Facts (t : Dest) : Type 0 where
   pub few-audits : leb (length (t .audits)) 8 ≡ true
   pub audits : all auditOk (t .audits) ≡ true
   pub allowance : leb (t .allowance) 86400000 ≡ true
+  pub sizes : sizesAgree (allRows t) ≡ true
 
 pub facts : (t : Dest) → sound t ≡ true → Facts t
 unfolding sound
 facts t e =
     let f = every-all (soundTests t) e in
-    record { limit-low = f .0; limit-high = f .1 .0; calls = f .1 .1 .0; topic-limit = f .1 .1 .1 .0; few-subs = f .1 .1 .1 .1 .0; few-producers = f .1 .1 .1 .1 .1 .0; producers = f .1 .1 .1 .1 .1 .1 .0; few-rows = f .1 .1 .1 .1 .1 .1 .1 .0; entries = f .1 .1 .1 .1 .1 .1 .1 .1 .0; holders = f .1 .1 .1 .1 .1 .1 .1 .1 .1 .0; sorted = f .1 .1 .1 .1 .1 .1 .1 .1 .1 .1 .0; consumers = f .1 .1 .1 .1 .1 .1 .1 .1 .1 .1 .1 .0; ids = f .1 .1 .1 .1 .1 .1 .1 .1 .1 .1 .1 .1 .0; places = f .1 .1 .1 .1 .1 .1 .1 .1 .1 .1 .1 .1 .1 .0; turn = f .1 .1 .1 .1 .1 .1 .1 .1 .1 .1 .1 .1 .1 .1 .0; counters = f .1 .1 .1 .1 .1 .1 .1 .1 .1 .1 .1 .1 .1 .1 .1 .0; mark = f .1 .1 .1 .1 .1 .1 .1 .1 .1 .1 .1 .1 .1 .1 .1 .1 .0; few-audits = f .1 .1 .1 .1 .1 .1 .1 .1 .1 .1 .1 .1 .1 .1 .1 .1 .1 .0; audits = f .1 .1 .1 .1 .1 .1 .1 .1 .1 .1 .1 .1 .1 .1 .1 .1 .1 .1 .0; allowance = f .1 .1 .1 .1 .1 .1 .1 .1 .1 .1 .1 .1 .1 .1 .1 .1 .1 .1 .1 .0 }
+    record { limit-low = f .0; limit-high = f .1 .0; calls = f .1 .1 .0; topic-limit = f .1 .1 .1 .0; few-subs = f .1 .1 .1 .1 .0; few-producers = f .1 .1 .1 .1 .1 .0; producers = f .1 .1 .1 .1 .1 .1 .0; few-rows = f .1 .1 .1 .1 .1 .1 .1 .0; entries = f .1 .1 .1 .1 .1 .1 .1 .1 .0; holders = f .1 .1 .1 .1 .1 .1 .1 .1 .1 .0; sorted = f .1 .1 .1 .1 .1 .1 .1 .1 .1 .1 .0; consumers = f .1 .1 .1 .1 .1 .1 .1 .1 .1 .1 .1 .0; ids = f .1 .1 .1 .1 .1 .1 .1 .1 .1 .1 .1 .1 .0; places = f .1 .1 .1 .1 .1 .1 .1 .1 .1 .1 .1 .1 .1 .0; turn = f .1 .1 .1 .1 .1 .1 .1 .1 .1 .1 .1 .1 .1 .1 .0; counters = f .1 .1 .1 .1 .1 .1 .1 .1 .1 .1 .1 .1 .1 .1 .1 .0; mark = f .1 .1 .1 .1 .1 .1 .1 .1 .1 .1 .1 .1 .1 .1 .1 .1 .0; few-audits = f .1 .1 .1 .1 .1 .1 .1 .1 .1 .1 .1 .1 .1 .1 .1 .1 .1 .0; audits = f .1 .1 .1 .1 .1 .1 .1 .1 .1 .1 .1 .1 .1 .1 .1 .1 .1 .1 .0; allowance = f .1 .1 .1 .1 .1 .1 .1 .1 .1 .1 .1 .1 .1 .1 .1 .1 .1 .1 .1 .0; sizes = f .1 .1 .1 .1 .1 .1 .1 .1 .1 .1 .1 .1 .1 .1 .1 .1 .1 .1 .1 .1 .0 }
 
 pub from-facts : (t : Dest) → Facts t → sound t ≡ true
 unfolding sound
-from-facts t f = all-every (soundTests t) (f .limit-low, (f .limit-high, (f .calls, (f .topic-limit, (f .few-subs, (f .few-producers, (f .producers, (f .few-rows, (f .entries, (f .holders, (f .sorted, (f .consumers, (f .ids, (f .places, (f .turn, (f .counters, (f .mark, (f .few-audits, (f .audits, (f .allowance, tt))))))))))))))))))))
+from-facts t f = all-every (soundTests t) (f .limit-low, (f .limit-high, (f .calls, (f .topic-limit, (f .few-subs, (f .few-producers, (f .producers, (f .few-rows, (f .entries, (f .holders, (f .sorted, (f .consumers, (f .ids, (f .places, (f .turn, (f .counters, (f .mark, (f .few-audits, (f .audits, (f .allowance, (f .sizes, tt)))))))))))))))))))))
 
 -- ---- bounds that rise with the calls used
 
@@ -156,6 +158,7 @@ own-sound i q s t found a h e = from-facts (used (changed i v c t)) (record {
   few-audits = f .few-audits;
   audits = f .audits;
   allowance = f .allowance;
+  sizes = sum-agree (t .pending ++ (held t ++ consumerRows (put (isId i) v (t .subs)))) (λ x. let z = agree-sum (allRows t) (f .sizes) x in (z .0, omega (arith, z .1, sum-thin (odd x (z .0)) (odd-tame x (z .0)) _ _ thinner)));
 })
   where
     v : Sub

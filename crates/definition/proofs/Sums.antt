@@ -1,7 +1,7 @@
 -- Measures of lists of entries: a sum over the entries, whatever their order. Assumes nothing.
 use Prim.Native.Nat.{ℕ, suc, _+_, _≤_}
 use native.Mathlib.Omega.{arith}
-use mathlib.Core.Path.{_≡_, refl, sym, _∙_, ap}
+use mathlib.Core.Path.{_≡_, refl, sym, _∙_, ap, subst, subst⁻¹}
 use mathlib.Core.Bool.{Bool, true, false, not, _||_, true≢false}
 use mathlib.Core.List.{List, [], _∷_, _++_, map}
 use lib.Dec.{ltb, eqb}
@@ -11,9 +11,9 @@ use Rattle.definition.specs.Base.{if_then_else_, keep, tally, all, membe
 use Rattle.definition.specs.Types.{Entry}
 use Rattle.definition.specs.Consumer.{redelivered}
 use Rattle.definition.specs.Destination.{insert, insertAll}
-use Rattle.definition.specs.Calls.{entryOk, seqs}
+use Rattle.definition.specs.Calls.{entryOk, seqs, sizesAgree}
 use Rattle.definition.proofs.Tests.{by-test, and-left, and-right, and-both}
-use Rattle.definition.proofs.Thin.{Thin, done, skip, stay, redelivered-ok, thin-refl}
+use Rattle.definition.proofs.Thin.{Alike, alike-refl, alike-redelivered, Thin, done, skip, stay, thin-refl}
 
 abbrev pub sum : (Entry → ℕ) → List Entry → ℕ
 sum f [] = 0
@@ -21,7 +21,7 @@ sum f (e ∷ l) = f e + sum f l
 
 -- a measure that does not rise when an entry's other fields change within their ranges
 abbrev pub Tame : (Entry → ℕ) → Type 0
-Tame f = (e g : Entry) → g .seq ≡ e .seq → (entryOk e ≡ true → entryOk g ≡ true) → f g ≤ f e
+Tame f = (e g : Entry) → Alike e g → f g ≤ f e
 
 -- the number of entries, of those with the number x, of those out of range
 abbrev pub one : Entry → ℕ
@@ -34,15 +34,15 @@ unfoldable pub bad : Entry → ℕ
 bad e = if entryOk e then 0 else 1
 
 pub one-tame : Tame one
-one-tame e g p q = omega arith
+one-tame e g a = omega arith
 
 pub occ-tame : (x : ℕ) → Tame (occ x)
 unfolding occ
-occ-tame x e g p q = by-test (eqb x (e .seq)) (λ c. rw (p, c) (omega arith)) (λ c. rw (p, c) (omega arith))
+occ-tame x e g a = by-test (eqb x (e .seq)) (λ c. rw (a .seq, c) (omega arith)) (λ c. rw (a .seq, c) (omega arith))
 
 pub bad-tame : Tame bad
 unfolding bad
-bad-tame e g p q = by-test (entryOk e) (λ c. rw (c, q c) (omega arith)) (λ c. rw c (by-test (entryOk g) (λ d. rw d (omega arith)) (λ d. rw d (omega arith))))
+bad-tame e g a = by-test (entryOk e) (λ c. rw (c, a .ok c) (omega arith)) (λ c. rw c (by-test (entryOk g) (λ d. rw d (omega arith)) (λ d. rw d (omega arith))))
 
 -- ---- sums of lists
 
@@ -54,7 +54,7 @@ module _ (f : Entry → ℕ) where
   pub sum-thin : Tame f → (l m : List Entry) → Thin l m → sum f m ≤ sum f l
   sum-thin h l m done = omega arith
   sum-thin h l m (skip {e = e} {l = l′} r) = omega (arith, sum-thin h l′ m r)
-  sum-thin h l m (stay {e = e} {f = g} {l = l′} {m = m′} a b r) = omega (arith, h e g a b, sum-thin h l′ m′ r)
+  sum-thin h l m (stay {e = e} {f = g} {l = l′} {m = m′} a r) = omega (arith, h e g a, sum-thin h l′ m′ r)
 
   pub sum-insert : (e : Entry) (l : List Entry) → sum f (insert e l) ≤ f e + sum f l
   sum-insert e [] = omega arith
@@ -132,6 +132,70 @@ sum-once (e ∷ l) h =
     let m : member (e .seq) (seqs l) ≡ false = occ-no-member (e .seq) l (omega (arith, h (e .seq), occ-yes (e .seq) e (eq-eqb (e .seq) (e .seq) refl))) in
     rw m (sum-once l (λ x. omega (arith, h x)))
 
+-- ---- one size for a number
+
+-- those with the number x that have another size than z
+unfoldable pub odd : ℕ → ℕ → Entry → ℕ
+odd x z e = if eqb x (e .seq) then (if eqb z (e .size) then 0 else 1) else 0
+
+pub odd-tame : (x z : ℕ) → Tame (odd x z)
+unfolding odd
+odd-tame x z e g a = rw (a .seq, a .size) (omega arith)
+
+pub odd-occ : (x z : ℕ) (e : Entry) → odd x z e ≤ occ x e
+unfolding odd occ
+odd-occ x z e = by-test (eqb x (e .seq)) (λ c. by-test (eqb z (e .size)) (λ d. rw (c, d) (omega arith)) (λ d. rw (c, d) (omega arith))) (λ c. rw c (omega arith))
+
+-- its own size is not odd, nor is another number
+pub odd-own : (e : Entry) → odd (e .seq) (e .size) e ≡ 0
+unfolding odd
+odd-own e = rw (eq-eqb (e .seq) (e .seq) refl, eq-eqb (e .size) (e .size) refl)
+
+pub odd-other : (x z : ℕ) (e : Entry) → eqb x (e .seq) ≡ false → odd x z e ≡ 0
+unfolding odd
+odd-other x z e h = rw h
+
+odd-size : (z : ℕ) (e : Entry) → odd (e .seq) z e ≡ 0 → z ≡ e .size
+unfolding odd
+odd-size z e = rw (eq-eqb (e .seq) (e .seq) refl) (by-test (eqb z (e .size)) (λ c h. eqb-true z (e .size) c) (λ c. rw c (λ h. absurd (omega (arith, h)))))
+
+pub sum-odd-occ : (x z : ℕ) (l : List Entry) → sum (odd x z) l ≤ sum (occ x) l
+sum-odd-occ x z [] = omega arith
+sum-odd-occ x z (e ∷ l) = omega (arith, odd-occ x z e, sum-odd-occ x z l)
+
+abbrev like : Entry → Entry → Bool
+like e f = not (eqb (e .seq) (f .seq)) || eqb (e .size) (f .size)
+
+like-one : (e f : Entry) → like e f ≡ true → odd (e .seq) (e .size) f ≡ 0
+unfolding odd
+like-one e f = by-test (eqb (e .seq) (f .seq)) (λ c. rw c (λ d. rw d)) (λ c. rw c (λ d. refl))
+
+like-odd : (e : Entry) (l : List Entry) → all (like e) l ≡ true → sum (odd (e .seq) (e .size)) l ≡ 0
+like-odd e [] h = refl
+like-odd e (f ∷ l) h = omega (arith, like-one e f (and-left (like e f) _ h), like-odd e l (and-right (like e f) _ h))
+
+one-like : (e f : Entry) → odd (e .seq) (e .size) f ≡ 0 → like e f ≡ true
+unfolding odd
+one-like e f = by-test (eqb (e .seq) (f .seq)) (λ c. rw c (by-test (eqb (e .size) (f .size)) (λ d. rw d (λ h. refl)) (λ d. rw d (λ h. absurd (omega (arith, h)))))) (λ c. rw c (λ h. refl))
+
+odd-like : (e : Entry) (l : List Entry) → sum (odd (e .seq) (e .size)) l ≤ 0 → all (like e) l ≡ true
+odd-like e [] h = refl
+odd-like e (f ∷ l) h = and-both (like e f) _ (one-like e f (omega (arith, h))) (odd-like e l (omega (arith, h)))
+
+pub agree-sum : (l : List Entry) → sizesAgree l ≡ true → (x : ℕ) → (z : ℕ) × (sum (odd x z) l ≤ 0)
+agree-sum [] h x = (0, omega arith)
+agree-sum (e ∷ l) h x = by-test (eqb x (e .seq))
+    (λ c. subst⁻¹ (λ (y : ℕ). (z : ℕ) × (sum (odd y z) (e ∷ l) ≤ 0)) (eqb-true x (e .seq) c) (e .size, omega (arith, odd-own e, like-odd e l (and-left (all (like e) l) _ h))))
+    (λ c. let r = agree-sum l (and-right (all (like e) l) _ h) x in (r .0, omega (arith, odd-other x (r .0) e c, r .1)))
+
+pub sum-agree : (l : List Entry) → ((x : ℕ) → (z : ℕ) × (sum (odd x z) l ≤ 0)) → sizesAgree l ≡ true
+sum-agree [] h = refl
+sum-agree (e ∷ l) h =
+    let r = h (e .seq) in
+    let z : r .0 ≡ e .size = odd-size (r .0) e (omega (arith, r .1)) in
+    let m : sum (odd (e .seq) (e .size)) l ≤ 0 = subst (λ (y : ℕ). sum (odd (e .seq) y) l ≤ 0) z (omega (arith, r .1)) in
+    and-both (all (like e) l) _ (odd-like e l m) (sum-agree l (λ x. (h x .0, omega (arith, h x .1))))
+
 -- ---- rising numbers
 
 thin-rising : (k : ℕ) (l m : List Entry) → Thin l m → rising k (seqs l) ≡ true → rising k (seqs m) ≡ true
@@ -141,8 +205,8 @@ thin-rising k l m (skip {e = e} {l = l′} r) h = thin-rising k l′ m r (lower 
     lower : (j i : ℕ) (n : List ℕ) → ltb j i ≡ true → rising i n ≡ true → rising j n ≡ true
     lower j i [] a b = refl
     lower j i (x ∷ n) a b = and-both (ltb j x) (rising x n) (lt-ltb j x (omega (arith, ltb-true j i a, ltb-true i x (and-left (ltb i x) (rising x n) b)))) (and-right (ltb i x) (rising x n) b)
-thin-rising k l m (stay {e = e} {f = g} {l = l′} {m = m′} a b r) h =
-    rw a (and-both (ltb k (e .seq)) (rising (e .seq) (seqs m′)) (and-left (ltb k (e .seq)) _ h) (thin-rising (e .seq) l′ m′ r (and-right (ltb k (e .seq)) _ h)))
+thin-rising k l m (stay {e = e} {f = g} {l = l′} {m = m′} a r) h =
+    rw (a .seq) (and-both (ltb k (e .seq)) (rising (e .seq) (seqs m′)) (and-left (ltb k (e .seq)) _ h) (thin-rising (e .seq) l′ m′ r (and-right (ltb k (e .seq)) _ h)))
 
 pub thin-ascending : (l m : List Entry) → Thin l m → ascending (seqs l) ≡ true → ascending (seqs m) ≡ true
 thin-ascending l m done h = h
@@ -151,7 +215,7 @@ thin-ascending l m (skip {e = e} {l = l′} r) h = thin-ascending l′ m r (from
     from : (n : List ℕ) → rising (e .seq) n ≡ true → ascending n ≡ true
     from [] h = refl
     from (x ∷ n) h = and-right (ltb (e .seq) x) (rising x n) h
-thin-ascending l m (stay {e = e} {f = g} {l = l′} {m = m′} a b r) h = rw a (thin-rising (e .seq) l′ m′ r h)
+thin-ascending l m (stay {e = e} {f = g} {l = l′} {m = m′} a r) h = rw (a .seq) (thin-rising (e .seq) l′ m′ r h)
 
 -- an insertion
 insert-rising : (k : ℕ) (e : Entry) (l : List Entry) → ltb k (e .seq) ≡ true → rising k (seqs l) ≡ true → rising k (seqs (insert e l)) ≡ true
@@ -181,17 +245,17 @@ insertAll-ascending (e ∷ l) m h = insertAll-ascending l (insert e m) (insert-a
 
 pub thin-keep : (p : Entry → Bool) (l : List Entry) → Thin l (keep p l)
 thin-keep p [] = done
-thin-keep p (e ∷ l) = by-test (p e) (λ c. rw c (stay refl (λ h. h) (thin-keep p l))) (λ c. rw c (skip (thin-keep p l)))
+thin-keep p (e ∷ l) = by-test (p e) (λ c. rw c (stay (alike-refl e) (thin-keep p l))) (λ c. rw c (skip (thin-keep p l)))
 
 pub thin-drop : (n : ℕ) (l : List Entry) → Thin l (drop n l)
 thin-drop ℕ.zero [] = done
 thin-drop (ℕ.suc n) [] = done
-thin-drop ℕ.zero (e ∷ l) = stay refl (λ h. h) (thin-refl l)
+thin-drop ℕ.zero (e ∷ l) = stay (alike-refl e) (thin-refl l)
 thin-drop (ℕ.suc n) (e ∷ l) = skip (thin-drop n l)
 
 pub thin-redelivered : (l : List Entry) → Thin l (map redelivered l)
 thin-redelivered [] = done
-thin-redelivered (e ∷ l) = stay refl (redelivered-ok e) (thin-redelivered l)
+thin-redelivered (e ∷ l) = stay (alike-redelivered e) (thin-redelivered l)
 
 pub keep-tally : (p : Entry → Bool) (l : List Entry) → length (keep (λ e. not (p e)) l) + tally p l ≡ length l
 keep-tally p [] = refl

@@ -38,25 +38,44 @@ more-within (negsuc (suc k)) h = lt-ltb k (2 ^ 31) (omega (arith, ltb-true (suc 
 
 pub redelivered-ok : (e : Entry) → entryOk e ≡ true → entryOk (redelivered e) ≡ true
 redelivered-ok e h =
-    let f = every-all (leb 1 (e .seq) ∷ ltb (e .seq) (2 ^ 63) ∷ within (2 ^ 63) (e .expiration) ∷ ltb (e .producer) (2 ^ 64) ∷ ltb (e .«match_word») (2 ^ 64) ∷ within (2 ^ 31) (e .redelivery) ∷ []) h in
-    all-every (leb 1 (e .seq) ∷ ltb (e .seq) (2 ^ 63) ∷ within (2 ^ 63) (e .expiration) ∷ ltb (e .producer) (2 ^ 64) ∷ ltb (e .«match_word») (2 ^ 64) ∷ within (2 ^ 31) (oneMore (e .redelivery)) ∷ [])
-    (f .0, (f .1 .0, (f .1 .1 .0, (f .1 .1 .1 .0, (f .1 .1 .1 .1 .0, (more-within (e .redelivery) (f .1 .1 .1 .1 .1 .0), tt))))))
+    let f = every-all (leb 1 (e .seq) ∷ ltb (e .seq) (2 ^ 63) ∷ within (2 ^ 63) (e .expiration) ∷ ltb (e .producer) (2 ^ 64) ∷ ltb (e .«match_word») (2 ^ 64) ∷ within (2 ^ 31) (e .redelivery) ∷ ltb (e .size) (2 ^ 32) ∷ []) h in
+    all-every (leb 1 (e .seq) ∷ ltb (e .seq) (2 ^ 63) ∷ within (2 ^ 63) (e .expiration) ∷ ltb (e .producer) (2 ^ 64) ∷ ltb (e .«match_word») (2 ^ 64) ∷ within (2 ^ 31) (oneMore (e .redelivery)) ∷ ltb (e .size) (2 ^ 32) ∷ [])
+    (f .0, (f .1 .0, (f .1 .1 .0, (f .1 .1 .1 .0, (f .1 .1 .1 .1 .0, (more-within (e .redelivery) (f .1 .1 .1 .1 .1 .0), (f .1 .1 .1 .1 .1 .1 .0, tt)))))))
+
+-- ---- an entry that changes no more than a redelivery does
+
+pub record Alike (e f : Entry) : Type 0 where
+  pub seq : f .seq ≡ e .seq
+  pub size : f .size ≡ e .size
+  pub ok : entryOk e ≡ true → entryOk f ≡ true
+
+pub alike-refl : (e : Entry) → Alike e e
+alike-refl e = record { seq = refl; size = refl; ok = λ h. h }
+
+pub alike-same : (e f : Entry) → f ≡ e → Alike e f
+alike-same e f h = record { seq = ap (λ (x : Entry). x .seq) h; size = ap (λ (x : Entry). x .size) h; ok = λ k. ap entryOk h ∙ k }
+
+pub alike-redelivered : (e : Entry) → Alike e (redelivered e)
+alike-redelivered e = record { seq = refl; size = refl; ok = redelivered-ok e }
+
+pub alike-trans : (e f g : Entry) → Alike e f → Alike f g → Alike e g
+alike-trans e f g a b = record { seq = b .seq ∙ a .seq; size = b .size ∙ a .size; ok = λ h. b .ok (a .ok h) }
 
 -- ---- thinner lists of entries
 
 pub data Thin : List Entry → List Entry → Type 0 where
   done : Thin [] []
   skip : {e : Entry} {l m : List Entry} → Thin l m → Thin (e ∷ l) m
-  stay : {e f : Entry} {l m : List Entry} → f .seq ≡ e .seq → (entryOk e ≡ true → entryOk f ≡ true) → Thin l m → Thin (e ∷ l) (f ∷ m)
+  stay : {e f : Entry} {l m : List Entry} → Alike e f → Thin l m → Thin (e ∷ l) (f ∷ m)
 
 pub thin-refl : (l : List Entry) → Thin l l
 thin-refl [] = done
-thin-refl (e ∷ l) = stay refl (λ h. h) (thin-refl l)
+thin-refl (e ∷ l) = stay (alike-refl e) (thin-refl l)
 
 pub thin-append : {l m : List Entry} (p q : List Entry) → Thin l m → Thin p q → Thin (l ++ p) (m ++ q)
 thin-append p q done t = t
 thin-append p q (skip r) t = skip (thin-append p q r t)
-thin-append p q (stay a b r) t = stay a b (thin-append p q r t)
+thin-append p q (stay a r) t = stay a (thin-append p q r t)
 
 pub thin-none : (l : List Entry) → Thin l []
 thin-none [] = done
@@ -65,36 +84,36 @@ thin-none (e ∷ l) = skip (thin-none l)
 pub thin-trans : (l m k : List Entry) → Thin l m → Thin m k → Thin l k
 thin-trans l m k done t = t
 thin-trans l m k (skip {l = l′} r) t = skip (thin-trans l′ m k r t)
-thin-trans l m k (stay {e = e} {f = f} {l = l′} {m = m′} a b r) t = go k t (λ k′ t′. thin-trans l′ m′ k′ r t′)
+thin-trans l m k (stay {e = e} {f = f} {l = l′} {m = m′} a r) t = go k t (λ k′ t′. thin-trans l′ m′ k′ r t′)
   where
     go : (k : List Entry) → Thin (f ∷ m′) k → ((k′ : List Entry) → Thin m′ k′ → Thin l′ k′) → Thin (e ∷ l′) k
     go k (skip u) ih = skip (ih k u)
-    go k (stay {f = g} {m = k′} c d u) ih = stay (c ∙ a) (λ h. d (b h)) (ih k′ u)
+    go k (stay {f = g} {m = k′} c u) ih = stay (alike-trans e f g a c) (ih k′ u)
 
 pub thin-length : (l m : List Entry) → Thin l m → length m ≤ length l
 thin-length l m done = omega arith
 thin-length l m (skip {l = l′} r) = omega (arith, thin-length l′ m r)
-thin-length l m (stay {l = l′} {m = m′} a b r) = omega (arith, thin-length l′ m′ r)
+thin-length l m (stay {l = l′} {m = m′} a r) = omega (arith, thin-length l′ m′ r)
 
 pub thin-ok : (l m : List Entry) → Thin l m → all entryOk l ≡ true → all entryOk m ≡ true
 thin-ok l m done h = h
 thin-ok l m (skip {e = e} {l = l′} r) h = thin-ok l′ m r (and-right (entryOk e) (all entryOk l′) h)
-thin-ok l m (stay {e = e} {f = f} {l = l′} {m = m′} a b r) h =
-    and-both (entryOk f) (all entryOk m′) (b (and-left (entryOk e) (all entryOk l′) h)) (thin-ok l′ m′ r (and-right (entryOk e) (all entryOk l′) h))
+thin-ok l m (stay {e = e} {f = f} {l = l′} {m = m′} a r) h =
+    and-both (entryOk f) (all entryOk m′) (a .ok (and-left (entryOk e) (all entryOk l′) h)) (thin-ok l′ m′ r (and-right (entryOk e) (all entryOk l′) h))
 
 thin-member : (x : ℕ) (l m : List Entry) → Thin l m → member x (seqs l) ≡ false → member x (seqs m) ≡ false
 thin-member x l m done h = h
 thin-member x l m (skip {e = e} {l = l′} r) h = thin-member x l′ m r (or-no-right (eqb x (e .seq)) (member x (seqs l′)) h)
-thin-member x l m (stay {e = e} {f = f} {l = l′} {m = m′} a b r) h =
-    let p : eqb x (f .seq) ≡ false = ap (λ (y : ℕ). eqb x y) a ∙ or-no-left (eqb x (e .seq)) (member x (seqs l′)) h in
+thin-member x l m (stay {e = e} {f = f} {l = l′} {m = m′} a r) h =
+    let p : eqb x (f .seq) ≡ false = ap (λ (y : ℕ). eqb x y) (a .seq) ∙ or-no-left (eqb x (e .seq)) (member x (seqs l′)) h in
     rw p (thin-member x l′ m′ r (or-no-right (eqb x (e .seq)) (member x (seqs l′)) h))
 
 pub thin-distinct : (l m : List Entry) → Thin l m → distinct (seqs l) ≡ true → distinct (seqs m) ≡ true
 thin-distinct l m done h = h
 thin-distinct l m (skip {e = e} {l = l′} r) h = thin-distinct l′ m r (and-right (not (member (e .seq) (seqs l′))) (distinct (seqs l′)) h)
-thin-distinct l m (stay {e = e} {f = f} {l = l′} {m = m′} a b r) h =
+thin-distinct l m (stay {e = e} {f = f} {l = l′} {m = m′} a r) h =
     let p : member (f .seq) (seqs m′) ≡ false
-    = ap (λ (y : ℕ). member y (seqs m′)) a ∙ thin-member (e .seq) l′ m′ r (not-true (member (e .seq) (seqs l′)) (and-left (not (member (e .seq) (seqs l′))) (distinct (seqs l′)) h)) in
+    = ap (λ (y : ℕ). member y (seqs m′)) (a .seq) ∙ thin-member (e .seq) l′ m′ r (not-true (member (e .seq) (seqs l′)) (and-left (not (member (e .seq) (seqs l′))) (distinct (seqs l′)) h)) in
     rw p (thin-distinct l′ m′ r (and-right (not (member (e .seq) (seqs l′))) (distinct (seqs l′)) h))
 
 -- ---- rising numbers

@@ -14,7 +14,7 @@ use Rattle.definition.specs.Calls.{used, bound, idOk, optional, clockOk,
 use Rattle.definition.proofs.Tests.{and-left, and-right, and-both}
 use Rattle.definition.proofs.Lists.{All, empty-nil}
 use Rattle.definition.proofs.Thin.{every-all, all-every}
-use Rattle.definition.proofs.Sums.{sum, one, occ, bad, sum-append, sum-one, ok-sum, sum-ok, once-sum, sum-once}
+use Rattle.definition.proofs.Sums.{sum, one, occ, bad, odd, agree-sum, sum-agree, sum-append, sum-one, ok-sum, sum-ok, once-sum, sum-once}
 use Rattle.definition.proofs.Fit.{Waits, Fit, fit, unfit}
 use Rattle.definition.proofs.Grown.{counted}
 use Rattle.definition.proofs.Sound.{facts, from-facts, waits-more}
@@ -68,6 +68,10 @@ abbrev pub Once : Kind → Dest → Type 0
 Once queue t = (x : ℕ) → queueSum (occ x) t ≤ 1
 Once topic t = (t .pending ≡ []) × (t .reserved ≡ [])
 
+-- copies with one number have one size
+abbrev pub Agree : Dest → Type 0
+Agree t = (x : ℕ) → (z : ℕ) × (rowsSum (odd x z) t ≤ 0)
+
 -- the fields that no dispatch touches
 pub record Frame (L U : ℕ) (t : Dest) : Type 0 where
   pub limit : t .callLimit ≡ L
@@ -90,6 +94,7 @@ pub record Fine (L U : ℕ) (k : Kind) (N : ℕ) (t : Dest) : Type 0 where
   pub rows : rowsSum one t ≤ 512
   pub ok : rowsSum bad t ≤ 0
   pub once : Once k t
+  pub agree : Agree t
   pub sorted : ascending (seqs (t .pending)) ≡ true
   pub turn : (ltb (t .rr) (length (t .subs)) || eqb (t .rr) 0) ≡ true
   pub counters : Under N (t .stats)
@@ -116,6 +121,7 @@ fine-more L U k M N t h f = record {
   rows = f .rows;
   ok = f .ok;
   once = f .once;
+  agree = f .agree;
   sorted = f .sorted;
   turn = f .turn;
   counters = under-more M N (t .stats) h (f .counters);
@@ -176,6 +182,7 @@ fine t e =
       rows = omega (arith, leb-true (length (allRows t)) 512 (f .few-rows), rows-length one t, sum-one (allRows t));
       ok = omega (arith, ok-sum (t .pending ++ held t) (f .entries), sum-append bad (t .pending) (held t), rows-bad (t .kind) (bound (t .callsUsed)) (t .subs) s);
       once = placed-once (t .kind) t (f .places);
+      agree = λ x. let z = agree-sum (allRows t) (f .sizes) x in (z .0, omega (arith, z .1, rows-length (odd x (z .0)) t));
       sorted = f .sorted;
       turn = f .turn;
       counters = counters-under _ _ (f .counters);
@@ -205,6 +212,7 @@ unfine L U k N t a b c n f =
       few-audits = f .frame .few-audits;
       audits = f .frame .audits;
       allowance = f .frame .allowance;
+      sizes = sum-agree (allRows t) (λ x. let z = f .agree x in (z .0, omega (arith, z .1, rows-length (odd x (z .0)) t)));
     })
   where
     again : (j : Kind) → Once j t → Once j (used t)

@@ -49,7 +49,7 @@ optional p none = true
 optional p (some k) = p k
 
 abbrev pub entryOk : Entry → Bool
-entryOk e = every (leb 1 (e .seq) ∷ ltb (e .seq) (2 ^ 63) ∷ within (2 ^ 63) (e .expiration) ∷ word (e .producer) ∷ word (e .«match_word») ∷ within (2 ^ 31) (e .redelivery) ∷ [])
+entryOk e = every (leb 1 (e .seq) ∷ ltb (e .seq) (2 ^ 63) ∷ within (2 ^ 63) (e .expiration) ∷ word (e .producer) ∷ word (e .«match_word») ∷ within (2 ^ 31) (e .redelivery) ∷ ltb (e .size) (2 ^ 32) ∷ [])
 
 -- ---- sound
 
@@ -121,6 +121,11 @@ placed t topic = empty (t .pending) && empty (t .reserved)
 abbrev pub auditOk : Audit → Bool
 auditOk a = every (idOk (a .producer) ∷ leb (length (a .order)) window ∷ all word (a .order) ∷ [])
 
+-- copies with one sequence number agree on the size
+abbrev pub sizesAgree : List Entry → Bool
+sizesAgree [] = true
+sizesAgree (e ∷ es) = all (λ f. not (eqb (e .seq) (f .seq)) || eqb (e .size) (f .size)) es && sizesAgree es
+
 abbrev pub soundTests : Dest → List Bool
 soundTests t =
     leb 1 (t .callLimit)
@@ -143,6 +148,7 @@ soundTests t =
     ∷ leb (length (t .audits)) 8
     ∷ all auditOk (t .audits)
     ∷ leb (t .allowance) 86400000
+    ∷ sizesAgree (allRows t)
     ∷ []
 
 unfoldable pub sound : Dest → Bool

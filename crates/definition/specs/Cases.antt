@@ -15,7 +15,7 @@ use Rattle.audit.specs.Audit.{seen, recorded}
 use Rattle.model.specs.Model.{sameSigned}
 use Rattle.definition.specs.Calls.{Lengths, acknowledge, pulling, timedOut, prefetching, Call, enqueuing, joining, asking, unmarking, releasing, sweeping, clearing, adding, testing, discarding, missing, ownRefusal, call, opened, sound, callsOpen, leaving}
 use Rattle.definition.specs.Words.{step, wordsOpen}
-use Rattle.definition.specs.Queries.{Asked, Page, ofKind, consumers, expirations, messages, idle, sequence, query, page, queriesOpen}
+use Rattle.definition.specs.Queries.{Asked, Page, ofKind, consumers, expirations, messages, bytes, idle, sequence, query, page, queriesOpen}
 use Rattle.entry.specs.Entry as Rows
 use Rattle.audit.specs.Audit as Ring
 use Rattle.definition.specs.Layout.{Buffers, view, soundBuffers, bufferStep, layoutOpen}
@@ -38,7 +38,7 @@ abbrev whole : ℕ → Lengths
 whole events = record { head = 8346; subs = 32; rows = 512; events = events }
 
 abbrev entry : ℕ → ℤ → Entry
-entry s ex = record { seq = s; expiration = ex; persistent = true; producer = 7; «match_word» = 0; redelivery = pos 0 }
+entry s ex = record { seq = s; expiration = ex; persistent = true; producer = 7; «match_word» = 0; redelivery = pos 0; size = 0 }
 
 abbrev consumer : ℕ → Id
 consumer k = record { conn = k; session = pos 1; value = pos 1 }
@@ -197,7 +197,7 @@ withAudit l = sound (withAudits l one)
 
 -- enqueued with a redelivery counter
 abbrev returned : ℕ → ℤ → Entry
-returned s r = record { seq = s; expiration = pos 0; persistent = true; producer = 7; «match_word» = 0; redelivery = r }
+returned s r = record { seq = s; expiration = pos 0; persistent = true; producer = 7; «match_word» = 0; redelivery = r; size = 0 }
 
 abbrev sent : List ℕ → List Call
 sent l = map (λ k. enqueuing (entry k (pos 0)) 1) l
@@ -266,6 +266,20 @@ answers refusal answer a = eqb (a .refusal) refusal && eqb (a .answer) answer
 abbrev pages : ℕ → ℕ → List ℕ → Page → Bool
 pages refusal total seqs p = eqb (p .refusal) refusal && (eqb (p .total) total && sameNumbers (map (λ l. l .seq) (p .lines)) seqs)
 
+-- three wait, of 300, 400 and 500 bytes; the browser 9 has a copy of the first in flight, the consumer 8 the first itself
+abbrev sized : ℕ → ℕ → Entry
+sized s n = record { seq = s; expiration = pos 0; persistent = true; producer = 7; «match_word» = 0; redelivery = pos 0; size = n }
+
+abbrev copied : List Call → Dest
+copied cs = ran (enqueuing (sized 10 300) 1 ∷ enqueuing (sized 20 400) 1 ∷ enqueuing (sized 30 500) 1 ∷ joining (browsing 9 (pos 1)) 2 ∷ joining (plain 8 (pos 1)) 2 ∷ cs) (opened queue 0 100 0 0) .dest
+
+abbrev eightAcks : Call
+eightAcks = asking (consumer 8) (acknowledge (acks 2 false none (some 10)) 3)
+
+-- a topic with two consumers, and one entry
+abbrev shared : List Call → Dest
+shared cs = ran (joining (plain 8 (pos 1)) 1 ∷ joining (plain 9 (pos 1)) 1 ∷ enqueuing (sized 10 300) 1 ∷ cs) (opened topic 0 100 0 0) .dest
+
 -- ---- buffers
 
 abbrev zeroes : ℕ → List ℕ
@@ -279,7 +293,7 @@ abbrev lentSub : List ℕ
 lentSub = 9 ∷ 1 ∷ 1 ∷ 1 ∷ 64 ∷ 0 ∷ 0 ∷ 0 ∷ 2 ∷ 5 ∷ 0 ∷ 0 ∷ 0 ∷ 0 ∷ 1 ∷ 0 ∷ []
 
 abbrev lentRow : ℕ → ℕ → ℕ → List ℕ
-lentRow seq redelivery dseq = seq ∷ 0 ∷ 1 ∷ 7 ∷ 0 ∷ redelivery ∷ dseq ∷ 0 ∷ 0 ∷ []
+lentRow seq redelivery dseq = seq ∷ 0 ∷ 1 ∷ 7 ∷ 0 ∷ redelivery ∷ dseq ∷ 0 ∷ 0 ∷ 300 ∷ []
 
 -- with this count of waiting rows, and so many rows in all
 abbrev lentWith : ℕ → ℕ → Buffers
@@ -351,6 +365,9 @@ words =
     ∷ gets 3 1 (5 ∷ 0 ∷ 2 ∷ 7 ∷ 0 ∷ 0 ∷ 10 ∷ 0 ∷ [])
     ∷ gets 3 1 (0 ∷ 0 ∷ 1 ∷ 7 ∷ 0 ∷ 0 ∷ 10 ∷ 0 ∷ [])
     ∷ gets 3 1 (5 ∷ 0 ∷ 1 ∷ 7 ∷ 0 ∷ 2147483648 ∷ 10 ∷ 0 ∷ [])
+    -- the eighth argument of enqueue, the size, is at most 4,294,967,295
+    ∷ gets 0 1 (5 ∷ 0 ∷ 1 ∷ 7 ∷ 0 ∷ 0 ∷ 10 ∷ 4294967295 ∷ [])
+    ∷ gets 3 1 (5 ∷ 0 ∷ 1 ∷ 7 ∷ 0 ∷ 0 ∷ 10 ∷ 4294967296 ∷ [])
     ∷ gets 0 1 (5 ∷ 0 ∷ 1 ∷ 7 ∷ 0 ∷ minus 2147483648 ∷ 10 ∷ 0 ∷ [])
     ∷ gets 3 2 (8 ∷ 1 ∷ 1 ∷ 4294967295 ∷ 64 ∷ 0 ∷ 30 ∷ 0 ∷ [])
     ∷ gets 3 2 (8 ∷ 1 ∷ 1 ∷ 1 ∷ 65 ∷ 0 ∷ 30 ∷ 0 ∷ [])
@@ -541,6 +558,16 @@ queries =
     ∷ answers 0 2 (query (whole 0) messages (left (negsuc 0) .dest))
     ∷ answers 0 0 (query (whole 0) expirations waiting)
     ∷ answers 0 1 (query (whole 0) expirations (sweeps .dest))
+    -- bytes held, each entry once from its enqueue until its last copy goes (document 02 §3)
+    ∷ answers 0 1200 (query (whole 0) bytes (copied []))
+    ∷ answers 0 1200 (query (whole 0) bytes (copied (eightAcks ∷ [])))
+    ∷ answers 0 900 (query (whole 0) bytes (copied (eightAcks ∷ leaving (consumer 9) (pos 0) 4 ∷ [])))
+    ∷ answers 0 300 (query (whole 0) bytes (shared []))
+    ∷ answers 0 300 (query (whole 0) bytes (shared (eightAcks ∷ [])))
+    ∷ answers 0 0 (query (whole 0) bytes (shared (clearing ∷ [])))
+    ∷ answers 2 0 (query (whole 0) bytes (withPending (sized 10 300 ∷ sized 20 4294967296 ∷ []) (opened queue 0 100 0 0)))
+    -- two copies of two sizes are not sound
+    ∷ not (sound (withPending (map (λ e. sized (e .seq) 5) (copied [] .pending)) (copied [])))
     -- seq_at is the entry there
     ∷ answers 0 30 (query (whole 0) (sequence 2) waiting)
     ∷ answers 0 0 (query (whole 0) (sequence 3) waiting)
@@ -562,6 +589,7 @@ abbrev buffers : List Bool
 buffers =
     sameNumbers (seqsOf (view (lentWith 1 512) .pending)) (6 ∷ [])
     ∷ sameNumbers (map (λ s. length (Sub.inflight s)) (view (lentWith 1 512) .subs)) (1 ∷ [])
+    ∷ sameNumbers (map (λ e. e .size) (view (lentWith 1 512) .pending)) (300 ∷ [])
     ∷ soundBuffers (lentWith 1 512)
     ∷ sameNumbers (onBuffers (lentWith 1 512) 545 4 acksFive) (0 ∷ 0 ∷ 1 ∷ 9 ∷ 6 ∷ [])
     ∷ sameNumbers (onBuffers (lentWith 1 512) 544 4 acksFive) (1 ∷ 0 ∷ [])

@@ -1,17 +1,18 @@
 -- What is claimed of the state and of the sends that accepted calls make; `Orders` has the claim on orders, `Refusals` that on refusals. Assumes nothing.
-use Prim.Native.Nat.{ℕ, _+_, _-_, _≤_}
+use Prim.Native.Nat.{ℕ, _+_, _-_, _*_, _≤_}
 use mathlib.Core.Path.{_≡_}
 use mathlib.Core.Bool.{Bool, true}
 use mathlib.Core.Logic.{_↔_}
-use mathlib.Core.List.{List, []}
+use mathlib.Core.List.{List, [], _++_}
 use lib.IntN.{pos}
 use lib.ListN.{length, drop}
 use Rattle.definition.specs.Types.{Id, Entry, Dest, withCallsUsed}
 use Rattle.definition.specs.Consumer.{zeroStats, addDiscarded, expired}
 use Rattle.definition.specs.Base.{tally}
 use Rattle.definition.specs.Destination.{due, Trimmed, trim, releaseReserved}
-use Rattle.definition.specs.Calls.{Lengths, Call, sound, Result, call}
+use Rattle.definition.specs.Calls.{Lengths, Call, sizesAgree, sound, Result, call}
 use Rattle.definition.specs.Words.{at, idOf, step}
+use Rattle.definition.specs.Queries.{bytesOf, bytesHeld}
 use Rattle.definition.specs.Orders.{Reached}
 
 -- every accepted call leaves a sound state, open too
@@ -65,3 +66,10 @@ pub record Trimming (now limit : ℕ) (l : List Entry) : Type 0 where
 
 abbrev pub Surplus : Type 0
 Surplus = (now limit : ℕ) (l : List Entry) → 1 ≤ limit → Trimming now limit l
+
+-- document 02 §3: a sound state's bytes are at most 512 sizes, and it is all one in which order its rows are looked at
+abbrev pub BytesFit : Type 0
+BytesFit = (t : Dest) → sound t ≡ true → bytesHeld t ≤ 512 * 4294967295
+
+abbrev pub BytesAnyOrder : Type 0
+BytesAnyOrder = (l m : List Entry) → sizesAgree (l ++ m) ≡ true → bytesOf (l ++ m) ≡ bytesOf (m ++ l)

@@ -23,7 +23,7 @@ use Rattle.definition.specs.Words.{at, kindOf, step}
 abbrev pub Row : Type 0
 Row = List ℕ
 
--- the state that a caller lends: the head's words, 16 words for each consumer, 9 words for each copy of an entry
+-- the state that a caller lends: the head's words, 16 words for each consumer, 10 words for each copy of an entry
 pub record Buffers : Type 0 where
   pub head : List ℕ
   pub subs : List Row
@@ -37,11 +37,11 @@ idAt w = idOf (at 0 w) (at 1 w) (at 2 w)
 
 -- ---- rows
 
--- in flight: six words of the entry, then delivery number, freed, tx
+-- in flight: six words of the entry, then delivery number, freed, tx, and the entry's size
 abbrev pub inflightAt : Row → Inflight
 inflightAt w = record { dseq = at 6 w; entry = entryOf w; freed = flag (at 7 w); tx = flag (at 8 w) }
 
--- reserved: six words of the entry, then the identifier of the consumer that left
+-- reserved: six words of the entry, then the identifier of the consumer that left, and the entry's size
 abbrev pub heldAt : Row → Held
 heldAt w = record { holder = idAt (drop 6 w); entry = entryOf w }
 

@@ -7,11 +7,11 @@ use lib.Dec.{leb, ltb}
 use lib.ListN.{length, take, drop}
 use lib.IntN.{ℤ, pos}
 use lib.Signed.{ltZ}
-use Rattle.definition.specs.Base.{if_then_else_, all, empty, nth}
+use Rattle.definition.specs.Base.{if_then_else_, all, empty, nth, member}
 use Rattle.definition.specs.Types.{Kind, queue, topic, Entry, Sub, Stats, Dest}
 use Rattle.definition.specs.Consumer.{zeroStats}
 use Rattle.definition.specs.Destination.{heldRows}
-use Rattle.definition.specs.Calls.{Lengths, stateShort, clockOk, sound}
+use Rattle.definition.specs.Calls.{Lengths, stateShort, clockOk, seqs, allRows, sound}
 
 -- Dest::is_queue
 abbrev pub isQueue : Kind → Bool
@@ -47,6 +47,15 @@ idleFor now secs t =
 -- Dest::message_count: waiting and in flight, of all consumers
 abbrev pub messageCount : Dest → ℕ
 messageCount t = length (t .pending) + heldRows (t .subs)
+
+-- document 02 §3: the bytes of these rows, each sequence number once, with its last copy's size; sound rows agree on it
+abbrev pub bytesOf : List Entry → ℕ
+bytesOf [] = 0
+bytesOf (e ∷ es) = (if member (e .seq) (seqs es) then 0 else e .size) + bytesOf es
+
+-- the bytes that a destination holds
+abbrev pub bytesHeld : Dest → ℕ
+bytesHeld t = bytesOf (allRows t)
 
 -- Dest::seq_at: the number of the entry at a place, 0 for none
 abbrev pub seqOf : Option Entry → ℕ
@@ -92,7 +101,7 @@ abbrev pub number : Bool → ℕ
 number b = if b then 1 else 0
 
 pub data Query : Type 0 where
-  ofKind consumers expirations messages : Query
+  ofKind consumers expirations messages bytes : Query
   idle : ℕ → ℕ → Query  -- clock, seconds
   sequence : ℕ → Query  -- index
 
@@ -101,6 +110,7 @@ queryOk ofKind = true
 queryOk consumers = true
 queryOk expirations = true
 queryOk messages = true
+queryOk bytes = true
 queryOk (idle now secs) = clockOk now
 queryOk (sequence index) = true
 
@@ -109,6 +119,7 @@ answerOf t ofKind = number (isQueue (t .kind))
 answerOf t consumers = number (hasConsumers t)
 answerOf t expirations = number (hasExpiring t)
 answerOf t messages = messageCount t
+answerOf t bytes = bytesHeld t
 answerOf t (idle now secs) = number (idleFor now secs t)
 answerOf t (sequence index) = seqAt index t
 

@@ -37,7 +37,7 @@ abbrev pub ackWords : List ℕ → Bool
 ackWords ws = ltb (at 3 ws) 4096 && ((bit (at 3 ws) 9 || eqb (at 4 ws) 0) && ((bit (at 3 ws) 10 || eqb (at 5 ws) 0) && unusedFrom 7 ws))
 
 abbrev pub entryOf : List ℕ → Entry
-entryOf ws = record { seq = at 0 ws; expiration = signed (at 1 ws); persistent = eqb (at 2 ws) 1; producer = at 3 ws; «match_word» = at 4 ws; redelivery = signed (at 5 ws) }
+entryOf ws = record { seq = at 0 ws; expiration = signed (at 1 ws); persistent = eqb (at 2 ws) 1; producer = at 3 ws; «match_word» = at 4 ws; redelivery = signed (at 5 ws); size = at 7 ws }
 
 abbrev pub specOf : List ℕ → Spec
 specOf ws = record { id = idOf ws; prefetch = signed (at 3 ws); selector = at 4 ws; noLocal = bit (at 5 ws) 0; browser = bit (at 5 ws) 1 }
@@ -48,7 +48,7 @@ provided b c = if b then some c else none
 
 unfoldable pub read : ℕ → List ℕ → Option Call
 read code ws =
-    if eqb code 1 then provided (leb (at 2 ws) 1 && unusedFrom 7 ws) (enqueuing (entryOf ws) (at 6 ws))
+    if eqb code 1 then provided (leb (at 2 ws) 1 && unusedFrom 8 ws) (enqueuing (entryOf ws) (at 6 ws))
     else if eqb code 2 then provided (leb (at 5 ws) 3 && unusedFrom 7 ws) (joining (specOf ws) (at 6 ws))
     else if eqb code 3 then provided (unusedFrom 5 ws) (leaving (idOf ws) (signed (at 3 ws)) (at 4 ws))
     else if eqb code 4 then provided (ackWords ws) (asking (idOf ws) (acknowledge (ackOf ws) (at 6 ws)))

@@ -27,8 +27,8 @@ val x = sliceVal (x .ptr) (length (now x))
 abbrev pub Words16 : RattleType
 Words16 = Array u64 16
 
-abbrev pub Words9 : RattleType
-Words9 = Array u64 9
+abbrev pub RowWords : RattleType
+RowWords = Array u64 10
 
 abbrev pub HeadOwn : Lft → RefT (List ℕ) → Fml
 HeadOwn κ hd = ShrSlice (named 0) κ u64 .own hd (val hd ∷ [])
@@ -37,7 +37,7 @@ abbrev pub SubsOwn : Lft → RefT (List (List ℕ)) → Fml
 SubsOwn κ sb = ShrSlice (named 0) κ Words16 .own sb (val sb ∷ [])
 
 abbrev pub RowsOwn : Lft → RefT (List (List ℕ)) → Fml
-RowsOwn κ rs = ShrSlice (named 0) κ Words9 .own rs (val rs ∷ [])
+RowsOwn κ rs = ShrSlice (named 0) κ RowWords .own rs (val rs ∷ [])
 
 module _ (κ₁ κ₂ κ₃ : Lft) (hd : RefT (List ℕ)) (sb rs : RefT (List (List ℕ))) where
   -- what a slice owns does not depend on its lifetime's name in MIR
@@ -49,7 +49,7 @@ module _ (κ₁ κ₂ κ₃ : Lft) (hd : RefT (List ℕ)) (sb rs : RefT (List (L
     again =
         qed W (‵ Own ∷ []) ∵ fsplit ! $ use1 W (‵ (HeadOwn κ₁ hd) ⊛ ‵ (HeadOwn κ₁ hd)) (shr-slice-copy 𝓤 H A W (named 0) κ₁ u64 .twice hd (val hd ∷ [])) $ split ! $
         move ! (2 ∷ []) $ fsplit ! $ use1 W (‵ (SubsOwn κ₂ sb) ⊛ ‵ (SubsOwn κ₂ sb)) (shr-slice-copy 𝓤 H A W (named 0) κ₂ Words16 .twice sb (val sb ∷ [])) $ split ! $
-        move ! (2 ∷ []) $ use1 W (‵ (RowsOwn κ₃ rs) ⊛ ‵ (RowsOwn κ₃ rs)) (shr-slice-copy 𝓤 H A W (named 0) κ₃ Words9 .twice rs (val rs ∷ [])) $ split ! $
+        move ! (2 ∷ []) $ use1 W (‵ (RowsOwn κ₃ rs) ⊛ ‵ (RowsOwn κ₃ rs)) (shr-slice-copy 𝓤 H A W (named 0) κ₃ RowWords .twice rs (val rs ∷ [])) $ split ! $
         -- [rows; again; subs; again; head; again]
         move ! (2 ∷ 0 ∷ []) $ fjoin ! $ move ! (3 ∷ 0 ∷ []) $ fjoin ! $ frame ! $
         -- [rows; subs; head]

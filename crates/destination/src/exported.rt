@@ -2,7 +2,7 @@
 ghost use mathlib.Core.Path.{_≡_};
 ghost use lib.ListN.{length};
 ghost use Rattle.definition.specs.Calls.{discarding, missing};
-ghost use Rattle.definition.specs.Queries.{ofKind, consumers, expirations, messages, idle, sequence};
+ghost use Rattle.definition.specs.Queries.{ofKind, consumers, expirations, messages, bytes, idle, sequence};
 ghost use Rattle.definition.specs.Layout.{bufferStep, bufferCall, bufferQuery, bufferCounters, bufferPage};
 ghost use Rattle.sound.specs.Sound.{lent};
 ghost use Rattle.queries.specs.Answers.{asAsked, asCounted};
@@ -146,6 +146,14 @@ pub extern "C" fn destination_message_count(head: &[u64], subs: &[SubRow], rows:
     ensures { λ r. ⌜ r ≡ asAsked (bufferQuery (lent (now (head .entry)) (now (subs .entry)) (now (rows .entry))) messages) ⌝ }
 {
     queries::message_count(head, subs, rows)
+}
+
+// The bytes held: each entry once, from its enqueue until its last copy goes (document 02 §3).
+#[no_mangle]
+pub extern "C" fn destination_bytes_held(head: &[u64], subs: &[SubRow], rows: &[Row]) -> Asked
+    ensures { λ r. ⌜ r ≡ asAsked (bufferQuery (lent (now (head .entry)) (now (subs .entry)) (now (rows .entry))) bytes) ⌝ }
+{
+    queries::bytes_held(head, subs, rows)
 }
 
 // 1 if the destination has been empty and unused for at least so many seconds.

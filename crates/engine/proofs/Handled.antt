@@ -18,9 +18,9 @@ use Rattle.engine.proofs.Performed.{clock-in}
 
 module _ (w : List ℕ) where
   module _ (t : is-some (decode 1 w) ≡ true) where
-    pub enqueue-decoded : Decoded 1 w (leb (at 2 w) 1 && unusedFrom 7 w) (enqueuing (entryOf w) (at 6 w))
+    pub enqueue-decoded : Decoded 1 w (leb (at 2 w) 1 && unusedFrom 8 w) (enqueuing (entryOf w) (at 6 w))
     unfolding read
-    enqueue-decoded = decoded 1 w (leb (at 2 w) 1 && unusedFrom 7 w) (enqueuing (entryOf w) (at 6 w)) refl t
+    enqueue-decoded = decoded 1 w (leb (at 2 w) 1 && unusedFrom 8 w) (enqueuing (entryOf w) (at 6 w)) refl t
 
     pub enqueue-clock : at 6 w ≤ 2 ^ 62
     unfolding argumentsOk

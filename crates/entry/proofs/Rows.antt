@@ -19,10 +19,11 @@ pub record EntryFits (e : Entry) : Type 0 where
   pub producer : e .producer < 2 ^ 64
   pub «match_word» : e .«match_word» < 2 ^ 64
   pub redelivery : SFits w32 (e .redelivery)
+  pub size : e .size < 2 ^ 64
 
--- nine words, a flag and an i32 among them
+-- ten words, a flag and an i32 among them
 pub record RowFits (w : List ℕ) : Type 0 where
-  pub nine : length w ≡ 9
+  pub ten : length w ≡ 10
   pub word : (k : ℕ) → getD w k 0 < 2 ^ 64
   pub flag : getD w 2 0 ≤ 1
   pub int : isInt (getD w 5 0) ≡ true
@@ -37,9 +38,9 @@ listed : (w : List ℕ) → elements (λ k. getD w k 0) (length w) ≡ w
 listed [] = refl
 listed (x ∷ xs) = ap (λ (l : List ℕ). x ∷ l) (listed xs)
 
-pub nine-words : (w : List ℕ) → length w ≡ 9
-    → getD w 0 0 ∷ getD w 1 0 ∷ getD w 2 0 ∷ getD w 3 0 ∷ getD w 4 0 ∷ getD w 5 0 ∷ getD w 6 0 ∷ getD w 7 0 ∷ getD w 8 0 ∷ [] ≡ w
-nine-words w e = ap (elements (λ k. getD w k 0)) (sym e) ∙ listed w
+pub ten-words : (w : List ℕ) → length w ≡ 10
+    → getD w 0 0 ∷ getD w 1 0 ∷ getD w 2 0 ∷ getD w 3 0 ∷ getD w 4 0 ∷ getD w 5 0 ∷ getD w 6 0 ∷ getD w 7 0 ∷ getD w 8 0 ∷ getD w 9 0 ∷ [] ≡ w
+ten-words w e = ap (elements (λ k. getD w k 0)) (sym e) ∙ listed w
 
 -- ---- the round trip
 
@@ -49,14 +50,14 @@ entry-of-row e a b c f = rw (signed-unsigned (e .expiration) (f .expiration), in
 
 pub row-of-entry : (w : List ℕ) → RowFits w → rowOf (entryOf w) (getD w 6 0) (getD w 7 0) (getD w 8 0) ≡ w
 unfolding entryOf rowOf
-row-of-entry w f = rw (unsigned-signed (getD w 1 0) (f .word 1), unsigned-int (getD w 5 0) (f .word 5) (f .int), word-of-flag (getD w 2 0) (f .flag)) (nine-words w (f .nine))
+row-of-entry w f = rw (unsigned-signed (getD w 1 0) (f .word 1), unsigned-int (getD w 5 0) (f .word 5) (f .int), word-of-flag (getD w 2 0) (f .flag)) (ten-words w (f .ten))
 
 -- the words of the place come back as they are
 pub place-of-row : (e : Entry) (a b c : ℕ) → (getD (rowOf e a b c) 6 0 ≡ a) × (getD (rowOf e a b c) 7 0 ≡ b) × (getD (rowOf e a b c) 8 0 ≡ c)
 unfolding rowOf
 place-of-row e a b c = (refl, refl, refl)
 
-pub row-length : (e : Entry) (a b c : ℕ) → length (rowOf e a b c) ≡ 9
+pub row-length : (e : Entry) (a b c : ℕ) → length (rowOf e a b c) ≡ 10
 unfolding rowOf
 row-length e a b c = refl
 
@@ -64,7 +65,7 @@ row-length e a b c = refl
 
 pub entry-fits : (w : List ℕ) → ((k : ℕ) → getD w k 0 < 2 ^ 64) → EntryFits (entryOf w)
 unfolding entryOf
-entry-fits w h = record { seq = h 0; expiration = signed-fits (getD w 1 0) (h 1); producer = h 3; «match_word» = h 4; redelivery = int-fits (getD w 5 0) }
+entry-fits w h = record { seq = h 0; expiration = signed-fits (getD w 1 0) (h 1); producer = h 3; «match_word» = h 4; redelivery = int-fits (getD w 5 0); size = h 9 }
 
 -- words, one after the other
 data Words : List ℕ → Type 0 where
@@ -81,10 +82,10 @@ unfolding rowOf
 row-fits e a b c f ha hb hc =
     let flag : boolByte (e .persistent) < 2 ^ 64 = omega (arith, flag-small (e .persistent)) in
     let counter : unsigned (e .redelivery) < 2 ^ 64 = unsigned-fits (e .redelivery) (int-widens (e .redelivery) (f .redelivery)) in
-    let place : Words (a ∷ b ∷ c ∷ []) = word ha (word hb (word hc none)) in
-    let rest : Words (e .producer ∷ e .«match_word» ∷ unsigned (e .redelivery) ∷ a ∷ b ∷ c ∷ []) = word (f .producer) (word (f .«match_word») (word counter place)) in
+    let place : Words (a ∷ b ∷ c ∷ e .size ∷ []) = word ha (word hb (word hc (word (f .size) none))) in
+    let rest : Words (e .producer ∷ e .«match_word» ∷ unsigned (e .redelivery) ∷ a ∷ b ∷ c ∷ e .size ∷ []) = word (f .producer) (word (f .«match_word») (word counter place)) in
     record {
-      nine = refl;
+      ten = refl;
       word = at (word (f .seq) (word (unsigned-fits (e .expiration) (f .expiration)) (word flag rest)));
       flag = flag-small (e .persistent);
       int = is-int-unsigned (e .redelivery) (f .redelivery);

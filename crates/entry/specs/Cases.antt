@@ -9,7 +9,7 @@ use Rattle.entry.specs.declared.Entry.{Entry}
 use Rattle.entry.specs.Entry.{expired, oneMore, redelivered}
 
 abbrev entry : ℤ → ℤ → Entry
-entry expiration redelivery = record { seq = 1; expiration = expiration; producer = 0; «match_word» = 0; redelivery = redelivery; persistent = true }
+entry expiration redelivery = record { seq = 1; expiration = expiration; producer = 0; «match_word» = 0; redelivery = redelivery; persistent = true; size = 0 }
 
 abbrev expires : ℤ → Bool
 expires expiration = expired (pos 50) (entry expiration (pos 0))

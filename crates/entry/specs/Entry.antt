@@ -20,7 +20,7 @@ unfoldable pub oneMore : ℤ → ℤ
 oneMore r = if ltZ r (pos 2147483647) then sucℤ r else r
 
 abbrev pub withRedelivery : ℤ → Entry → Entry
-withRedelivery x e = record { seq = e .seq; expiration = e .expiration; producer = e .producer; «match_word» = e .«match_word»; redelivery = x; persistent = e .persistent }
+withRedelivery x e = record { seq = e .seq; expiration = e .expiration; producer = e .producer; «match_word» = e .«match_word»; redelivery = x; persistent = e .persistent; size = e .size }
 
 -- `e.redelivery = e.redelivery.saturating_add(1)`
 abbrev pub redelivered : Entry → Entry
@@ -34,10 +34,10 @@ bit w k = eqb (w / 2 ^ k % 2) 1
 unfoldable pub selects : ℕ → ℕ → Bool
 selects w s = if ltb s 64 then bit w s else true
 
--- a row of nine words: six of the entry
+-- a row of ten words: six of the entry, and its size in the last
 unfoldable pub entryOf : List ℕ → Entry
-entryOf w = record { seq = getD w 0 0; expiration = signed (getD w 1 0); producer = getD w 3 0; «match_word» = getD w 4 0; redelivery = int (getD w 5 0); persistent = not (eqb (getD w 2 0) 0) }
+entryOf w = record { seq = getD w 0 0; expiration = signed (getD w 1 0); producer = getD w 3 0; «match_word» = getD w 4 0; redelivery = int (getD w 5 0); persistent = not (eqb (getD w 2 0) 0); size = getD w 9 0 }
 
--- and three of its place
+-- and three of its place before that
 unfoldable pub rowOf : Entry → ℕ → ℕ → ℕ → List ℕ
-rowOf e a b c = e .seq ∷ unsigned (e .expiration) ∷ boolByte (e .persistent) ∷ e .producer ∷ e .«match_word» ∷ unsigned (e .redelivery) ∷ a ∷ b ∷ c ∷ []
+rowOf e a b c = e .seq ∷ unsigned (e .expiration) ∷ boolByte (e .persistent) ∷ e .producer ∷ e .«match_word» ∷ unsigned (e .redelivery) ∷ a ∷ b ∷ c ∷ e .size ∷ []

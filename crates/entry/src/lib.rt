@@ -1,9 +1,9 @@
-// An entry by value (entry.rs), and the words of a row: six of the entry, three of its place.
+// An entry by value (entry.rs) with its size (document 02 §3), and the words of a row: six of the entry, three of its place, and the size.
 ghost use mathlib.Core.Path.{_≡_};
 ghost use Rattle.words.specs.Words.{signed};
 ghost use Rattle.entry.specs.Entry.{expired, redelivered, selects, entryOf, rowOf};
 
-pub type Row = [u64; 9];
+pub type Row = [u64; 10];
 
 // The place's words in flight. Reserved, they are the consumer's identifier.
 pub const DSEQ: usize = 6;
@@ -27,6 +27,7 @@ pub struct Entry {
     pub match_word: u64,
     pub redelivery: i32,
     pub persistent: bool,
+    pub size: u64,
 }
 
 impl Entry {
@@ -78,6 +79,7 @@ pub fn entry_of(row: Row) -> Entry
         producer: row[3],
         match_word: row[4],
         redelivery: words::int_of(row[5]),
+        size: row[9],
     }
 }
 
@@ -95,6 +97,7 @@ fn row_of(e: Entry, a: u64, b: u64, c: u64) -> Row
         a,
         b,
         c,
+        e.size,
     ]
 }
 

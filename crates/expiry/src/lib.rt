@@ -65,7 +65,7 @@ fn soonest(rows: &[Row], from: usize, to: usize, clock: u64) -> Next
     if at == to {
         return Next {
             found: false,
-            entry: entry::entry_of([0; 9]),
+            entry: entry::entry_of([0; 10]),
         };
     }
     Next {

@@ -37,7 +37,7 @@ unfoldable pub flagIs : Bool → ℕ → Bool
 flagIs b x = if b then eqb x 1 else eqb x 0
 
 abbrev pub entryWith : ℤ → ℤ → Entry
-entryWith expiration redelivery = record { seq = 1; expiration = expiration; producer = 0; «match_word» = 0; redelivery = redelivery; persistent = false }
+entryWith expiration redelivery = record { seq = 1; expiration = expiration; producer = 0; «match_word» = 0; redelivery = redelivery; persistent = false; size = 0 }
 
 -- EXPIRATION NOW RESULT
 unfoldable pub expiredSame : List ℕ → Bool

@@ -169,6 +169,7 @@ fn entry_with(expiration: i64, redelivery: i32) -> Entry
         match_word: 0,
         redelivery,
         persistent: false,
+        size: 0,
     }
 }
 

@@ -83,7 +83,7 @@ module _ (h : List ℕ) (subs rows : List Row) where
   -- ---- answered
 
   module _ (z : barred b ≡ 0) where
-    tests : (isShort ≡ false) × (formed b ≡ true) × (sound (view b) ≡ true)
+    pub tests : (isShort ≡ false) × (formed b ≡ true) × (sound (view b) ≡ true)
     tests = barred-cases
         (λ s c. absurd (omega (arith, c, z)))
         (λ s y c. absurd (omega (arith, c, z)))

@@ -1,15 +1,19 @@
 // The queries of a destination on lent buffers: they use no call and change nothing.
 ghost use mathlib.Core.Path.{_≡_};
-ghost use mathlib.Core.Bool.{_||_};
+ghost use mathlib.Core.Bool.{true, false, _||_};
+ghost use mathlib.Core.List.{map};
 ghost use Prim.Native.Nat.{_+_, _-_, _/_, _≤_, min};
 ghost use lib.ListN.{take};
 ghost use lib.Seq.{slice};
-ghost use Rattle.definition.specs.Base.{all};
-ghost use Rattle.definition.specs.Words.{kindBy};
-ghost use Rattle.definition.specs.Queries.{ofKind, consumers, expirations, messages, idle, sequence};
+ghost use Rattle.words.specs.Pick.{if_then_else_};
+ghost use Rattle.definition.specs.Base.{all, member, distinct};
+ghost use Rattle.definition.specs.Words.{at, kindBy};
+ghost use Rattle.definition.specs.Queries.{ofKind, consumers, expirations, messages, bytes, idle, sequence};
 ghost use Rattle.definition.specs.Layout.{subsAt, subRows, bufferQuery, bufferCounters, bufferPage};
+ghost use Rattle.copies.specs.Copies.{Slot, sharedBy};
 ghost use Rattle.sound.specs.Sound.{lent};
 ghost use Rattle.queries.specs.Answers.{asAsked, asCounted, barred, lasts, subLasts, isIdle};
+ghost use Rattle.queries.specs.Bytes.{bytesAt, sizesOf, Small};
 ghost use Rattle.queries.specs.Pages.{firstWaiting, asPlan, Planned, lineAt};
 use consumers::BROWSER;
 use consumers::HELD;
@@ -194,6 +198,122 @@ pub fn message_count(head: &[u64], subs: &[SubRow], rows: &[Row]) -> Asked
     Asked {
         refusal: 0,
         answer: (d.waiting + held) as u64,
+    }
+}
+
+// ---- bytes_held
+
+// Whether one of rows[from..to] has this number.
+fn met(rows: &[Row], from: usize, to: usize, seq: u64) -> bool
+    requires { ⌜ from ≤ to ⌝ }
+    requires { do ⌜ to ≤ (← ⟦rows.len()⟧) ⌝ }
+    ensures { λ r. ⌜ r ≡ member seq (map (at 0) (slice from to (now (rows .entry)))) ⌝ }
+{
+    let mut i = from;
+    while i < to {
+        let row = rows[i];
+        if row[0] == seq {
+            return true;
+        }
+        i += 1;
+    }
+    false
+}
+
+// The same where the table holds this place for the number.
+fn known(rows: &[Row], from: usize, to: usize, seq: u64, place: usize) -> bool
+    requires { ⌜ from ≤ to ⌝ }
+    requires { do ⌜ to ≤ (← ⟦rows.len()⟧) ⌝ }
+    requires { ⌜ Slot seq place from to (now rows) ⌝ }
+    ensures { λ r. ⌜ r ≡ member seq (map (at 0) (slice from to (now (rows .entry)))) ⌝ }
+{
+    if place == 0 {
+        return false;
+    }
+    let row = rows[place - 1];
+    if row[0] == seq {
+        return true;
+    }
+    met(rows, from, to, seq)
+}
+
+// What a row of this size adds to them.
+fn added(rows: &[Row], from: usize, to: usize, seq: u64, place: usize, size: u64) -> u64
+    requires { ⌜ from ≤ to ⌝ }
+    requires { do ⌜ to ≤ (← ⟦rows.len()⟧) ⌝ }
+    requires { ⌜ Slot seq place from to (now rows) ⌝ }
+    ensures { λ r. ⌜ r ≡ (if member seq (map (at 0) (slice from to (now (rows .entry)))) then 0 else size) ⌝ }
+{
+    if known(rows, from, to, seq, place) {
+        return 0;
+    }
+    size
+}
+
+// The sizes of the first n rows, each number once: by a number's remainder the table has the place after the last row met, from the end, 0 for none.
+fn once(rows: &[Row], n: usize) -> u64
+    requires { do ⌜ n ≤ (← ⟦rows.len()⟧) ⌝ }
+    requires { ⌜ n ≤ 512 ⌝ }
+    requires { ⌜ Small n (now rows) ⌝ }
+    ensures { λ r. ⌜ r ≡ bytesAt (take n (now (rows .entry))) ⌝ }
+{
+    let mut slots = [0u16; 1024];
+    let mut sum = 0;
+    let mut i = n;
+    while 0 < i {
+        let row = rows[i - 1];
+        let seq = row[0];
+        let slot = (seq % 1024) as usize;
+        sum += added(rows, i, n, seq, slots[slot] as usize, row[9]);
+        slots[slot] = i as u16;
+        i -= 1;
+    }
+    sum
+}
+
+// The sizes of the first n rows.
+fn each(rows: &[Row], n: usize) -> u64
+    requires { do ⌜ n ≤ (← ⟦rows.len()⟧) ⌝ }
+    requires { ⌜ n ≤ 512 ⌝ }
+    requires { ⌜ Small n (now rows) ⌝ }
+    ensures { λ r. ⌜ r ≡ sizesOf (take n (now (rows .entry))) ⌝ }
+{
+    let mut sum = 0;
+    let mut i = 0;
+    while i < n {
+        let row = rows[i];
+        sum += row[9];
+        i += 1;
+    }
+    sum
+}
+
+// The bytes of the first rows. Where no entry can have two of them, no number is looked at.
+fn bytes_of(subs: &[SubRow], n: usize, rows: &[Row], used: usize, on_queue: bool) -> u64
+    requires { do ⌜ used ≤ (← ⟦rows.len()⟧) ⌝ }
+    requires { ⌜ used ≤ 512 ⌝ }
+    requires { ⌜ Small used (now rows) ⌝ }
+    requires { ⌜ (sharedBy «on_queue» (take n (now subs)) ≡ false → distinct (map (at 0) (take used (now rows))) ≡ true) ⌝ }
+    ensures { λ r. ⌜ r ≡ bytesAt (take used (now (rows .entry))) ⌝ }
+{
+    if !copies::shared(subs, n, on_queue) {
+        return each(rows, used);
+    }
+    once(rows, used)
+}
+
+// The bytes that the destination holds: each sequence number counts once, whatever rows hold it (document 02 §3).
+pub fn bytes_held(head: &[u64], subs: &[SubRow], rows: &[Row]) -> Asked
+    ensures { λ r. ⌜ r ≡ asAsked (bufferQuery (lent (now (head .entry)) (now (subs .entry)) (now (rows .entry))) bytes) ⌝ }
+{
+    let refusal = barred(head, subs, rows);
+    if refusal != 0 {
+        return Asked { refusal, answer: 0 };
+    }
+    let d = state::load(head, subs);
+    Asked {
+        refusal: 0,
+        answer: bytes_of(subs, d.consumers, rows, d.used, d.queue),
     }
 }
 

@@ -173,7 +173,7 @@ fn text() -> [u8; 489216]
 fn run(fd: i32) {
     let mut head = [0u64; 8346];
     let mut subs = [[0u64; 16]; 32];
-    let mut rows = [[0u64; 9]; 512];
+    let mut rows = [[0u64; 10]; 512];
     let mut events = [[0u64; 6]; 545];
     let mut out = text();
     if run_all(fd, &mut head, &mut subs, &mut rows, &mut events, &mut out) {

@@ -36,7 +36,7 @@ id-fits i e =
 
 pub redelivery-fits : (e : Entry) → entryOk e ≡ true → SFits w64 (e .redelivery)
 redelivery-fits e h =
-    let f = every-all (leb 1 (e .seq) ∷ ltb (e .seq) (2 ^ 63) ∷ within (2 ^ 63) (e .expiration) ∷ word (e .producer) ∷ word (e .«match_word») ∷ within (2 ^ 31) (e .redelivery) ∷ []) h in
+    let f = every-all (leb 1 (e .seq) ∷ ltb (e .seq) (2 ^ 63) ∷ within (2 ^ 63) (e .expiration) ∷ word (e .producer) ∷ word (e .«match_word») ∷ within (2 ^ 31) (e .redelivery) ∷ ltb (e .size) (2 ^ 32) ∷ []) h in
     within-fits (2 ^ 31) (e .redelivery) (omega arith) (f .1 .1 .1 .1 .1 .0)
 
 -- ---- events

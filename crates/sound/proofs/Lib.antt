@@ -4,5 +4,7 @@ pub mod Rising
 pub mod Head
 pub mod Subs
 pub mod Gathered
+pub mod Sizes
 pub mod Tables
 pub mod Meaning
+pub mod Lone

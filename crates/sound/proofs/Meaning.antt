@@ -18,17 +18,18 @@ use Rattle.entry.specs.Entry.{entryOf}
 use Rattle.definition.specs.Base.{all, every, empty, is-some, distinct, ascending}
 use Rattle.definition.specs.Types.{Kind, queue, topic, Entry, Sub, Dest}
 use Rattle.definition.specs.Consumer.{shown, isBrowser}
-use Rattle.definition.specs.Calls.{word, idOk, entryOk, clockOk, bound, seqs, flying, rowsOf, subTests, subSound, consumerRows, taken, held, allRows, placed, auditOk, soundTests, sound}
+use Rattle.definition.specs.Calls.{word, idOk, entryOk, clockOk, bound, seqs, flying, rowsOf, subTests, subSound, consumerRows, taken, held, allRows, placed, auditOk, sizesAgree, soundTests, sound}
 use Rattle.definition.specs.Words.{at, kindOf}
 use Rattle.definition.specs.Layout.{Row, Buffers, idAt, heldAt, subAt, eachSub, subsAt, subRows, idsAt, ringAt, auditsAt, view, usedRows, ringsFormed, isMark, entryStrict, subStrict, subsStrict, tablesStrict, strict, formed, soundBuffers}
 use mathlib.Core.List.{append-nil}
 use Rattle.definition.proofs.Tests.{and-left, and-right, and-both}
 use Rattle.definition.proofs.Thin.{every-all, all-every, map-append}
 use Rattle.distinct.proofs.Laws.{iff, distinct-left, distinct-right}
-use Rattle.sound.specs.Sound.{limitsOk, countsOk, marksOk, headOk, rowOk, holderOk, ownTests, ownSound, ownOk, eachOk, kindBy, seqsAt, apartBy, emptyBy, reservedAt, waitingAt, queueApart, tableTests, tablesOk, lent, restOk}
+use Rattle.sound.specs.Sound.{limitsOk, countsOk, marksOk, headOk, rowOk, holderOk, ownTests, ownSound, ownOk, eachOk, kindBy, seqsAt, apartBy, emptyBy, reservedAt, waitingAt, queueApart, sizesAt, tableTests, tablesOk, lent, restOk}
 use Rattle.sound.proofs.Tests.{swap-inner, empty-take, all-map}
 use Rattle.sound.proofs.Rows.{id-fits}
 use Rattle.sound.proofs.Subs.{seqs-rows, rows-ok, sorted-means, all-append, rows-of-sub, optional-test, ids-means}
+use Rattle.sound.proofs.Sizes.{agree-turned, used-parts}
 
 -- ---- lists
 
@@ -191,10 +192,10 @@ none-shown none e = refl
 none-shown (some l) e = absurd (let z : _≡_ {A = ℕ} 0 1 = cc in omega arith)
 
 -- a queue's consumer that is no browser has only rows in flight
-plain-rows : (u : ℕ) (s : Sub) → ownSound queue (bound u) s ≡ true → isBrowser s ≡ false → rowsOf s ≡ flying s
+pub plain-rows : (most : ℕ) (s : Sub) → ownSound queue most s ≡ true → isBrowser s ≡ false → rowsOf s ≡ flying s
 unfolding ownSound isBrowser
-plain-rows u s e n =
-    let p = every-all (ownTests queue (bound u) s) e in
+plain-rows most s e n =
+    let p = every-all (ownTests queue most s) e in
     ap₂ (λ (a b : List Entry). flying s ++ (a ++ b)) (empty-nil (s .tpending) (p .1 .1 .1 .1 .1 .1 .1 .1 .1 .1 .1 .0)) (none-shown (s .browser) n)
     ∙ append-nil (flying s)
 
@@ -204,7 +205,7 @@ queue-sub : (u : ℕ) (s : Sub) (rest : List Entry) → ownSound queue (bound u)
 queue-sub u s rest o a t = by-test (isBrowser s)
     (λ c. sym (ap (λ (x : Bool). not x || distinct (seqs (rowsOf s))) c) ∙ a)
     (λ c.
-    ap (λ (l : List Entry). distinct (seqs l)) (plain-rows u s o c)
+    ap (λ (l : List Entry). distinct (seqs l)) (plain-rows (bound u) s o c)
     ∙ distinct-left (seqs (flying s)) (seqs rest)
     (ap distinct (sym (map-append (λ e. e .seq) (flying s) rest)) ∙ sym (ap (λ (x : Bool). distinct (seqs ((if x then [] else flying s) ++ rest))) c) ∙ t))
 
@@ -245,7 +246,7 @@ rows-count k (w ∷ ws) rows =
     omega (arith, length-append (rowsOf (subAt k w f h)) rest, e, length-take (at 14 w) rows, length-take (at 15 w) (drop (at 14 w) rows), rows-count k ws (drop (at 15 w) (drop (at 14 w) rows)))
 
 -- the tests of the consumers, and their words
-each-parts : (k : Kind) (most : ℕ) (ws rows : List Row) → eachOk k most ws rows ≡ (all (ownSound k most) (subsAt k ws rows) && subsStrict ws rows)
+pub each-parts : (k : Kind) (most : ℕ) (ws rows : List Row) → eachOk k most ws rows ≡ (all (ownSound k most) (subsAt k ws rows) && subsStrict ws rows)
 unfolding eachSub
 each-parts k most [] rows = refl
 each-parts k most (w ∷ ws) rows =
@@ -299,7 +300,7 @@ module _ (others reserved waiting : ℕ) (us rows : List Row) (b : others + (res
 
 -- ---- all
 
-module _ (h : List ℕ) (subs rows : List Row) (words : Words h) (ls : 32 ≤ length subs) (lr : 512 ≤ length rows) where
+module _ (h : List ℕ) (subs rows : List Row) (ls : 32 ≤ length subs) (lr : 512 ≤ length rows) where
   abbrev us : List Row
   us = take (at 12 h) subs
 
@@ -359,6 +360,19 @@ module _ (h : List ℕ) (subs rows : List Row) (words : Words h) (ls : 32 ≤ le
   unfolding view
   holders-same = all-map (λ x. idOk (x .holder)) heldAt (reservedAt (subRows us) (at 15 h) rows)
 
+  pub all-rows : usedRows b ≤ 512 → allRows (view b) ≡ map entryOf waiting-rows ++ (map entryOf kept-rows ++ consumerRows (subsAt k us rows))
+  all-rows f =
+      let s = stands f in
+      let w = map entryOf waiting-rows in
+      ap (λ (l : List Entry). l ++ (held (view b) ++ consumerRows (view b .subs))) (s .waits)
+      ∙ ap₂ (λ (l : List Entry) (m : List Sub). w ++ (l ++ consumerRows m)) (held-means (subRows us) (at 15 h) (at 16 h) us rows (in-table f) k (view b) s) (s .consumers)
+
+  sizes-same : (f : usedRows b ≤ 512) → sizesAgree (allRows (view b)) ≡ sizesAt (subRows us + at 15 h + at 16 h) rows
+  sizes-same f =
+      ap sizesAgree (all-rows f)
+      ∙ agree-turned (map entryOf waiting-rows) (map entryOf kept-rows) (consumerRows (subsAt k us rows))
+      ∙ sym (ap sizesAgree (used-parts (at 15 h) (at 16 h) us rows k))
+
   sound-head : formed b ≡ true → sound (view b) ≡ true → headOk h ≡ true
   unfolding formed strict sound view headOk
   sound-head e g =
@@ -373,7 +387,7 @@ module _ (h : List ℕ) (subs rows : List Row) (words : Words h) (ls : 32 ≤ le
       (and-both (marksOk h) _ (and-both (isMark (at 0 h)) _ (s .0) (and-both (isMark (at 5 h)) _ (s .1 .0) (sym (optional-test clockOk (at 5 h) (at 6 h)) ∙ p .1 .1 .1 .1 .1 .1 .1 .1 .1 .1 .1 .1 .1 .1 .1 .1 .0)))
       (p .1 .1 .1 .1 .1 .1 .1 .1 .1 .1 .1 .1 .1 .1 .1 .0)))
 
-  sound-rest : formed b ≡ true → sound (view b) ≡ true → restOk b ≡ true
+  pub sound-rest : formed b ≡ true → sound (view b) ≡ true → restOk b ≡ true
   unfolding formed strict sound view restOk
   sound-rest e g =
       let f = every-all formedTests e in
@@ -405,7 +419,7 @@ module _ (h : List ℕ) (subs rows : List Row) (words : Words h) (ls : 32 ≤ le
                 (
                   and-both (queueApart k (subRows us) (at 15 h) (at 16 h) us rows) _ (and-right (emptyBy k (at 15 h + at 16 h)) (queueApart k (subRows us) (at 15 h) (at 16 h) us rows) place)
                       (all-mono (subSound k (at 3 h)) (apartBy k) (λ s t. apart-of k s (sub-own k (at 3 h) s t .1)) (subsAt k us rows) subs-ok),
-                  tt,
+                  (sym (sizes-same u) ∙ p .1 .1 .1 .1 .1 .1 .1 .1 .1 .1 .1 .1 .1 .1 .1 .1 .1 .1 .1 .1 .0, tt),
                 ),
               ),
             ),
@@ -425,9 +439,9 @@ module _ (h : List ℕ) (subs rows : List Row) (words : Words h) (ls : 32 ≤ le
       omega (arith, length-map r (λ x. x .entry), length-map (take (at 15 h) z) heldAt, length-take (at 15 h) z) in
       omega (arith, length-append w (map (λ x. x .entry) r ++ c), length-append (map (λ x. x .entry) r) c, rows-count k us rows)
 
-  rest-sound : headOk h ≡ true → restOk b ≡ true → (formed b ≡ true) × (sound (view b) ≡ true)
+  rest-sound : Words h → headOk h ≡ true → restOk b ≡ true → (formed b ≡ true) × (sound (view b) ≡ true)
   unfolding formed strict sound view headOk restOk
-  rest-sound e g =
+  rest-sound words e g =
       let limits = and-left (limitsOk h) _ e in
       let l2 = and-right (leb 1 (at 2 h)) _ limits in
       let l3 = and-right (leb (at 2 h) (2 ^ 40)) _ l2 in
@@ -497,7 +511,7 @@ module _ (h : List ℕ) (subs rows : List Row) (words : Words h) (ls : 32 ≤ le
                                           optional-test clockOk (at 5 h) (at 6 h) ∙ and-right (isMark (at 5 h)) _ m2,
                                           (
                                             le-leb (length (auditsAt (at 14 h) (drop 113 h))) 8 (omega (arith, audits-count (at 14 h) (drop 113 h), leb-true (at 14 h) 8 f3)),
-                                            (audits-fit (at 14 h) (drop 113 h) (words-drop 113 h words) f5, (and-right (leb (at 1 h) 512) _ l4, tt)),
+                                            (audits-fit (at 14 h) (drop 113 h) (words-drop 113 h words) f5, (and-right (leb (at 1 h) 512) _ l4, (sizes-same u ∙ p .1 .1 .1 .1 .1 .1 .0, tt))),
                                           ),
                                         ),
                                       ),
@@ -518,13 +532,13 @@ module _ (h : List ℕ) (subs rows : List Row) (words : Words h) (ls : 32 ≤ le
         ),
       )
 
-  pub sound-means : soundBuffers b ≡ (headOk h && restOk b)
+  pub sound-means : Words h → soundBuffers b ≡ (headOk h && restOk b)
   unfolding soundBuffers
-  sound-means = iff (formed b && sound (view b)) (headOk h && restOk b)
+  sound-means words = iff (formed b && sound (view b)) (headOk h && restOk b)
       (λ e.
       let f = and-left (formed b) (sound (view b)) e in
       let g = and-right (formed b) (sound (view b)) e in
       and-both (headOk h) (restOk b) (sound-head f g) (sound-rest f g))
       (λ e.
-      let p = rest-sound (and-left (headOk h) (restOk b) e) (and-right (headOk h) (restOk b) e) in
+      let p = rest-sound words (and-left (headOk h) (restOk b) e) (and-right (headOk h) (restOk b) e) in
       and-both (formed b) (sound (view b)) (p .0) (p .1))

@@ -20,7 +20,7 @@ use Rattle.definition.specs.Calls.{within, idOk}
 use Rattle.definition.specs.Words.{at}
 use Rattle.definition.specs.Layout.{Row, flag, idAt, isMark, entryStrict}
 use Rattle.definition.proofs.Tests.{and-left, and-right}
-use Rattle.sound.specs.Sound.{upward, rowOk, flightOk, holderOk, flyingOk, sortedOk}
+use Rattle.sound.specs.Sound.{upward, rowFits, rowOk, flightOk, holderOk, flyingOk, sortedOk}
 use Rattle.sound.proofs.Tests.{swap-inner, part-turn, part-end}
 
 -- ---- ranges
@@ -39,10 +39,17 @@ id-fits w h = rw (lt-ltb (at 0 w) (2 ^ 64) h, signed-within (at 1 w), signed-wit
 pub holder-fits : (w : Row) → at 6 w < 2 ^ 64 → holderOk w ≡ true
 holder-fits w h = id-fits (drop 6 w) (rw (getD-drop 6 w 0 0) h)
 
-pub row-tests : (w : Row) → at 3 w < 2 ^ 64 → at 4 w < 2 ^ 64 → ((leb 1 (at 0 w) && ltb (at 0 w) (2 ^ 63)) && (isMark (at 2 w) && isInt (at 5 w))) ≡ rowOk w
+pub row-tests : (w : Row) → at 3 w < 2 ^ 64 → at 4 w < 2 ^ 64 → ((leb 1 (at 0 w) && ltb (at 0 w) (2 ^ 63)) && rowFits w) ≡ rowOk w
 unfolding entryOf entryStrict
 row-tests w h k =
-    rw (signed-within (at 1 w), lt-ltb (at 3 w) (2 ^ 64) h, lt-ltb (at 4 w) (2 ^ 64) k, int-within (at 5 w), and-true (ltb (at 0 w) (2 ^ 63)))
+    rw (signed-within (at 1 w), lt-ltb (at 3 w) (2 ^ 64) h, lt-ltb (at 4 w) (2 ^ 64) k, int-within (at 5 w))
+    (regroup (leb 1 (at 0 w)) (ltb (at 0 w) (2 ^ 63)) (isMark (at 2 w)) (isInt (at 5 w)) (ltb (at 9 w) (2 ^ 32)))
+  where
+    regroup : (a b m i z : Bool) → ((a && b) && (m && (i && z))) ≡ ((a && (b && (z && true))) && (m && i))
+    regroup false b m i z = refl
+    regroup true false m i z = refl
+    regroup true true m i true = ap (λ (t : Bool). m && t) (and-true i)
+    regroup true true m i false = ap (λ (t : Bool). m && t) (and-false i) ∙ and-false m
 
 seq-above : (w : Row) → rowOk w ≡ true → 0 + 1 ≤ at 0 w
 unfolding entryOf
@@ -65,10 +72,10 @@ abbrev pub climbs : ℕ → List Row → Bool
 climbs last l = sortedOk (last + 1) l && ltb last (2 ^ 63)
 
 abbrev pub follows : ℕ → Row → Bool
-follows last w = ltb last (at 0 w) && entryStrict w
+follows last w = ltb last (at 0 w) && rowFits w
 
 abbrev pub RowForm : Row → Type 0
-RowForm w = rowOk w ≡ ((leb 1 (at 0 w) && ltb (at 0 w) (2 ^ 63)) && entryStrict w)
+RowForm w = rowOk w ≡ ((leb 1 (at 0 w) && ltb (at 0 w) (2 ^ 63)) && rowFits w)
 
 pub climb-first : (l : List Row) → climbs 0 l ≡ sortedOk 0 l
 unfolding sortedOk
@@ -89,14 +96,14 @@ climb-cons last w l f =
     ∙ by-test (ltb last s)
     (λ t.
     let h : last < s = ltb-true last s t in
-    ap₂ (λ (x y : Bool). ((((x && ltb s (2 ^ 63)) && entryStrict w) && y) && r) && ltb last (2 ^ 63)) (le-leb 1 s (omega arith)) (le-leb (last + 1) s (omega arith))
-    ∙ mix (entryStrict w) r (ltb s (2 ^ 63)) (ltb last (2 ^ 63)) (λ u. lt-ltb last (2 ^ 63) (omega (arith, ltb-true s (2 ^ 63) u)))
-    ∙ sym (ap (λ (x : Bool). (x && entryStrict w) && (r && ltb s (2 ^ 63))) t))
+    ap₂ (λ (x y : Bool). ((((x && ltb s (2 ^ 63)) && rowFits w) && y) && r) && ltb last (2 ^ 63)) (le-leb 1 s (omega arith)) (le-leb (last + 1) s (omega arith))
+    ∙ mix (rowFits w) r (ltb s (2 ^ 63)) (ltb last (2 ^ 63)) (λ u. lt-ltb last (2 ^ 63) (omega (arith, ltb-true s (2 ^ 63) u)))
+    ∙ sym (ap (λ (x : Bool). (x && rowFits w) && (r && ltb s (2 ^ 63))) t))
     (λ t.
     let h : s ≤ last = ltb-false last s t in
-    ap (λ (y : Bool). ((((leb 1 s && ltb s (2 ^ 63)) && entryStrict w) && y) && r) && ltb last (2 ^ 63)) (lt-leb (last + 1) s (omega arith))
-    ∙ ap (λ (y : Bool). (y && r) && ltb last (2 ^ 63)) (and-false ((leb 1 s && ltb s (2 ^ 63)) && entryStrict w))
-    ∙ sym (ap (λ (x : Bool). (x && entryStrict w) && (r && ltb s (2 ^ 63))) t))
+    ap (λ (y : Bool). ((((leb 1 s && ltb s (2 ^ 63)) && rowFits w) && y) && r) && ltb last (2 ^ 63)) (lt-leb (last + 1) s (omega arith))
+    ∙ ap (λ (y : Bool). (y && r) && ltb last (2 ^ 63)) (and-false ((leb 1 s && ltb s (2 ^ 63)) && rowFits w))
+    ∙ sym (ap (λ (x : Bool). (x && rowFits w) && (r && ltb s (2 ^ 63))) t))
   where
     mix : (e r b c : Bool) → (b ≡ true → c ≡ true) → ((((b && e) && true) && r) && c) ≡ (e && (r && b))
     mix true true true c g = g refl

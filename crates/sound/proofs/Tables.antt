@@ -15,7 +15,7 @@ use Rattle.definition.specs.Calls.{bound, countersOk, stateShort}
 use Rattle.definition.specs.Words.{at}
 use Rattle.definition.specs.Layout.{Row, Buffers, statsAt, subsAt, subRows, usedSubs, usedRows, ringsFormed, lengthsOf}
 use Rattle.definition.proofs.Tests.{and-left, and-right}
-use Rattle.sound.specs.Sound.{limitsOk, countsOk, marksOk, headOk, rowOk, holderOk, sortedOk, eachOk, kindBy, idsApart, apartBy, rowsUpTo, emptyBy, reservedAt, waitingAt, queueSeqs, queueApart, tablesOk, restOk}
+use Rattle.sound.specs.Sound.{limitsOk, countsOk, marksOk, headOk, rowOk, holderOk, sortedOk, eachOk, kindBy, idsApart, apartBy, rowsUpTo, emptyBy, reservedAt, waitingAt, queueSeqs, queueApart, sizesAt, tablesOk, restOk}
 use Rattle.sound.proofs.Tests.{part-of}
 use Rattle.sound.proofs.Head.{limits-used}
 use Rattle.sound.proofs.Subs.{rows-in, rows-over}
@@ -52,21 +52,22 @@ with-holders true a b e f = sym (ap₂ _&&_ (sym e) (f refl))
 with-holders false a b e f = ap (λ (x : Bool). x && b) e
 
 module _ (q : Bool) (most others reserved waiting : ℕ) (subs rows : List Row) (b : others + (reserved + waiting) ≤ length rows) where
-  pub table-tests : (each ids held sorted apart : Bool)
+  pub table-tests : (each ids held sorted apart sizes : Bool)
       → each ≡ eachOk (kindBy q) most subs rows
       → ids ≡ idsApart subs
       → held ≡ all rowOk (slice others (others + reserved) rows)
       → (held ≡ true → all holderOk (slice others (others + reserved) rows) ≡ true)
       → sorted ≡ sortedOk 0 (slice (others + reserved) (others + reserved + waiting) rows)
       → apart ≡ (queueApart (kindBy q) others reserved waiting subs rows && all (apartBy (kindBy q)) (subsAt (kindBy q) subs rows))
-      → ((q || eqb (reserved + waiting) 0) && (each && (ids && (held && (sorted && (apart && true)))))) ≡ tablesOk (kindBy q) most others reserved waiting subs rows
+      → sizes ≡ sizesAt (others + reserved + waiting) rows
+      → ((q || eqb (reserved + waiting) 0) && (each && (ids && (held && (sorted && (apart && (sizes && true))))))) ≡ tablesOk (kindBy q) most others reserved waiting subs rows
   unfolding tablesOk
-  table-tests each ids held sorted apart e f g h i j =
+  table-tests each ids held sorted apart sizes e f g h i j z =
       let r : slice others (others + reserved) rows ≡ reservedAt others reserved rows = part-of rows others reserved (omega arith) in
       let w : slice (others + reserved) (others + reserved + waiting) rows ≡ waitingAt others reserved waiting rows = part-of rows (others + reserved) waiting (omega arith) in
       let kept = with-holders held (all rowOk (reservedAt others reserved rows)) (all holderOk (reservedAt others reserved rows)) (g ∙ ap (all rowOk) r) (λ t. sym (ap (all holderOk) r) ∙ h t) in
       ap₂ _&&_ (place-by q (reserved + waiting))
-      (ap₂ _&&_ e (ap₂ _&&_ f (ap₂ _&&_ kept (ap₂ _&&_ (i ∙ ap (sortedOk 0) w) (ap (λ (t : Bool). t && true) j)))))
+      (ap₂ _&&_ e (ap₂ _&&_ f (ap₂ _&&_ kept (ap₂ _&&_ (i ∙ ap (sortedOk 0) w) (ap₂ (λ (t u : Bool). t && (u && true)) j z)))))
 
   -- where the waiting rows do not rise, nothing else is asked
   pub table-unsorted : (each ids held : Bool)
@@ -78,11 +79,51 @@ module _ (q : Bool) (most others reserved waiting : ℕ) (subs rows : List Row) 
       → false ≡ tablesOk (kindBy q) most others reserved waiting subs rows
   table-unsorted each ids held e f g h i =
       sym (stop (q || eqb (reserved + waiting) 0) each ids held)
-      ∙ table-tests each ids held false (queueApart (kindBy q) others reserved waiting subs rows && all (apartBy (kindBy q)) (subsAt (kindBy q) subs rows)) e f g h i refl
+      ∙ table-tests each ids held false (queueApart (kindBy q) others reserved waiting subs rows && all (apartBy (kindBy q)) (subsAt (kindBy q) subs rows)) (sizesAt (others + reserved + waiting) rows) e f g h i refl refl
     where
       stop : (a b c d : Bool) → (a && (b && (c && (d && false)))) ≡ false
       stop a b c d =
           ap (λ (x : Bool). a && (b && (c && x))) (and-false d) ∙ ap (λ (x : Bool). a && (b && x)) (and-false c) ∙ ap (λ (x : Bool). a && x) (and-false b) ∙ and-false a
+
+  -- where all but the sizes is tested
+  module _ (ids held apart : Bool)
+      (e : true ≡ eachOk (kindBy q) most subs rows)
+      (f : ids ≡ idsApart subs)
+      (g : held ≡ all rowOk (slice others (others + reserved) rows))
+      (h : held ≡ true → all holderOk (slice others (others + reserved) rows) ≡ true)
+      (i : true ≡ sortedOk 0 (slice (others + reserved) (others + reserved + waiting) rows))
+      (j : apart ≡ (queueApart (kindBy q) others reserved waiting subs rows && all (apartBy (kindBy q)) (subsAt (kindBy q) subs rows))) where
+    pub table-stop : ((q || eqb (reserved + waiting) 0) && (ids && (held && apart))) ≡ false → false ≡ tablesOk (kindBy q) most others reserved waiting subs rows
+    table-stop c =
+        sym (stop (q || eqb (reserved + waiting) 0) ids held apart (sizesAt (others + reserved + waiting) rows) c)
+        ∙ table-tests true ids held true apart (sizesAt (others + reserved + waiting) rows) e f g h i j refl
+      where
+        stop : (a b c d z : Bool) → (a && (b && (c && d))) ≡ false → (a && (b && (c && (d && (z && true))))) ≡ false
+        stop true true true true z r = absurd (true≢false r)
+        stop true true true false z r = refl
+        stop true true false d z r = refl
+        stop true false c d z r = refl
+        stop false b c d z r = refl
+
+    pub table-last : (sizes : Bool) → sizes ≡ sizesAt (others + reserved + waiting) rows → ((q || eqb (reserved + waiting) 0) && (ids && (held && apart))) ≡ true
+        → sizes ≡ tablesOk (kindBy q) most others reserved waiting subs rows
+    table-last sizes z c = sym (last (q || eqb (reserved + waiting) 0) ids held apart sizes c) ∙ table-tests true ids held true apart sizes e f g h i j z
+      where
+        last : (a b c d z : Bool) → (a && (b && (c && d))) ≡ true → (a && (b && (c && (d && (z && true))))) ≡ z
+        last true true true true z r = and-true z
+        last true true true false z r = absurd (true≢false (sym r))
+        last true true false d z r = absurd (true≢false (sym r))
+        last true false c d z r = absurd (true≢false (sym r))
+        last false b c d z r = absurd (true≢false (sym r))
+
+    -- what the sizes are asked of
+    pub table-known : ((q || eqb (reserved + waiting) 0) && (ids && (held && apart))) ≡ true
+        → (emptyBy (kindBy q) (reserved + waiting) ≡ true) × ((queueApart (kindBy q) others reserved waiting subs rows && all (apartBy (kindBy q)) (subsAt (kindBy q) subs rows)) ≡ true)
+    table-known c =
+        let place : Bool = q || eqb (reserved + waiting) 0 in (
+          sym (place-by q (reserved + waiting)) ∙ and-left place (ids && (held && apart)) c,
+          sym j ∙ and-right held apart (and-right ids (held && apart) (and-right place (ids && (held && apart)) c)),
+        )
 
   -- nor where a consumer is not sound
   pub table-unfit : false ≡ eachOk (kindBy q) most subs rows → false ≡ tablesOk (kindBy q) most others reserved waiting subs rows
@@ -95,6 +136,7 @@ module _ (q : Bool) (most others reserved waiting : ℕ) (subs rows : List Row) 
       ∷ (all rowOk (reservedAt others reserved rows) && all holderOk (reservedAt others reserved rows))
       ∷ sortedOk 0 (waitingAt others reserved waiting rows)
       ∷ (queueApart (kindBy q) others reserved waiting subs rows && all (apartBy (kindBy q)) (subsAt (kindBy q) subs rows))
+      ∷ sizesAt (others + reserved + waiting) rows
       ∷ []))) (sym e) ∙ and-false place)
 
 -- ---- the rest

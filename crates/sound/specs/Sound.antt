@@ -6,13 +6,14 @@ use mathlib.Core.Bool.{Bool, true, false, not, _&&_, _||_}
 use mathlib.Core.List.{List, [], _∷_, _++_, map}
 use lib.Dec.{leb, ltb, eqb}
 use lib.ListN.{take, drop}
+use Rattle.words.specs.Words.{isInt}
 use Rattle.words.specs.Pick.{if_then_else_}
 use Rattle.entry.specs.Entry.{entryOf}
 use Rattle.model.specs.Model.{sameId}
 use Rattle.definition.specs.Base.{all, every, tally, member, distinct, ascending}
 use Rattle.definition.specs.Types.{Kind, queue, topic, Sub}
 use Rattle.definition.specs.Consumer.{isBrowser}
-use Rattle.definition.specs.Calls.{idOk, entryOk, optional, bound, seqs, rowsOf, subPlaced, taken, countersOk}
+use Rattle.definition.specs.Calls.{idOk, entryOk, optional, bound, seqs, rowsOf, subPlaced, taken, countersOk, sizesAgree}
 use Rattle.definition.specs.Words.{at}
 pub use Rattle.definition.specs.Words.{kindBy}
 use Rattle.definition.specs.Layout.{Row, Buffers, flag, idAt, heldAt, subAt, eachSub, statsAt, subsAt, subRows, usedSubs, usedRows, ringsFormed, isMark, entryStrict, wordsStrict, subStrict}
@@ -38,6 +39,10 @@ headOk h = limitsOk h && (countsOk h && (marksOk h && countersOk (bound (at 3 h)
 abbrev pub upward : ℕ → List ℕ → Bool
 upward k [] = true
 upward k (x ∷ xs) = leb k x && upward (suc x) xs
+
+-- what is asked of one besides its sequence number: the mark and the redelivery are strict, the size is in range
+abbrev pub rowFits : Row → Bool
+rowFits w = isMark (at 2 w) && (isInt (at 5 w) && ltb (at 9 w) (2 ^ 32))
 
 -- one that holds an entry
 abbrev pub rowOk : Row → Bool
@@ -159,6 +164,10 @@ abbrev pub queueApart : Kind → ℕ → ℕ → ℕ → List Row → List Row �
 queueApart queue others reserved waiting subs rows = distinct (queueSeqs others reserved waiting subs rows)
 queueApart topic others reserved waiting subs rows = true
 
+-- copies among the first n rows agree on the size
+abbrev pub sizesAt : ℕ → List Row → Bool
+sizesAt n rows = sizesAgree (map entryOf (take n rows))
+
 abbrev pub tableTests : Kind → ℕ → ℕ → ℕ → ℕ → List Row → List Row → List Bool
 tableTests k most others reserved waiting subs rows =
     emptyBy k (reserved + waiting)
@@ -167,6 +176,7 @@ tableTests k most others reserved waiting subs rows =
     ∷ (all rowOk (reservedAt others reserved rows) && all holderOk (reservedAt others reserved rows))
     ∷ sortedOk 0 (waitingAt others reserved waiting rows)
     ∷ (queueApart k others reserved waiting subs rows && all (apartBy k) (subsAt k subs rows))
+    ∷ sizesAt (others + reserved + waiting) rows
     ∷ []
 
 unfoldable pub tablesOk : Kind → ℕ → ℕ → ℕ → ℕ → List Row → List Row → Bool

@@ -14,8 +14,9 @@ ghost use Rattle.definition.specs.Base.{all, every, member, distinct, rising, a
 ghost use Rattle.definition.specs.Types.{queue};
 ghost use Rattle.definition.specs.Calls.{idOk, countersOk, seqs, taken, stateShort};
 ghost use Rattle.definition.specs.Words.{at};
-ghost use Rattle.definition.specs.Layout.{flag, idAt, statsAt, eachSub, subsAt, subRows, ringsFormed, entryStrict, wordsStrict, soundBuffers, lengthsOf};
-ghost use Rattle.sound.specs.Sound.{limitsOk, countsOk, marksOk, headOk, rowOk, flightOk, holderOk, flyingOk, sortedOk, wordTests, ownOk, eachOk, kindBy, idsApart, seqsAt, heldSeqs, heldRise, SameFrom, apartBy, rowsUpTo, queueSeqs, queueApart, tablesOk, lent, restOk};
+ghost use Rattle.definition.specs.Layout.{flag, idAt, statsAt, eachSub, subsAt, subRows, ringsFormed, wordsStrict, soundBuffers, lengthsOf};
+ghost use Rattle.copies.specs.Copies.{sharedBy};
+ghost use Rattle.sound.specs.Sound.{limitsOk, countsOk, marksOk, headOk, rowFits, rowOk, flightOk, holderOk, flyingOk, sortedOk, wordTests, ownOk, eachOk, kindBy, idsApart, seqsAt, heldSeqs, heldRise, SameFrom, apartBy, rowsUpTo, queueSeqs, queueApart, sizesAt, tablesOk, lent, restOk};
 
 type SubRow = [u64; 16];
 
@@ -25,6 +26,8 @@ const CALLS_MOST: u64 = 1099511627776;
 const ALLOWANCE_MOST: u64 = 86400000;
 
 const SEQ_END: u64 = 9223372036854775808;
+
+const SIZE_END: u64 = 4294967296;
 
 const PREFETCH_END: u64 = 2147483648;
 
@@ -116,7 +119,8 @@ fn entry_ok(row: Row) -> bool
     fits(row[4]);
     fits(row[6]);
     let seq = row[0];
-    ((1 <= seq) & (seq < SEQ_END)) & ((row[2] <= 1) & words::is_int(row[5]))
+    ((1 <= seq) & (seq < SEQ_END))
+        & ((row[2] <= 1) & (words::is_int(row[5]) & (row[9] < SIZE_END)))
 }
 
 // And in flight the marks that it is freed or in a transaction.
@@ -143,14 +147,14 @@ fn entries_ok(rows: &[Row], from: usize, to: usize) -> bool
     true
 }
 
-// Whether a row's number is above the last one and its marks and its redelivery are strict.
+// Whether a row's number is above the last one, its marks and its redelivery are strict, and its size is in range.
 fn follows(row: Row, last: u64) -> bool
-    ensures { λ r. ⌜ r ≡ (ltb last (at 0 row) && entryStrict row) ⌝ }
-    ensures { λ r. ⌜ rowOk row ≡ ((leb 1 (at 0 row) && ltb (at 0 row) (2 ^ 63)) && entryStrict row) ⌝ }
+    ensures { λ r. ⌜ r ≡ (ltb last (at 0 row) && rowFits row) ⌝ }
+    ensures { λ r. ⌜ rowOk row ≡ ((leb 1 (at 0 row) && ltb (at 0 row) (2 ^ 63)) && rowFits row) ⌝ }
 {
     fits(row[3]);
     fits(row[4]);
-    (last < row[0]) & ((row[2] <= 1) & words::is_int(row[5]))
+    (last < row[0]) & ((row[2] <= 1) & (words::is_int(row[5]) & (row[9] < SIZE_END)))
 }
 
 // rows[from..to] by rising sequence number, four a turn: the first is above 0, each above the one before, the last in range.
@@ -608,6 +612,19 @@ fn apart(
     queue_apart(subs, n, rows, others, reserved, waiting, &mut many)
 }
 
+// ---- sizes
+
+// Whether copies of an entry among the first rows agree on its size. Where no entry can have two rows, none is looked at.
+fn sizes_ok(subs: &[SubRow], n: usize, rows: &[Row], used: usize, on_queue: bool) -> bool
+    requires { ⌜ (sharedBy «on_queue» (take n (now subs)) ≡ false → sizesAt used (now rows) ≡ true) ⌝ }
+    ensures { λ r. ⌜ r ≡ sizesAt used (now (rows .entry)) ⌝ }
+{
+    if !copies::shared(subs, n, on_queue) {
+        return true;
+    }
+    copies::agree(rows, used)
+}
+
 // ---- all
 
 // The consumers and the rows, whose counts fit.
@@ -638,7 +655,10 @@ fn tables_ok(
         return false;
     }
     let seqs = apart(subs, n, rows, others, reserved, waiting, on_queue);
-    place & (ids & (kept & (seqs & true)))
+    if !(place & (ids & (kept & seqs))) {
+        return false;
+    }
+    sizes_ok(subs, n, rows, first + waiting, on_queue)
 }
 
 // What follows the head's own numbers.

@@ -22,16 +22,19 @@ word-kept w k v j h = getD-set-other w k j v 0 h
 below : {j k : ℕ} → j < k → j ≡ k → ⊥
 below h e = omega arith
 
+above : {j k : ℕ} → k < j → j ≡ k → ⊥
+above h e = omega arith
+
 -- the words of the place are no part of the entry
-pub place-kept : (w : Row) (k v : ℕ) → 6 ≤ k → entryOf (set w k v) ≡ entryOf w
+pub place-kept : (w : Row) (k v : ℕ) → 6 ≤ k → k ≤ 8 → entryOf (set w k v) ≡ entryOf w
 unfolding entryOf
-place-kept w k v h =
+place-kept w k v h g =
     rw
-    (word-kept w k v 0 (below (omega arith)), word-kept w k v 1 (below (omega arith)), word-kept w k v 2 (below (omega arith)), word-kept w k v 3 (below (omega arith)), word-kept w k v 4 (below (omega arith)), word-kept w k v 5 (below (omega arith)))
+    (word-kept w k v 0 (below (omega arith)), word-kept w k v 1 (below (omega arith)), word-kept w k v 2 (below (omega arith)), word-kept w k v 3 (below (omega arith)), word-kept w k v 4 (below (omega arith)), word-kept w k v 5 (below (omega arith)), word-kept w k v 9 (above (omega arith)))
 
 pub freed-entry : (tx : Bool) (w : Row) → entryOf (freedRow tx w) ≡ entryOf w
-freed-entry true w = place-kept (set w 7 1) 8 1 (omega arith) ∙ place-kept w 7 1 (omega arith)
-freed-entry false w = place-kept w 7 1 (omega arith)
+freed-entry true w = place-kept (set w 7 1) 8 1 (omega arith) (omega arith) ∙ place-kept w 7 1 (omega arith) (omega arith)
+freed-entry false w = place-kept w 7 1 (omega arith) (omega arith)
 
 pub mark-entry : (first last : ℕ) (tx : Bool) (w : Row) → entryOf (markRow first last tx w) ≡ entryOf w
 mark-entry first last tx w = by (inRange first last w)
@@ -41,7 +44,7 @@ mark-entry first last tx w = by (inRange first last w)
     by false = refl
 
 pub unmark-entry : (w : Row) → entryOf (unmarkRow w) ≡ entryOf w
-unmark-entry w = place-kept w 8 0 (omega arith)
+unmark-entry w = place-kept w 8 0 (omega arith) (omega arith)
 
 -- the counter rises in the entry
 pub raised-entry : (w : Row) → 5 < length w → entryOf (raisedRow w) ≡ redelivered (entryOf w)
@@ -51,7 +54,7 @@ raised-entry w h =
     let e : int (getD (set w 5 v) 5 0) ≡ oneMore (int (getD w 5 0)) =
     ap int (getD-set-same w 5 v 0 h) ∙ int-unsigned (oneMore (int (getD w 5 0))) (oneMore-fits (int (getD w 5 0)) (int-fits (getD w 5 0))) in
     rw
-    (e, word-kept w 5 v 0 (below (omega arith)), word-kept w 5 v 1 (below (omega arith)), word-kept w 5 v 2 (below (omega arith)), word-kept w 5 v 3 (below (omega arith)), word-kept w 5 v 4 (below (omega arith)))
+    (e, word-kept w 5 v 0 (below (omega arith)), word-kept w 5 v 1 (below (omega arith)), word-kept w 5 v 2 (below (omega arith)), word-kept w 5 v 3 (below (omega arith)), word-kept w 5 v 4 (below (omega arith)), word-kept w 5 v 9 (above (omega arith)))
 
 pub redeliver-entry : (first last : ℕ) (w : Row) → 5 < length w → entryOf (redeliverRow first last w) ≡ (if inRange first last w then redelivered (entryOf w) else entryOf w)
 redeliver-entry first last w h = by (inRange first last w)
@@ -86,7 +89,7 @@ redeliver-length first last w = by (inRange first last w)
 
 -- ---- a row as it goes out
 
-pub flown-row : (n : ℕ) (w : Row) → length w ≡ 9 → inflightAt (flownRow n w) ≡ inflightOf n (entryOf w)
+pub flown-row : (n : ℕ) (w : Row) → length w ≡ 10 → inflightAt (flownRow n w) ≡ inflightOf n (entryOf w)
 flown-row n w e =
     let a : Row = set w 6 n in
     let b : Row = set a 7 0 in
@@ -95,5 +98,5 @@ flown-row n w e =
     let six : getD (set b 8 0) 6 0 ≡ n = word-kept b 8 0 6 (below (omega arith)) ∙ word-kept a 7 0 6 (below (omega arith)) ∙ getD-set-same w 6 n 0 (omega arith) in
     let seven : getD (set b 8 0) 7 0 ≡ 0 = word-kept b 8 0 7 (below (omega arith)) ∙ getD-set-same a 7 0 0 h in
     let eight : getD (set b 8 0) 8 0 ≡ 0 = getD-set-same b 8 0 0 k in
-    let entry : entryOf (set b 8 0) ≡ entryOf w = place-kept b 8 0 (omega arith) ∙ place-kept a 7 0 (omega arith) ∙ place-kept w 6 n (omega arith) in
+    let entry : entryOf (set b 8 0) ≡ entryOf w = place-kept b 8 0 (omega arith) (omega arith) ∙ place-kept a 7 0 (omega arith) (omega arith) ∙ place-kept w 6 n (omega arith) (omega arith) in
     λ j. record { dseq = six j; entry = entry j; freed = flag (seven j); tx = flag (eight j) }

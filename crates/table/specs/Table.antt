@@ -13,7 +13,7 @@ use Rattle.table.specs.declared.Found.{Found}
 use Rattle.table.specs.declared.Found.the-variants.{At, Nothing}
 use Rattle.table.specs.declared.Removed.{Removed}
 
--- nine words: 0 the sequence number, 5 redelivery, 6 the delivery number, 7 freed (0 is no), 8 acknowledged in a transaction
+-- ten words: 0 the sequence number, 5 redelivery, 6 the delivery number, 7 freed (0 is no), 8 acknowledged in a transaction, 9 the size
 abbrev pub Row : Type 0
 Row = List ℕ
 

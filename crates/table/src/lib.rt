@@ -270,7 +270,7 @@ fn raised_row(row: Row) -> Row
 // A row as it goes out: with a delivery number, neither freed nor acknowledged in a transaction.
 pub fn flown(row: Row, dseq: u64) -> Row
     ensures { λ r. ⌜ r ≡ flownRow dseq row ⌝ }
-    ensures { λ r. ⌜ length row ≡ 9 ⌝ }
+    ensures { λ r. ⌜ length row ≡ 10 ⌝ }
 {
     let mut r = row;
     r[DSEQ] = dseq;

@@ -226,7 +226,7 @@ module _ (now base : ℕ) (rows₀ events₀ : List Row) (s₀ : Sub) (d₀ : He
 
       pub going-sent : (s′ : Sub) (d′ : Head) (events′ : List Row) (x : Row) → s′ ≡ sentSub s → d′ ≡ sentHead d
           → events′ ≡ set events (d .events) (eventWords (message (idOf (s .conn) (s .session) (s .value)) (entryOf (getD rows (base + s .inflight) []) .seq) (entryOf (getD rows (base + s .inflight) []) .redelivery)))
-          → x ≡ flownRow (s .«next_dseq») (getD rows (base + s .inflight) []) → length (getD rows (base + s .inflight) []) ≡ 9
+          → x ≡ flownRow (s .«next_dseq») (getD rows (base + s .inflight) []) → length (getD rows (base + s .inflight) []) ≡ 10
           → expired (pos now) (entryOf (getD rows (base + s .inflight) [])) ≡ false
           → Going now base rows₀ events₀ s₀ d₀ (set rows (base + s .inflight) x) events′ s′ d′
       unfolding seen subView

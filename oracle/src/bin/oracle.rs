@@ -1,6 +1,6 @@
-//! oracle [--state | --state-full | --queries]: reads a call file from standard input, runs the
+//! oracle [--state | --state-full | --queries | --bytes]: reads a call file from standard input, runs the
 //! broker's destination, and prints what `runcalls` must print. With an option, also after each
-//! call, once a destination is open: the whole state in a line, or the queries' answers.
+//! call, once a destination is open: the whole state in a line, the queries' answers, or the bytes held.
 
 use std::env;
 use std::io::{self, BufWriter, Read, Write};
@@ -9,6 +9,7 @@ use std::process::ExitCode;
 use destination_oracle::harness::callfile::{self, BLOCK};
 use destination_oracle::harness::dump::{self, Audits};
 use destination_oracle::harness::engine::{Engine, Opened};
+use destination_oracle::harness::held::Held;
 use destination_oracle::harness::queries;
 
 fn main() -> ExitCode {
@@ -19,8 +20,9 @@ fn main() -> ExitCode {
         ["--state"] => |opened| dump::line(opened, Audits::Summed),
         ["--state-full"] => |opened| dump::line(opened, Audits::Listed),
         ["--queries"] => queries::lines,
+        ["--bytes"] => Held::line,
         _ => {
-            eprintln!("usage: oracle [--state | --state-full | --queries] <CALLFILE");
+            eprintln!("usage: oracle [--state | --state-full | --queries | --bytes] <CALLFILE");
             return ExitCode::from(64);
         }
     };

@@ -16,11 +16,11 @@ use destination_oracle::harness::callfile::{self, ack_bit, code, Call, BLOCK};
 use destination_oracle::harness::corners;
 use destination_oracle::harness::engine::refusal;
 use destination_oracle::harness::generate::{self, Profile};
-use destination_oracle::harness::library::WINDOW;
+use destination_oracle::harness::library::{CallWords, Lent, WINDOW};
 use destination_oracle::harness::random::Random;
 use destination_oracle::harness::sides::{self, Both, Sides};
 use destination_oracle::harness::spoil::Spoiling;
-use destination_oracle::harness::text;
+use destination_oracle::harness::text::{self, Script};
 use destination_oracle::harness::whole::Whole;
 use destination_oracle::openwire::model::ack_type;
 
@@ -45,6 +45,7 @@ fn main() -> ExitCode {
         refusals: [0; 10],
         halves: [0; 3],
         surplus: [0; 6],
+        texts: 0,
         seen: Vec::new(),
     };
     match run.all(&arguments) {
@@ -69,6 +70,8 @@ struct Run {
     halves: [u64; 3],
     /// Enqueues that bring a topic's list over its limit, by what has expired.
     surplus: [u64; 6],
+    /// Numbers of bytes held in the corners' texts.
+    texts: u64,
     /// Conditions, and after how many calls they held.
     seen: Vec<(&'static str, u64)>,
 }
@@ -80,7 +83,9 @@ impl Run {
             ([], _) => Err(USAGE.to_string()),
             ([word], _) if word == "corners" => {
                 for corner in corners::all() {
-                    self.file(&format!("corner {}", corner.name), &corner.script()?.file);
+                    let script = corner.script()?;
+                    self.file(&format!("corner {}", corner.name), &script.file);
+                    self.corner_bytes(corner.name, &script);
                 }
                 Ok(())
             }
@@ -91,6 +96,24 @@ impl Run {
                     self.file(name, &bytes);
                 }
                 Ok(())
+            }
+        }
+    }
+
+    /// The bytes held that a corner's text gives, of the library.
+    fn corner_bytes(&mut self, name: &str, script: &Script) {
+        let mut lent = Lent::new();
+        let calls = script.file.chunks(BLOCK).map_while(callfile::calls_of).flatten();
+        let mut wanted = script.bytes.iter().peekable();
+        for (index, call) in calls.enumerate() {
+            lent.call(CallWords::from(&call));
+            while let Some((_, bytes)) = wanted.next_if(|(after, _)| *after == index + 1) {
+                let asked = lent.bytes_held();
+                self.texts += 1;
+                if (asked.refusal, asked.answer) != (0, *bytes) {
+                    self.different += 1;
+                    println!("corner {name}, call {index}: {bytes} bytes by the text, {asked:?} by the library");
+                }
             }
         }
     }
@@ -132,7 +155,7 @@ impl Run {
         let mut sides = Sides::default();
         for (index, call) in calls.iter().enumerate() {
             let both = sides.call(call);
-            let mut what = both.difference(both.outcome, &sides.lent);
+            let mut what = both.difference(both.outcome, both.bytes, &sides.lent);
             if what.is_none() {
                 self.look(call, &both, &sides);
                 what = sides.between(call);
@@ -194,6 +217,7 @@ impl Run {
             "with something expired in such a list: {expired} (several waiting copies: {several}, the new one: {new}, \
              beside lists within the limit: {others}, beside discards: {discards})"
         );
+        println!("bytes held in texts: {}", self.texts);
         for (name, times) in &self.seen {
             println!("{name}: {times}");
         }
@@ -218,6 +242,7 @@ fn conditions(call: &Call, both: &Both) -> Vec<(&'static str, bool)> {
     };
     let accepted = both.reply.refusal == refusal::NONE;
     let answer = both.reply.answer;
+    let held = both.held.expect("an opened destination holds bytes");
     let marked = whole.subs.iter().flat_map(|s| &s.inflight).any(|i| i.tx);
     vec![
         ("states with reserved rows", !whole.reserved.is_empty()),
@@ -262,6 +287,13 @@ fn conditions(call: &Call, both: &Both) -> Vec<(&'static str, bool)> {
             accepted && single(call, whole).is_some_and(|more| more),
         ),
         ("calls with an allowance", accepted && whole.allowance > 0),
+        (
+            "states with entries, bytes held by the broker's figure",
+            held.entries > 0 && held.small == 0,
+        ),
+        ("states with a size below 256, bytes held by the second reading", held.small > 0),
+        ("states with copies of one entry", whole.rows() > held.entries),
+        ("states with 2^32 bytes or more", held.bytes() >> 32 > 0),
         (
             "calls at a clock below the allowance",
             accepted && clock_of(call).is_some_and(|clock| clock < whole.allowance),

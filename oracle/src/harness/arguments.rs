@@ -8,6 +8,8 @@ pub const CALL_LIMIT_MAX: u64 = 1 << 40;
 pub const ROWS: u64 = 512;
 /// A day of milliseconds.
 pub const ALLOWANCE_MAX: u64 = 86_400_000;
+/// Bytes of an entry.
+pub const SIZE_MAX: u64 = (1 << 32) - 1;
 pub const SEQUENCE_MAX: u64 = (1 << 63) - 1;
 
 /// What a word may hold.
@@ -47,7 +49,16 @@ fn ranges(call: &Call) -> Option<Vec<Range>> {
             CLOCK,
             Within(0, ALLOWANCE_MAX),
         ],
-        code::ENQUEUE => vec![Within(1, SEQUENCE_MAX), Any, FLAG, Any, Any, Int32, CLOCK],
+        code::ENQUEUE => vec![
+            Within(1, SEQUENCE_MAX),
+            Any,
+            FLAG,
+            Any,
+            Any,
+            Int32,
+            CLOCK,
+            Within(0, SIZE_MAX),
+        ],
         code::JOIN => vec![Any, Any, Any, Int32, Within(0, NO_SELECTOR), Within(0, 3), CLOCK],
         code::LEAVE => vec![Any, Any, Any, Any, CLOCK],
         code::ACK => {

@@ -3,6 +3,7 @@
 use std::fmt::{self, Write};
 
 use super::engine::Opened;
+use super::held::Held;
 use super::host::{EntryNumbers, Id};
 use super::whole::{SubNumbers, Whole};
 use crate::broker::destination::probe;
@@ -22,7 +23,9 @@ pub fn line(opened: &Opened, audits: Audits) -> String {
     if let Err(what) = probe::check_derived(&opened.dest) {
         panic!("{what}");
     }
-    line_of(&Whole::of(opened), audits)
+    let whole = Whole::of(opened);
+    Held::of(opened, &whole);
+    line_of(&whole, audits)
 }
 
 pub fn line_of(whole: &Whole, audits: Audits) -> String {
@@ -43,7 +46,8 @@ fn write_state(out: &mut String, whole: &Whole, audits: Audits) -> fmt::Result {
         whole.topic_limit, whole.allowance
     )?;
     write!(out, " stats={},{},{},{},{}", s[0], s[1], s[2], s[3], s[4])?;
-    write!(out, " turn={} waiting={}", whole.turn, entries(&whole.waiting))?;
+    write!(out, " bytes={} turn={}", whole.bytes(), whole.turn)?;
+    write!(out, " waiting={}", entries(&whole.waiting))?;
     for sub in &whole.subs {
         write_sub(out, sub)?;
     }
@@ -113,12 +117,12 @@ fn numbers(id: Id) -> String {
     format!("{},{},{}", id[0], id[1] as i64, id[2] as i64)
 }
 
-/// sequence:expiration:persistent:connection:match word in hexadecimal:redelivery
+/// sequence:expiration:persistent:connection:match word in hexadecimal:redelivery:size
 fn entry(n: &EntryNumbers) -> String {
     let persistent = u8::from(n.persistent);
     format!(
-        "{}:{}:{persistent}:{}:{:x}:{}",
-        n.sequence, n.expiration, n.connection, n.match_word, n.redelivery
+        "{}:{}:{persistent}:{}:{:x}:{}:{}",
+        n.sequence, n.expiration, n.connection, n.match_word, n.redelivery, n.size
     )
 }
 

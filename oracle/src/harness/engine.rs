@@ -553,7 +553,7 @@ fn id_of(call: &Call) -> Id {
 }
 
 fn entry_of(call: &Call) -> EntryNumbers {
-    let [sequence, expiration, persistent, connection, match_word, redelivery, ..] = call.args;
+    let [sequence, expiration, persistent, connection, match_word, redelivery, _, size] = call.args;
     EntryNumbers {
         sequence,
         expiration: expiration as i64,
@@ -561,6 +561,7 @@ fn entry_of(call: &Call) -> EntryNumbers {
         connection,
         match_word,
         redelivery: redelivery as i32,
+        size,
     }
 }
 

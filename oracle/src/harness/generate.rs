@@ -32,6 +32,10 @@ struct Maker {
     last_refusal: u8,
     clock: u64,
     next_sequence: u64,
+    /// Sizes have a chance of their own.
+    sizes: Random,
+    /// Whether sizes below 256 come up, since the latest open.
+    small_sizes: bool,
     /// The next number of each audited producer.
     audit_numbers: [i64; build::AUDITED],
 }
@@ -54,6 +58,8 @@ impl Maker {
             last_refusal: refusal::NONE,
             clock,
             next_sequence,
+            sizes: Random::new(seed.wrapping_mul(0x1_0003).wrapping_sub(salt)),
+            small_sizes: true,
             audit_numbers: [0; build::AUDITED],
         }
     }

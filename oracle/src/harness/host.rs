@@ -1,11 +1,15 @@
 //! The host's texts for numbers, one to one, and the broker's structures made from them.
 
-use std::sync::Arc;
+use std::sync::{Arc, OnceLock};
 
-use crate::broker::entry::{Entry, Memory, Meta};
+use bytes::Bytes;
+
+use crate::broker::entry::{Entry, Memory, Meta, ENTRY_OVERHEAD};
 use crate::openwire::model::{ConsumerId, Header, Message, MessageAck, MessageId, ProducerId, Throwable};
 use crate::openwire::types;
 use crate::selector::Selector;
+
+use super::arguments::SIZE_MAX;
 
 /// Selectors are numbered 0 to 63; this number is "none".
 pub const NO_SELECTOR: u64 = 64;
@@ -102,6 +106,21 @@ pub struct EntryNumbers {
     pub connection: u64,
     pub match_word: u64,
     pub redelivery: i32,
+    pub size: u64,
+}
+
+impl EntryNumbers {
+    /// The size that the broker's message has: its body and 256 bytes more.
+    pub fn charged(&self) -> u64 {
+        self.size.max(ENTRY_OVERHEAD)
+    }
+}
+
+/// A body of so many zeros. All bodies are parts of one, whose pages nothing reads or writes.
+fn body(length: u64) -> Bytes {
+    static ZEROS: OnceLock<&[u8]> = OnceLock::new();
+    let zeros = ZEROS.get_or_init(|| vec![0; SIZE_MAX as usize].leak());
+    Bytes::from_static(&zeros[..length as usize])
 }
 
 pub fn entry(n: EntryNumbers, memory: &Arc<Memory>) -> Entry {
@@ -113,6 +132,9 @@ pub fn entry(n: EntryNumbers, memory: &Arc<Memory>) -> Entry {
     msg.correlation_id = Some(match_text(n.match_word));
     msg.persistent = n.persistent;
     msg.expiration = n.expiration;
+    // The destination never reads the arrival: it holds the size that the call gave, also where the broker's is more.
+    msg.arrival = n.size as i64;
+    msg.content = n.size.checked_sub(ENTRY_OVERHEAD).map(body);
     let meta = Meta::new(memory.clone(), &msg);
     Entry {
         seq: n.sequence,
@@ -123,7 +145,7 @@ pub fn entry(n: EntryNumbers, memory: &Arc<Memory>) -> Entry {
 }
 
 pub fn entry_numbers(e: &Entry) -> EntryNumbers {
-    EntryNumbers {
+    let numbers = EntryNumbers {
         sequence: e.seq,
         expiration: e.msg.expiration,
         persistent: e.msg.persistent,
@@ -134,7 +156,10 @@ pub fn entry_numbers(e: &Entry) -> EntryNumbers {
             .map_or(0, |p| connection_number(&p.connection_id)),
         match_word: match_word(e.msg.correlation_id.as_deref().unwrap_or_default()),
         redelivery: e.redelivery,
-    }
+        size: e.msg.arrival as u64,
+    };
+    assert_eq!(e.meta.size, numbers.charged(), "the broker's size is the body's and 256");
+    numbers
 }
 
 /// A message id of which only the broker's number is read.

@@ -17,8 +17,11 @@ pub const AUDIT: usize = 1029;
 pub const WINDOW: usize = 1024;
 pub const ALLOWANCE_AT: usize = 8345;
 
+/// The word of a row that holds the entry's size.
+pub const SIZE_AT: usize = 9;
+
 pub type SubRow = [u64; 16];
-pub type Row = [u64; 9];
+pub type Row = [u64; 10];
 pub type EventRow = [u64; 6];
 
 /// A call as the library takes it.
@@ -140,6 +143,15 @@ extern "C" {
         rows_length: usize,
     ) -> Asked;
 
+    fn destination_bytes_held(
+        head: *const u64,
+        head_length: usize,
+        subs: *const SubRow,
+        subs_length: usize,
+        rows: *const Row,
+        rows_length: usize,
+    ) -> Asked;
+
     fn destination_seq_at(
         head: *const u64,
         head_length: usize,
@@ -253,7 +265,7 @@ impl Lent {
         Lent {
             head: vec![0; HEAD],
             subs: vec![[0; 16]; CONSUMERS],
-            rows: vec![[0; 9]; ROWS],
+            rows: vec![[0; 10]; ROWS],
             events: vec![[0; 6]; EVENTS],
         }
     }
@@ -341,6 +353,10 @@ impl Lent {
 
     pub fn message_count(&self) -> Asked {
         self.ask(destination_message_count)
+    }
+
+    pub fn bytes_held(&self) -> Asked {
+        self.ask(destination_bytes_held)
     }
 
     pub fn seq_at(&self, index: u64) -> Asked {
@@ -469,6 +485,7 @@ fn entry(row: &Row) -> EntryNumbers {
         connection: row[3],
         match_word: row[4],
         redelivery: row[5] as i32,
+        size: row[SIZE_AT],
     }
 }
 

@@ -6,6 +6,7 @@ pub mod corners;
 pub mod dump;
 pub mod engine;
 pub mod generate;
+pub mod held;
 pub mod host;
 #[cfg(feature = "library")]
 pub mod library;

@@ -6,7 +6,8 @@
 use super::callfile::Call;
 use super::dump::{self, Audits};
 use super::engine::{refusal, Engine, Opened, Reply, Uncoded};
-use super::library::{self, CallWords, Counters, EventRow, Lent, Line, Outcome, EVENTS, PAGE_LINES};
+use super::held::Held;
+use super::library::{self, Asked, CallWords, Counters, EventRow, Lent, Line, Outcome, EVENTS, PAGE_LINES};
 use super::random::Random;
 use super::text;
 use super::whole::Whole;
@@ -35,8 +36,11 @@ pub struct Sides {
 pub struct Both {
     pub reply: Reply,
     pub outcome: Outcome,
-    /// The broker's state, once a destination is open.
+    /// The library's bytes held.
+    pub bytes: Asked,
+    /// The broker's state and bytes held, once a destination is open.
     pub whole: Option<Whole>,
+    pub held: Option<Held>,
     /// The buffers before a call that the broker's side refuses.
     before: Option<Lent>,
 }
@@ -68,10 +72,14 @@ impl Sides {
                 panic!("{what}");
             }
         }
+        let whole = opened.map(Whole::of);
+        let held = opened.zip(whole.as_ref()).map(|(o, w)| Held::of(o, w));
         Both {
             reply,
             outcome,
-            whole: opened.map(Whole::of),
+            bytes: self.lent.bytes_held(),
+            whole,
+            held,
             before,
         }
     }
@@ -101,7 +109,7 @@ impl Sides {
         let before = (reply.refusal != refusal::NONE).then_some(kept);
         let outcome = library(&mut self.lent);
         let both = self.both(reply, outcome, before);
-        both.difference(outcome, &self.lent)
+        both.difference(outcome, both.bytes, &self.lent)
             .map(|_| "a call without a code")
     }
 }
@@ -243,7 +251,7 @@ pub fn batches_differ(calls: &[Call], random: &mut Random) -> Option<&'static st
 
 impl Both {
     /// What differs, if anything does. The buffers are an argument, so that spoilt ones can be tried.
-    pub fn difference(&self, outcome: Outcome, lent: &Lent) -> Option<&'static str> {
+    pub fn difference(&self, outcome: Outcome, bytes: Asked, lent: &Lent) -> Option<&'static str> {
         let reply = &self.reply;
         if outcome.refusal != u64::from(reply.refusal) {
             return Some("the refusal");
@@ -267,7 +275,16 @@ impl Both {
         if self.whole.is_some() && lent.whole() != self.whole {
             return Some("the state");
         }
-        None
+        (bytes != self.bytes_wanted()).then_some("the bytes held")
+    }
+
+    /// Bytes held as the broker's side has them; before an open there is no sound state.
+    fn bytes_wanted(&self) -> Asked {
+        let (refusal, answer) = self.held.map_or((refusal::NOT_SOUND, 0), |h| (refusal::NONE, h.bytes()));
+        Asked {
+            refusal: u64::from(refusal),
+            answer,
+        }
     }
 
     /// Both sides in lines.
@@ -279,11 +296,13 @@ impl Both {
         let events: Vec<String> = self.reply.events.iter().map(ToString::to_string).collect();
         let written = &lent.events[..self.outcome.events.min(lent.events.len())];
         format!(
-            "broker:  {} {} {events:?}\nlibrary: {} {} {written:?}\nbroker:  {}library: {}",
+            "broker:  {} {} {events:?} {:?}\nlibrary: {} {} {written:?} {:?}\nbroker:  {}library: {}",
             self.reply.refusal,
             self.reply.answer,
+            self.bytes_wanted(),
             self.outcome.refusal,
             self.outcome.answer,
+            self.bytes,
             state(&self.whole),
             state(&lent.whole()),
         )
@@ -301,7 +320,7 @@ pub fn first_difference(calls: &[Call]) -> Option<Difference> {
     let mut sides = Sides::default();
     for (index, call) in calls.iter().enumerate() {
         let both = sides.call(call);
-        let what = both.difference(both.outcome, &sides.lent);
+        let what = both.difference(both.outcome, both.bytes, &sides.lent);
         if let Some(what) = what.or_else(|| sides.between(call)) {
             let shown = both.show(&sides.lent);
             return Some(Difference { index, what, shown });

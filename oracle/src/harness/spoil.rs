@@ -3,7 +3,7 @@
 
 use std::collections::BTreeMap;
 
-use super::library::{Lent, Outcome, Row, ALLOWANCE_AT, AUDIT, AUDITS_AT, PRODUCERS_AT};
+use super::library::{Asked, Lent, Outcome, ALLOWANCE_AT, AUDIT, AUDITS_AT, PRODUCERS_AT, SIZE_AT};
 use super::random::Random;
 use super::sides::Both;
 
@@ -13,6 +13,7 @@ enum Place {
     Refusal,
     Answer,
     Events,
+    Bytes,
     Head(usize),
     Sub(usize, usize),
     Row(usize, usize),
@@ -80,9 +81,9 @@ impl Spoiling {
     pub fn all(&mut self, both: &Both, lent: &Lent, random: &mut Random) {
         for (class, places) in places(both, lent) {
             let at = places[random.below(places.len() as u64) as usize];
-            let (mut outcome, mut changed) = (both.outcome, lent.clone());
-            change(at, &mut outcome, &mut changed);
-            let noticed = both.difference(outcome, &changed).is_some();
+            let (mut outcome, mut bytes, mut changed) = (both.outcome, both.bytes, lent.clone());
+            change(at, &mut outcome, &mut bytes, &mut changed);
+            let noticed = both.difference(outcome, bytes, &changed).is_some();
             let counts = self.classes.entry(class).or_default();
             counts.0 += 1;
             counts.1 += u64::from(noticed);
@@ -108,11 +109,12 @@ impl Spoiling {
     }
 }
 
-fn change(at: Place, outcome: &mut Outcome, lent: &mut Lent) {
+fn change(at: Place, outcome: &mut Outcome, bytes: &mut Asked, lent: &mut Lent) {
     match at {
         Place::Refusal => outcome.refusal ^= 1,
         Place::Answer => outcome.answer ^= 1,
         Place::Events => outcome.events ^= 1,
+        Place::Bytes => bytes.answer ^= 1,
         Place::Head(k) => lent.head[k] ^= 1,
         Place::Sub(i, k) => lent.subs[i][k] ^= 1,
         Place::Row(i, k) => lent.rows[i][k] ^= 1,
@@ -126,13 +128,16 @@ fn every_class() -> Vec<String> {
         names.iter().map(|name| format!("{group}: {name}")).collect()
     };
     let mut all = named("outcome", &["refusal", "answer", "events"]);
+    all.extend(named("bytes held", &["answer"]));
     all.extend(named("head", &HEAD));
     all.extend(named("head", &["allowance"]));
     all.extend(named("consumer", &SUB));
     all.extend(named("in flight", &ENTRY));
     all.extend(named("in flight", &FLYING));
+    all.extend(named("in flight", &["size"]));
     for group in ["waits on a topic", "snapshot", "reserved", "waits"] {
         all.extend(named(group, &ENTRY));
+        all.extend(named(group, &["size"]));
     }
     all.extend(named("reserved", &ID));
     all.extend(named("producer", &ID));
@@ -151,6 +156,7 @@ fn places(both: &Both, lent: &Lent) -> Places {
     add("outcome: refusal".into(), Place::Refusal);
     add("outcome: answer".into(), Place::Answer);
     add("outcome: events".into(), Place::Events);
+    add("bytes held: answer".into(), Place::Bytes);
     for (i, event) in lent.events[..both.outcome.events].iter().enumerate() {
         for k in 0..event.len() {
             add(format!("event {}: word {k}", event[0]), Place::Event(i, k));
@@ -217,9 +223,10 @@ fn row_places(
     let end = from + count as usize;
     for i in from..end {
         for (k, name) in ENTRY.iter().chain(more).enumerate() {
-            debug_assert!(k < size_of::<Row>() / 8);
+            debug_assert!(k < SIZE_AT);
             add(format!("{group}: {name}"), Place::Row(i, k));
         }
+        add(format!("{group}: size"), Place::Row(i, SIZE_AT));
     }
     end
 }

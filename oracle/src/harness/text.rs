@@ -8,6 +8,7 @@
 //! `break count NUMBER` the last block gets this count, with a check to match
 //! `break byte NUMBER`  the byte there changes, and the check does not
 //! `break short NUMBER` only so many bytes of the last block are written
+//! `bytes NUMBER`       so many bytes are held after the calls so far, by document 02 §3
 //! `> LINE`             a line of the expected output; `> for A B: LINE` also works
 //! `# ...`              a remark
 
@@ -39,11 +40,14 @@ const NAMES: [&str; 16] = [
 struct Blocks {
     bytes: Vec<u8>,
     calls: Vec<Call>,
+    made: usize,
+    held: Vec<(usize, u64)>,
 }
 
 impl Blocks {
     fn add(&mut self, call: Call) {
         self.calls.push(call);
+        self.made += 1;
         if self.calls.len() == CALLS {
             self.end_block();
         }
@@ -103,6 +107,8 @@ impl Blocks {
 pub struct Script {
     pub file: Vec<u8>,
     pub expected: String,
+    /// After so many calls, so many bytes are held.
+    pub bytes: Vec<(usize, u64)>,
 }
 
 pub fn read(text: &str) -> Result<Script, String> {
@@ -115,6 +121,7 @@ pub fn read(text: &str) -> Result<Script, String> {
     Ok(Script {
         file: blocks.bytes,
         expected,
+        bytes: blocks.held,
     })
 }
 
@@ -133,6 +140,7 @@ fn read_line(line: &str, blocks: &mut Blocks, expected: &mut String) -> Result<(
             [] => {}
             ["block"] => blocks.end_block(),
             ["break", ref how @ ..] => blocks.damage(how)?,
+            ["bytes", held] => blocks.held.push((blocks.made, number(held)?)),
             ["code", code, ref args @ ..] => blocks.add(call(number(code)?, args)?),
             [name, ref args @ ..] => {
                 let code = NAMES

@@ -1,6 +1,8 @@
 //! The whole state as plain numbers, every list in a fixed order: the broker's here, the library's
 //! in `library`. Two states are the same when these are equal.
 
+use std::collections::BTreeMap;
+
 use super::engine::Opened;
 use super::host::{self, EntryNumbers, Id};
 use crate::broker::destination::probe::{self, SubView};
@@ -99,6 +101,26 @@ impl Whole {
         self.reserved.sort_by_key(|(id, _)| order(*id));
         self.producers.sort_by_key(|id| order(*id));
         self.audits.sort_by_key(|(id, _)| order(*id));
+    }
+
+    /// Every copy, in whatever place.
+    fn copies(&self) -> impl Iterator<Item = &EntryNumbers> {
+        let subs = self.subs.iter().flat_map(|s| {
+            let inflight = s.inflight.iter().map(|i| &i.entry);
+            inflight.chain(&s.tpending).chain(&s.snapshot)
+        });
+        let reserved = self.reserved.iter().flat_map(|(_, list)| list);
+        self.waiting.iter().chain(subs).chain(reserved)
+    }
+
+    /// The entries held, each once however many copies it has, by their numbers.
+    pub fn held(&self) -> BTreeMap<u64, EntryNumbers> {
+        self.copies().map(|e| (e.sequence, *e)).collect()
+    }
+
+    /// The sizes of the entries held, as the calls gave them.
+    pub fn bytes(&self) -> u64 {
+        self.held().values().map(|e| e.size).sum()
     }
 
     pub fn rows(&self) -> usize {

@@ -13,8 +13,8 @@ use Rattle.acks.proofs.mark.Tie as tie
 add-end : tie.Need-add-end
 add-end c = search needs
 
-nine-words-requires : tie.Need-nine-words-requires
-nine-words-requires c κs = search needs
+full-rows-requires : tie.Need-full-rows-requires
+full-rows-requires c κs = search needs
 
 mark-range-requires : tie.Need-mark-range-requires
 mark-range-requires c κs = search needs
@@ -32,8 +32,8 @@ same-length c = search needs
 returns : tie.Need-returns
 returns c =
     let a = c .before .before .before .before .before .before .before .args in
-    λ events. acted-mark (kindBy (a .d .queue)) (a .base) (a .s) (a .d) (now (a .rows)) (c .before .before .before .before .before .before .before .pre) (a .p) (a .tx) _ _ events (c .before .before .before .before .nine-words .ensures) (c .before .before .mark-range .ensures .0) (c .before .before .mark-range .ensures .1)
+    λ events. acted-mark (kindBy (a .d .queue)) (a .base) (a .s) (a .d) (now (a .rows)) (c .before .before .before .before .before .before .before .pre) (a .p) (a .tx) _ _ events (c .before .before .before .before .full-rows .ensures) (c .before .before .mark-range .ensures .0) (c .before .before .mark-range .ensures .1)
 
 pub mark-spec : {M : Type 1} → statement M
 mark-spec =
-    tie.close (tie.spec add-end nine-words-requires mark-range-requires add-s same-length returns)
+    tie.close (tie.spec add-end full-rows-requires mark-range-requires add-s same-length returns)

@@ -10,8 +10,8 @@ use Rattle.acks.proofs.raise.Tie as tie
 add-end : tie.Need-add-end
 add-end c = search needs
 
-nine-words-requires : tie.Need-nine-words-requires
-nine-words-requires c κs = search needs
+full-rows-requires : tie.Need-full-rows-requires
+full-rows-requires c κs = search needs
 
 redeliver-range-requires : tie.Need-redeliver-range-requires
 redeliver-range-requires c κs = search needs
@@ -22,8 +22,8 @@ same-length c = search needs
 returns : tie.Need-returns
 returns c =
     let a = c .before .before .before .before .before .before .args in
-    λ events. acted-raise (kindBy (a .d .queue)) (a .base) (a .s) (a .d) (now (a .rows)) (c .before .before .before .before .before .before .pre) (a .p) _ events (c .before .before .before .nine-words .ensures) (c .before .redeliver-range .ensures)
+    λ events. acted-raise (kindBy (a .d .queue)) (a .base) (a .s) (a .d) (now (a .rows)) (c .before .before .before .before .before .before .pre) (a .p) _ events (c .before .before .before .full-rows .ensures) (c .before .redeliver-range .ensures)
 
 pub raise-spec : {M : Type 1} → statement M
 raise-spec =
-    tie.close (tie.spec add-end nine-words-requires redeliver-range-requires same-length returns)
+    tie.close (tie.spec add-end full-rows-requires redeliver-range-requires same-length returns)

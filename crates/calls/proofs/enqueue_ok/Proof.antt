@@ -10,9 +10,6 @@ array-read-seq c = search needs
 array-read-known : tie.Need-array-read-known
 array-read-known c = search needs
 
-unused-requires : tie.Need-unused-requires
-unused-requires c κs = search needs
-
 array-read-is-int : tie.Need-array-read-is-int
 array-read-is-int c = search needs
 
@@ -22,9 +19,12 @@ is-int-requires c κs = search needs
 array-read-result : tie.Need-array-read-result
 array-read-result c = search needs
 
+array-read-result-2 : tie.Need-array-read-result-2
+array-read-result-2 c = search needs
+
 returns : tie.Need-returns
 unfolding enqueues
-returns c = rw (c .before .unused .ensures, c .is-int .ensures)
+returns c = rw (c .is-int .ensures)
 
 pub enqueue-ok-spec : {M : Type 1} → statement M
 enqueue-ok-spec =
@@ -32,8 +32,8 @@ enqueue-ok-spec =
     (tie.spec
     array-read-seq
     array-read-known
-    unused-requires
     array-read-is-int
     is-int-requires
     array-read-result
+    array-read-result-2
     returns)

@@ -30,6 +30,9 @@ array-read-int-of c = search needs
 int-of-requires : tie.Need-int-of-requires
 int-of-requires c κs = search needs
 
+array-read-t26 : tie.Need-array-read-t26
+array-read-t26 c = search needs
+
 returns : tie.Need-returns
 unfolding entryOf
 returns c = rw (toZ-ofZ w64 (c .before .signed-of .result) (search needs), c .before .signed-of .ensures, toZ-ofZ w32 (c .int-of .result) (search needs), c .int-of .ensures)
@@ -46,4 +49,5 @@ entry-of-spec =
     array-read-t19
     array-read-int-of
     int-of-requires
+    array-read-t26
     returns)

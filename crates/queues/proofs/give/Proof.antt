@@ -96,6 +96,12 @@ same-length-3 c =
     let k = c .before .before .before .before .before .before .before .before .before .before .before .before .before .before .before .push-message .kept in
     search needs
 
+-- the entry that was read
+taken : (c : tie.After-entry-of) → EntryFits (c .entry-of .result)
+taken c =
+    let a = c .before .before .args in
+    record { seq = search needs; expiration = search needs; producer = search needs; «match_word» = search needs; size = search needs; redelivery = rw (c .entry-of .ensures) (redelivery-fits (getD (now (a .rows)) (a .at) [])) }
+
 returns : tie.Need-returns
 returns c =
     let a = c .before .before .before .before .before .before .before .before .before .before .before .before .before .before .before .before .before .before .before .before .args in
@@ -106,7 +112,7 @@ returns c =
     let base = c .before .before .before .before .before .before .before .before .before .before .before .before .base-of in
     let row = c .before .before .before .before .before .before .before .before .before .inflight-row in
     let was : e .result ≡ entryOf (getD (now (a .rows)) (a .at) []) = e .ensures in
-    let fits : EntryFits (e .result) = record { seq = search needs; expiration = search needs; producer = search needs; «match_word» = search needs; redelivery = rw was (redelivery-fits (getD (now (a .rows)) (a .at) [])) } in
+    let fits : EntryFits (e .result) = taken (c .before .before .before .before .before .before .before .before .before .before .before .before .before .before .before .before .before .before) in
     let from : base .result ≡ subRows (take (a .i) (now (a .subs))) = omega (arith, base .ensures) in
     record {
       row = row .result;

@@ -42,12 +42,15 @@ array-read-is-int c = search needs
 is-int-requires : tie.Need-is-int-requires
 is-int-requires c κs = search needs
 
+array-read-result-2 : tie.Need-array-read-result-2
+array-read-result-2 c = search needs
+
 returns : tie.Need-returns
 returns c =
     let w = c .before .before .before .before .args .t1 in
     let seq : Bool = leb 1 (at 0 w) && ltb (at 0 w) (2 ^ 63) in (
-      ap (λ (t : Bool). seq && (isMark (at 2 w) && t)) (c .is-int .ensures) ∙ row-tests w (c .before .before .before .fits2 .ensures) (c .before .before .fits3 .ensures),
-      (holder-fits w (c .before .fits4 .ensures), λ t. ltb-true (at 0 w) (2 ^ 63) (and-right (leb 1 (at 0 w)) (ltb (at 0 w) (2 ^ 63)) (and-left seq (isMark (at 2 w) && c .is-int .result) t))),
+      ap (λ (t : Bool). seq && (isMark (at 2 w) && (t && ltb (at 9 w) (2 ^ 32)))) (c .is-int .ensures) ∙ row-tests w (c .before .before .before .fits2 .ensures) (c .before .before .fits3 .ensures),
+      (holder-fits w (c .before .fits4 .ensures), λ t. ltb-true (at 0 w) (2 ^ 63) (and-right (leb 1 (at 0 w)) (ltb (at 0 w) (2 ^ 63)) (and-left seq (isMark (at 2 w) && (c .is-int .result && ltb (at 9 w) (2 ^ 32))) t))),
     )
 
 pub entry-ok-spec : {M : Type 1} → statement M
@@ -64,4 +67,5 @@ entry-ok-spec =
     array-read-result
     array-read-is-int
     is-int-requires
+    array-read-result-2
     returns)

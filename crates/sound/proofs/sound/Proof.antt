@@ -47,7 +47,7 @@ returns-2 c =
     let t = (sym (w .ensures) ∙ not-false (w .result) (c .before .before .if1 .left)) in
     let l = long-enough b t in
     let f = c .before .head-ok in
-    let m = sound-means h subs rows (λ k. c .before .before .before .before .shared-slice-known .given k .fits) (l .1) (l .2) in
+    let m = sound-means h subs rows (l .1) (l .2) (λ k. c .before .before .before .before .shared-slice-known .given k .fits) in
     sym (ap₂ _&&_ t (m ∙ ap (λ (x : Bool). x && restOk b) (sym (f .ensures) ∙ not-true (f .result) (c .if2 .taken))))
 
 rest-ok-requires : tie.Need-rest-ok-requires
@@ -75,7 +75,7 @@ returns-3 c =
     let t = (sym (w .ensures) ∙ not-false (w .result) (c .before .before .before .if1 .left)) in
     let l = long-enough b t in
     let f = c .before .before .head-ok in
-    let m = sound-means h subs rows (λ k. c .before .before .before .before .before .shared-slice-known .given k .fits) (l .1) (l .2) in
+    let m = sound-means h subs rows (l .1) (l .2) (λ k. c .before .before .before .before .before .shared-slice-known .given k .fits) in
     c .rest-ok .ensures ∙ sym (ap₂ _&&_ t (m ∙ ap (λ (x : Bool). x && restOk b) (sym (f .ensures) ∙ not-false (f .result) (c .before .if2 .left))))
 
 pub sound-spec : {M : Type 1} → statement M

@@ -1,10 +1,13 @@
 -- `sound::tables_ok` meets its contract. Assumes nothing.
 use mathlib.Core.Path.{sym, _∙_}
-use mathlib.Core.Bool.{true}
+use mathlib.Core.Bool.{Bool, _&&_, _||_}
+use Prim.Native.Nat.{_+_}
 use borrow.Author.Tests.{not-true, not-false}
+use lib.Dec.{eqb}
 use lib.ListN.{take}
 use Rattle.sound.proofs.Subs.{held-rise}
-use Rattle.sound.proofs.Tables.{table-tests, table-unsorted, table-unfit}
+use Rattle.sound.proofs.Tables.{table-unsorted, table-stop, table-last, table-known, table-unfit}
+use Rattle.sound.proofs.Lone.{lone-at}
 use borrow.Author.Needs.{needs}
 use Rattle.sound.proofs.tables_ok.Statement.{statement}
 use Rattle.sound.proofs.tables_ok.Tie as tie
@@ -71,14 +74,55 @@ apart-requires c κs =
 
 returns-3 : tie.Need-returns-3
 returns-3 c =
-    let s = c .before .before .before .before .before .before .before in
+    let s = c .before .before .before .before .before .before .before .before in
     let a = s .args in
-    let each = c .before .before .before .before .before .before .subs-ok in
-    let ids = c .before .before .before .before .ids-apart in
-    let held = c .before .before .before .entries-ok in
-    let sorted = c .before .before .sorted-ok in
-    table-tests (a .on-queue) (a .most) (a .others) (a .reserved) (a .waiting) (take (a .n) (a .subs .now)) (a .rows .now) (s .pre .1 .1 .0)
-    true (ids .result) (held .result) true (c .apart .result) (sym (not-false (each .result) (c .before .before .before .before .before .if1 .left)) ∙ each .ensures) (ids .ensures) (held .ensures .0) (held .ensures .1) (sym (not-false (sorted .result) (c .before .if2 .left)) ∙ sorted .ensures) (c .apart .ensures)
+    let each = c .before .before .before .before .before .before .before .subs-ok in
+    let ids = c .before .before .before .before .before .ids-apart in
+    let held = c .before .before .before .before .entries-ok in
+    let sorted = c .before .before .before .sorted-ok in
+    let seqs = c .before .apart in
+    let e = sym (not-false (each .result) (c .before .before .before .before .before .before .if1 .left)) ∙ each .ensures in
+    let i = sym (not-false (sorted .result) (c .before .before .if2 .left)) ∙ sorted .ensures in
+    let us = take (a .n) (a .subs .now) in
+    let rows = a .rows .now in
+    let conj : Bool = (a .on-queue || eqb (a .reserved + a .waiting) 0) && (ids .result && (held .result && seqs .result)) in
+    table-stop (a .on-queue) (a .most) (a .others) (a .reserved) (a .waiting) us rows (s .pre .1 .1 .0) (ids .result) (held .result) (seqs .result) e (ids .ensures) (held .ensures .0) (held .ensures .1) i (seqs .ensures) (not-true conj (c .if3 .taken))
+
+add-sizes-ok : tie.Need-add-sizes-ok
+add-sizes-ok c = search needs
+
+sizes-ok-requires : tie.Need-sizes-ok-requires
+sizes-ok-requires c κs =
+    let s = c .before .before .before .before .before .before .before .before in
+    let a = s .args in
+    let each = c .before .before .before .before .before .before .before .subs-ok in
+    let ids = c .before .before .before .before .before .ids-apart in
+    let held = c .before .before .before .before .entries-ok in
+    let sorted = c .before .before .before .sorted-ok in
+    let seqs = c .before .apart in
+    let e = sym (not-false (each .result) (c .before .before .before .before .before .before .if1 .left)) ∙ each .ensures in
+    let i = sym (not-false (sorted .result) (c .before .before .if2 .left)) ∙ sorted .ensures in
+    let us = take (a .n) (a .subs .now) in
+    let rows = a .rows .now in
+    let conj : Bool = (a .on-queue || eqb (a .reserved + a .waiting) 0) && (ids .result && (held .result && seqs .result)) in
+    let k = table-known (a .on-queue) (a .most) (a .others) (a .reserved) (a .waiting) us rows (s .pre .1 .1 .0) (ids .result) (held .result) (seqs .result) e (ids .ensures) (held .ensures .0) (held .ensures .1) i (seqs .ensures) (not-false conj (c .if3 .left)) in
+    λ n. lone-at (a .most) (a .reserved) (a .waiting) us rows (a .others) (s .pre .1 .0) (a .on-queue) (k .0) (sym e) (k .1) n
+
+returns-4 : tie.Need-returns-4
+returns-4 c =
+    let s = c .before .before .before .before .before .before .before .before .before in
+    let a = s .args in
+    let each = c .before .before .before .before .before .before .before .before .subs-ok in
+    let ids = c .before .before .before .before .before .before .ids-apart in
+    let held = c .before .before .before .before .before .entries-ok in
+    let sorted = c .before .before .before .before .sorted-ok in
+    let seqs = c .before .before .apart in
+    let e = sym (not-false (each .result) (c .before .before .before .before .before .before .before .if1 .left)) ∙ each .ensures in
+    let i = sym (not-false (sorted .result) (c .before .before .before .if2 .left)) ∙ sorted .ensures in
+    let us = take (a .n) (a .subs .now) in
+    let rows = a .rows .now in
+    let conj : Bool = (a .on-queue || eqb (a .reserved + a .waiting) 0) && (ids .result && (held .result && seqs .result)) in
+    table-last (a .on-queue) (a .most) (a .others) (a .reserved) (a .waiting) us rows (s .pre .1 .1 .0) (ids .result) (held .result) (seqs .result) e (ids .ensures) (held .ensures .0) (held .ensures .1) i (seqs .ensures) (c .sizes-ok .result) (c .sizes-ok .ensures) (not-false conj (c .before .if3 .left))
 
 pub tables-ok-spec : {M : Type 1} → statement M
 tables-ok-spec =
@@ -94,4 +138,7 @@ tables-ok-spec =
     sorted-ok-requires
     returns-2
     apart-requires
-    returns-3)
+    returns-3
+    add-sizes-ok
+    sizes-ok-requires
+    returns-4)

@@ -24,7 +24,7 @@ use Rattle.storing.proofs.store.Statement.{statement}
 use Rattle.storing.proofs.store.Tie as tie
 
 row-is : (c : tie.Start) → entryOf (rowOf (c .args .e) 0 0 0) ≡ c .args .e
-row-is c = entry-of-row (c .args .e) 0 0 0 (record { seq = search needs; expiration = search needs; producer = search needs; «match_word» = search needs; redelivery = search needs })
+row-is c = entry-of-row (c .args .e) 0 0 0 (record { seq = search needs; expiration = search needs; producer = search needs; «match_word» = search needs; redelivery = search needs; size = search needs })
 
 -- past the first test, the second, the third, the fourth
 soon : (c : tie.Else1) → leb (c .before .args .clock) (2 ^ 62) ≡ true

@@ -1,6 +1,6 @@
 //! Arguments of one random call, most of them taken from the state.
 
-use super::super::arguments::{self, ALLOWANCE_MAX, SEQUENCE_MAX};
+use super::super::arguments::{self, ALLOWANCE_MAX, SEQUENCE_MAX, SIZE_MAX};
 use super::super::callfile::{ack_bit, code, join_flag, Call};
 use super::super::host::{self, Id, NO_SELECTOR};
 use super::super::random::Random;
@@ -90,6 +90,7 @@ fn with_id(code: u64, id: Id, rest: &[u64]) -> Call {
 
 fn open(maker: &mut Maker) -> Call {
     let p = maker.profile;
+    maker.small_sizes = maker.sizes.chance(1, 2);
     let kind = maker.random.pick(p.kinds);
     let topic_limit = maker.random.pick(p.topic_limits);
     let call_limit = maker.random.pick(p.call_limits);
@@ -224,8 +225,23 @@ fn enqueue(maker: &mut Maker, view: Option<&View>) -> Call {
         match_word,
         redelivery as u64,
         maker.clock,
+        size(maker),
     ];
     Call::new(code::ENQUEUE, &args)
+}
+
+/// A size; after half of the opens none is below 256, as in the broker.
+fn size(maker: &mut Maker) -> u64 {
+    let least = if maker.small_sizes { 0 } else { 256 };
+    let size = match maker.sizes.below(10) {
+        0 => 0,
+        1 => SIZE_MAX - maker.sizes.below(2),
+        2 => maker.sizes.between(254, 258) as u64,
+        3 | 4 => maker.sizes.below(300),
+        5 | 6 => 256 + maker.sizes.below(3000),
+        _ => maker.sizes.sized(32),
+    };
+    size.max(least)
 }
 
 fn sequence(maker: &mut Maker, view: Option<&View>) -> u64 {
@@ -458,7 +474,8 @@ pub fn spoil(maker: &mut Maker, call: &mut Call) {
         65_536,
         (1 << 31) - 1,
         1 << 31,
-        (1 << 32) - 1,
+        SIZE_MAX,
+        SIZE_MAX + 1,
         ALLOWANCE_MAX,
         ALLOWANCE_MAX + 1,
         1 << 40,

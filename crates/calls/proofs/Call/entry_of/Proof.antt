@@ -37,6 +37,9 @@ int-of-requires c κs = search needs
 array-read-t24 : tie.Need-array-read-t24
 array-read-t24 c = search needs
 
+array-read-t28 : tie.Need-array-read-t28
+array-read-t28 c = search needs
+
 returns : tie.Need-returns
 returns c =
     let ws : List ℕ = c .before .before .before .before .args .self .words in
@@ -61,4 +64,5 @@ entry-of-spec =
     array-read-int-of
     int-of-requires
     array-read-t24
+    array-read-t28
     returns)

@@ -59,7 +59,7 @@ use Rattle.queries.specs.declared.Paged.{Paged}
 use Rattle.queries.specs.declared.PageLine.{PageLine}
 use Rattle.queries.specs.Pages.{firstWaiting, asPlan, Planned, lineAt}
 use Rattle.queries.proofs.Filled.{filled, filled-none, filled-more, length-filled, filled-is}
-use Rattle.destination.proofs.Sources.{val, Words9, Words16, RowsOwn, Own as OwnOf, again}
+use Rattle.destination.proofs.Sources.{val, RowWords, Words16, RowsOwn, Own as OwnOf, again}
 use Rattle.queries.proofs.PagePlan as P
 use Rattle.queries.proofs.PagePlan.Laws as P′
 use Rattle.queries.proofs.Paged as Q
@@ -85,7 +85,7 @@ stayed = (
   (
     stay-none-slice (1 ∷ []) tt (ArrayOf (plain (λ _. u64)) (λ _. tt) 16) yes,
     (
-      stay-none-slice (2 ∷ []) tt (ArrayOf (plain (λ _. u64)) (λ _. tt) 9) yes,
+      stay-none-slice (2 ∷ []) tt (ArrayOf (plain (λ _. u64)) (λ _. tt) 10) yes,
       (stay-slice (3 ∷ []) tt (plain (λ _. T.the-row)), (stay-none (λ _. u64) yes, (stay-none (λ _. u64) yes, tt))),
     ),
   ),
@@ -118,7 +118,7 @@ abbrev subs-ty : Ty
 subs-ty = sliceTy (tyRef (named 1) imm (tyArray word 16))
 
 abbrev rows-ty : Ty
-rows-ty = sliceTy (tyRef (named 2) imm (tyArray word 9))
+rows-ty = sliceTy (tyRef (named 2) imm (tyArray word 10))
 
 -- the bytes before an element of a slice are few enough
 before-fits : {n l : ℕ} → l * 24 < 2 ^ 63 → n < l → n * 24 < 2 ^ 64
@@ -364,10 +364,10 @@ module _ {M : Type 1} (𝓤 : URA M) (H : Heap 𝓤) (A : Atoms 𝓤) (W : Given
   plan-typed : (p : PagePlan) (v : Val) → Is P.the-row p (v ∷ []) → Holds (hasTy P′.mir (P′.lowered p)) × WT (P′.lowered p)
   plan-typed p v is = subst (λ (u : Val). Holds (hasTy P′.mir u) × WT u) (ap only (LL.tells P.the-type P′.the-laws p (v ∷ []) is)) (LL.lawful P.the-type P′.the-laws 𝓤 H A W .typed p _ is .0)
 
-  walk : (𝓣 : Tables 𝓤 H) → Triple 𝓤 (𝓣 .C #queries·line-at) (LineAt 𝓤 H A mem run) → Triple 𝓤 (𝓣 .C #queries·plan) (Plan 𝓤 H A mem run) → Room u64 (length (now hd)) → Room Words16 (length (now sb)) → Room Words9 (length (now rs)) → Room T.the-row (length ys)
+  walk : (𝓣 : Tables 𝓤 H) → Triple 𝓤 (𝓣 .C #queries·line-at) (LineAt 𝓤 H A mem run) → Triple 𝓤 (𝓣 .C #queries·plan) (Plan 𝓤 H A mem run) → Room u64 (length (now hd)) → Room Words16 (length (now sb)) → Room RowWords (length (now rs)) → Room T.the-row (length ys)
       → ent 𝓤 (onEntry 𝓤 H A f.signature (κ₁, (κ₂, (κ, (κ′, tt)))) (q₁, (q₂, (q, (q′, tt)))) args arg-vals) (WpFn 𝓤 H (𝓣 .C) (𝓣 .Λ) code.function (val hd ∷ val sb ∷ val rs ∷ s ∷ vint w64 off ∷ vint w64 lim ∷ []) Post)
   walk 𝓣 known known-plan room₁ room₂ room₃ room =
-      qed W ((‵ (flft κ₁ q₁) ⊛ (‵ (flft κ₂ q₂) ⊛ (‵ (flft κ q) ⊛ (‵ (flft κ′ q′) ⊛ ‵ ftrue)))) ∷ ‵ (owns (ShrSlice (named 0) κ₁ u64 ∷ ShrSlice (named 1) κ₂ Words16 ∷ ShrSlice (named 2) κ Words9 ∷ MutSlice (named 3) κ′ T.the-row ∷ u64 ∷ u64 ∷ []) args arg-vals) ∷ []) ∵
+      qed W ((‵ (flft κ₁ q₁) ⊛ (‵ (flft κ₂ q₂) ⊛ (‵ (flft κ q) ⊛ (‵ (flft κ′ q′) ⊛ ‵ ftrue)))) ∷ ‵ (owns (ShrSlice (named 0) κ₁ u64 ∷ ShrSlice (named 1) κ₂ Words16 ∷ ShrSlice (named 2) κ RowWords ∷ MutSlice (named 3) κ′ T.the-row ∷ u64 ∷ u64 ∷ []) args arg-vals) ∷ []) ∵
       enter ! (𝓣 .C) (𝓣 .Λ) code.function (val hd ∷ val sb ∷ val rs ∷ s ∷ vint w64 off ∷ vint w64 lim ∷ []) _ $
       alloc1 ! (λ l₀. alloc1 ! (λ l₁. alloc1 ! (λ l₂. alloc1 ! (λ l₃. alloc1 ! (λ l₄. alloc1 ! (λ l₅. alloc1 ! (λ l₆. alloc1 ! (λ l₇. alloc1 ! (λ l₈. alloc1 ! (λ l₉. alloc1 ! (λ l₁₀. alloc1 ! (λ l₁₁. alloc1 ! (λ l₁₂. alloc1 ! (λ l₁₃. alloc0 ! $ params1 ! $
       pass1 ! (init ! 24 refl (tt, (tt, (record { fits = room₁ .0 }, tt)))) $ pass1 ! (init ! 22 refl (tt, (tt, (record { fits = room₂ .0 }, tt)))) $ pass1 ! (init ! 20 refl (tt, (tt, (record { fits = room₃ .0 }, tt)))) $
@@ -400,7 +400,7 @@ module _ {M : Type 1} (𝓤 : URA M) (H : Heap 𝓤) (A : Atoms 𝓤) (W : Given
   page-walks : Walks 𝓤 H A f.ended stayed (WpFn 𝓤 H (𝓣 .C) (𝓣 .Λ) code.function) (f.clauses 𝓤 H A mem run)
   page-walks = walked 𝓤 H A f.ended stayed (f.clauses 𝓤 H A mem run) (WpFn 𝓤 H (𝓣 .C) (𝓣 .Λ) code.function)
       (λ κs. (slice-vals, (slice-vals, (slice-vals, (slice-vals, (uint-vals w64, (uint-vals w64, tt)))))))
-      (λ κs. (shr-slice-tells (named 0) (κs .0) u64, (shr-slice-tells (named 1) (κs .1 .0) Words16, (shr-slice-tells (named 2) (κs .1 .1 .0) Words9, (mut-slice-tells (named 3) (κs .1 .1 .1 .0) T.the-row, (uint-tells w64, (uint-tells w64, tt)))))))
+      (λ κs. (shr-slice-tells (named 0) (κs .0) u64, (shr-slice-tells (named 1) (κs .1 .0) Words16, (shr-slice-tells (named 2) (κs .1 .1 .0) RowWords, (mut-slice-tells (named 3) (κs .1 .1 .1 .0) T.the-row, (uint-tells w64, (uint-tells w64, tt)))))))
       (λ κs qs bounds a g are. via 𝓤 _ (fst∗ 𝓤 _ (emp 𝓤))
       (walk 𝓤 H A W mem run (κs .0) (κs .1 .0) (κs .1 .1 .0) (κs .1 .1 .1 .0) (qs .0) (qs .1 .0) (qs .1 .1 .0) (qs .1 .1 .1 .0) (a .0) (a .1 .0) (a .1 .1 .0) (a .1 .1 .1 .0 .ptr .0) (a .1 .1 .1 .0 .ptr .1) (a .1 .1 .1 .0 .name) (a .1 .1 .1 .0 .now) (a .1 .1 .1 .1 .0) (a .1 .1 .1 .1 .1 .0) (are .1 .1 .1 .1 .0 .1) (are .1 .1 .1 .1 .1 .0 .1)
       𝓣 known known-plan (are .0 .0 .1) (are .1 .0 .0 .1) (are .1 .1 .0 .0 .1) (are .1 .1 .1 .0 .0 .1)))
@@ -411,7 +411,7 @@ module _ {M : Type 1} (𝓤 : URA M) (H : Heap 𝓤) (A : Atoms 𝓤) (W : Given
     (
       goes-none-slice 𝓤 H A W 4 (1 ∷ []) tt (ArrayOf (plain (λ _. u64)) (λ _. tt) 16) yes,
       (
-        goes-none-slice 𝓤 H A W 4 (2 ∷ []) tt (ArrayOf (plain (λ _. u64)) (λ _. tt) 9) yes,
+        goes-none-slice 𝓤 H A W 4 (2 ∷ []) tt (ArrayOf (plain (λ _. u64)) (λ _. tt) 10) yes,
         (goes-slice 𝓤 H A W 4 3 tt (plain (λ _. T.the-row)), (goes-none 𝓤 H A W 4 (λ _. u64) yes (λ κs x f. refl), (goes-none 𝓤 H A W 4 (λ _. u64) yes (λ κs x f. refl), tt))),
       ),
     ),

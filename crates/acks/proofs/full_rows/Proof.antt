@@ -1,24 +1,24 @@
--- `acks::nine_words` meets its contract. Assumes nothing.
+-- `acks::full_rows` meets its contract. Assumes nothing.
 use mathlib.Core.Path.{_≡_, sym, ap, _∙_}
 use Prim.Native.Nat.{ℕ, _-_}
 use lib.Seq.{slice}
 use denote.Ref.{now}
 use Rattle.definition.specs.Base.{all}
-use Rattle.acks.specs.Parts.{nine}
-use Rattle.acks.proofs.Telling.{Nines, nine-none, nine-turn}
+use Rattle.acks.specs.Parts.{full}
+use Rattle.acks.proofs.Telling.{Full, full-none, full-turn}
 use native.Mathlib.Omega.{arith}
 use borrow.Author.Needs.{needs}
-use Rattle.acks.proofs.nine_words.Statement.{statement}
-use Rattle.acks.proofs.nine_words.Tie as tie
+use Rattle.acks.proofs.full_rows.Statement.{statement}
+use Rattle.acks.proofs.full_rows.Tie as tie
 
 abbrev Inv-loop : tie.InvT-loop
-Inv-loop rows from to i₀ i = Nines from to i rows
+Inv-loop rows from to i₀ i = Full from to i rows
 
 abbrev μ-loop : tie.MeasureT-loop
 μ-loop rows from to i₀ i = to - i
 
 loop-holds : tie.Need-loop-holds Inv-loop μ-loop
-loop-holds c = record { within = search needs; end = search needs; room = search needs; done = nine-none (c .args .from) (now (c .args .rows)) }
+loop-holds c = record { within = search needs; end = search needs; room = search needs; done = full-none (c .args .from) (now (c .args .rows)) }
 
 mul-sized : tie.Need-mul-sized Inv-loop μ-loop
 mul-sized c = search needs
@@ -40,17 +40,17 @@ loop-again c =
     let a = c .before .before .before .before .args in
     let l = c .before .before .before .loop in
     let less = c .before .before .loop-test .taken in
-    record { within = search needs; end = search needs; room = search needs; done = nine-turn (a .from) (l .i) (now (a .rows)) (l .inv .within) (omega arith) (c .sized .ensures) (l .inv .done) }
+    record { within = search needs; end = search needs; room = search needs; done = full-turn (a .from) (l .i) (now (a .rows)) (l .inv .within) (omega arith) (c .sized .ensures) (l .inv .done) }
 
 returns : tie.Need-returns Inv-loop μ-loop
 returns c =
     let a = c .before .before .args in
     let l = c .before .loop in
     let e : l .i ≡ a .to = omega (arith, c .loop-test .left) in
-    ap (λ (n : ℕ). all nine (slice (a .from) n (now (a .rows)))) (sym e) ∙ l .inv .done
+    ap (λ (n : ℕ). all full (slice (a .from) n (now (a .rows)))) (sym e) ∙ l .inv .done
 
-pub nine-words-spec : {M : Type 1} → statement M
-nine-words-spec =
+pub full-rows-spec : {M : Type 1} → statement M
+full-rows-spec =
     tie.close
     (tie.spec
     Inv-loop
