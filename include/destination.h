@@ -11,7 +11,7 @@
  *
  * The buffers. A state is three arrays of 64-bit words, and beside them there is a list for the events of one call:
  *
- *     head    8,346 words             the destination's own numbers, producers, duplicate windows
+ *     head    8,347 words             the destination's own numbers, producers, duplicate windows
  *     subs       32 of 16 words       a consumer each
  *     rows      512 of 10 words       a copy of an entry each
  *     events    545 of  6 words       what the call has sent, from the first on
@@ -49,7 +49,7 @@ extern "C" {
 
 /* ---- limits */
 
-#define DESTINATION_HEAD_WORDS 8346 /* destination_head_words() says the same */
+#define DESTINATION_HEAD_WORDS 8347 /* destination_head_words() says the same */
 #define DESTINATION_CONSUMERS 32    /* destination_consumers() */
 #define DESTINATION_ROWS 512        /* destination_rows() */
 #define DESTINATION_EVENTS 545      /* destination_events() */
@@ -67,6 +67,7 @@ extern "C" {
 #define DESTINATION_SEQUENCE_MOST (UINT64_MAX >> 1)      /* a sequence number is 1 to this, 2^63 - 1 */
 #define DESTINATION_TOPIC_LIMIT_MOST 512                 /* a topic limit is 0 (off) to this */
 #define DESTINATION_SWEEP_MOST 512                       /* a sweep's maximum is 0 to this */
+#define DESTINATION_SHARE_MOST 512                       /* a share of rows for each producer connection is 1 to this; 0 stands for it */
 #define DESTINATION_SIZE_MOST UINT32_MAX                 /* an entry's size is 0 to this, in bytes */
 #define DESTINATION_ALLOWANCE_MOST 86400000              /* an allowance for slow clocks is 0 to this: a day of milliseconds */
 
@@ -78,6 +79,9 @@ extern "C" {
 #define DESTINATION_ARGUMENTS 3     /* a number is outside its range, a code is unknown, or an unused word is not 0 */
 #define DESTINATION_CALLS_USED_UP 9 /* as many calls were accepted as the call limit says; open does not ask */
 #define DESTINATION_NUMBER_HELD 4   /* enqueue: the sequence number is held in a row, wherever it stands */
+#define DESTINATION_SHARE_USED_UP 14 /* enqueue: with its rows its producer's connection would hold more than the share; never with a share
+                                        of 512. Connection 0 is one of them. A queue's browsers' copies belong to no connection, those of a
+                                        topic's browsers count */
 #define DESTINATION_CONSUMER_HERE 6 /* join: a consumer with this identifier is present */
 #define DESTINATION_CONSUMERS_FULL 7 /* join: 32 consumers are present */
 #define DESTINATION_ROWS_FULL 5     /* enqueue, a browser's join: too few free rows. A queue's enqueue needs one, a topic's one for
@@ -141,14 +145,15 @@ extern "C" {
 #define DESTINATION_MESSAGE 2     /* send an entry to a consumer: 2, connection, session, value, sequence, redelivery */
 #define DESTINATION_NULL 3        /* send a consumer an empty message: 3, connection, session, value, 0, 0 */
 
-/* head: the words that say how many calls are left, and the allowance */
+/* head: the words that say how many calls are left, the allowance, and the share */
 #define DESTINATION_HEAD_CALL_LIMIT 2
 #define DESTINATION_HEAD_CALLS_USED 3
 #define DESTINATION_HEAD_ALLOWANCE 8345
+#define DESTINATION_HEAD_SHARE 8346
 
 /* ---- structs */
 
-/* A state and an event list. 137,984 bytes: better not on a small stack. */
+/* A state and an event list. 137,992 bytes: better not on a small stack. */
 struct destination {
     uint64_t head[DESTINATION_HEAD_WORDS];
     uint64_t subs[DESTINATION_CONSUMERS][DESTINATION_SUB_WORDS];
@@ -159,7 +164,7 @@ struct destination {
 /* A call: its code and its eight words, the unused ones 0. Signed numbers are two's complement: (uint64_t)number. 72 bytes.
  * `id` stands for three words: connection, session, value.
  *
- *      0 open              kind, topic limit, call limit, clock, allowance
+ *      0 open              kind, topic limit, call limit, clock, allowance, share
  *      1 enqueue           sequence, expiration, persistent (0 or 1), producer's connection, match word, redelivery, clock, size
  *      2 join              id, prefetch, selector, flags, clock
  *      3 leave             id, last delivered, clock
@@ -360,9 +365,9 @@ static inline struct destination_request destination_request_id(uint64_t code, s
 }
 
 static inline struct destination_request destination_request_open(uint64_t kind, uint64_t topic_limit, uint64_t call_limit,
-                                                                  uint64_t clock, uint64_t allowance)
+                                                                  uint64_t clock, uint64_t allowance, uint64_t share)
 {
-    struct destination_request r = {DESTINATION_OPEN, {kind, topic_limit, call_limit, clock, allowance, 0, 0, 0}};
+    struct destination_request r = {DESTINATION_OPEN, {kind, topic_limit, call_limit, clock, allowance, share, 0, 0}};
     return r;
 }
 
@@ -469,11 +474,11 @@ static inline struct destination_outcome destination_do(struct destination *d, s
 }
 
 /* Starts an empty queue or topic, whatever d held. call_limit: how many calls it will accept. allowance: by so much later than its
- * expiration an entry expires; 0 for none. */
+ * expiration an entry expires; 0 for none. share: how many rows the entries of one producer connection may take; 0 for all. */
 static inline struct destination_outcome destination_open(struct destination *d, uint64_t kind, uint64_t topic_limit,
-                                                          uint64_t call_limit, uint64_t clock, uint64_t allowance)
+                                                          uint64_t call_limit, uint64_t clock, uint64_t allowance, uint64_t share)
 {
-    return destination_do(d, destination_request_open(kind, topic_limit, call_limit, clock, allowance));
+    return destination_do(d, destination_request_open(kind, topic_limit, call_limit, clock, allowance, share));
 }
 
 /* Stores an entry, and sends what can be sent. */

@@ -74,6 +74,7 @@ class Dest:
     call_limit: int = 0
     calls_used: int = 0
     allowance: int = 0
+    share: int = 0
     pending: tuple = ()
     subs: tuple = ()
     rr: int = 0
@@ -778,6 +779,24 @@ def all_rows(t):
     return list(t.pending) + [e for _, e in t.reserved] + [e for s in each("consumerRows", t.subs) for e in rows_of(s)]
 
 
+def own_rows(t):
+    if pick("ownRows", t.kind == "queue", "queue", "topic"):
+        return list(t.pending) + [e for _, e in t.reserved] + taken(t.subs)
+    return all_rows(t)
+
+
+def rows_from(c, rows):
+    return sum(e.producer == c for e in rows)
+
+
+def within_share(share, rows):
+    return all(rows_from(c, rows) <= share for c in {e.producer for e in rows})
+
+
+def over_share(e, t):
+    return t.share < 512 and t.share < rows_from(e.producer, own_rows(t)) + rows_for(e, t)
+
+
 def sizes_agree(rows):
     sizes = {}
     return all(sizes.setdefault(e.seq, e.size) == e.size for e in each("sizesAgree", rows))
@@ -804,6 +823,8 @@ def sound(t):
         and len(t.audits) <= 8
         and all(len(order) <= 1024 for _, order in t.audits)
         and sizes_agree(all_rows(t))
+        and 1 <= t.share <= 512
+        and within_share(t.share, own_rows(t))
     )
 
 
@@ -822,6 +843,8 @@ def own_refusal(code, ws, t):
     if code == 1:
         if pick(where, ws[0] in seqs(rows), "4", "not 4"):
             return 4
+        if pick(where, over_share(entry_of(ws), t), "14", "not 14"):
+            return 14
         return 5 if pick(where, 512 - len(rows) < rows_for(entry_of(ws), t), "5", "0") else 0
     if code == 2:
         if pick(where, sub_of(ident(ws), t) is not None, "6", "not 6"):
@@ -927,15 +950,19 @@ def decode(code, ws):
     return call if pick(("requestOk " if call.asks else "argumentsOk ") + call.name, call.in_range(ws), "in range", "out of range") else None
 
 
+def share_of(w):
+    return 512 if pick("shareOf", w == 0, "0", "above 0") else w
+
+
 def open_words(ws):
-    return ws[0] <= 1 and ws[1] <= 512 and 1 <= ws[2] <= 1 << 40 and clock_ok(ws[3]) and ws[4] <= 86400000 and unused_from(5, ws)
+    return ws[0] <= 1 and ws[1] <= 512 and 1 <= ws[2] <= 1 << 40 and clock_ok(ws[3]) and ws[4] <= 86400000 and 1 <= share_of(ws[5]) <= 512 and unused_from(6, ws)
 
 
 def open_step(ws, t):
     if not pick("openStep", open_words(ws), "opened", "3"):
         return 3, 0, [], t
     kind = "queue" if pick("kindBy", ws[0] == 0, "true", "false") else "topic"
-    return 0, 0, [], Dest(kind=kind, topic_limit=ws[1], call_limit=ws[2], idle=ws[3], allowance=ws[4])
+    return 0, 0, [], Dest(kind=kind, topic_limit=ws[1], call_limit=ws[2], idle=ws[3], allowance=ws[4], share=share_of(ws[5]))
 
 
 def refusal(code, ws, t):

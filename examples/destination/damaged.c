@@ -44,11 +44,13 @@ static uint64_t seed = 1;
 static uint64_t states, sent, most_sent, batches, batched;
 static uint64_t marked[2]; /* states with one mark, kind or redelivery set: not sound, sound */
 static uint64_t sized[2];  /* states with another size: not sound, sound */
+static uint64_t shared_out[2]; /* states with a share about what a connection holds: not sound, sound */
 
 /* states by kind and by what their call got (0: accepted) */
 enum kind { REAL, DAMAGED, LENGTHS, RANDOM };
 static enum kind kind;
-static uint64_t got[4][10];
+#define REFUSALS 15
+static uint64_t got[4][REFUSALS];
 
 /* ---- random numbers (splitmix64) */
 
@@ -292,7 +294,8 @@ static struct destination_request new_world(void)
         world.total += world.weights[i];
     uint64_t calls = one_in(5) ? 1 + below(1 + world.left) : DESTINATION_CALL_LIMIT_MOST;
     uint64_t allowance = one_in(2) ? 0 : one_in(4) ? DESTINATION_ALLOWANCE_MOST : below(60);
-    struct destination_request r = {0, {world.kind, one_in(2) ? 0 : 1 + below(20), calls, world.clock, allowance}};
+    uint64_t share = world.browsed || one_in(2) ? 0 : one_in(3) ? 1 + below(DESTINATION_SHARE_MOST) : 1 + below(40);
+    struct destination_request r = {0, {world.kind, one_in(2) ? 0 : 1 + below(20), calls, world.clock, allowance, share}};
     return r;
 }
 
@@ -306,7 +309,7 @@ static uint64_t *some_word(struct buffers *b)
     case 0:
     case 1:
     case 2:
-        return &b->head[one_in(18) ? DESTINATION_HEAD_ALLOWANCE : below(17)];
+        return &b->head[one_in(9) ? DESTINATION_HEAD_ALLOWANCE + below(2) : below(17)];
     case 3:
         return &b->head[17 + below(96)];
     case 4:
@@ -401,6 +404,21 @@ static void damage_size(void)
     sized[paper_sound(lent(exact))]++;
 }
 
+/* The share: what the fullest connections hold, or one less or more. */
+static void damage_share(void)
+{
+    struct lent s = lent(exact);
+    uint64_t used = used_rows(), most = 0;
+    for (uint64_t i = 0; i < used; i++) {
+        uint64_t n = paper_owned(s, i) ? paper_rows_from(s, work.rows[i][3]) : 0;
+        most = n > most ? n : most;
+    }
+    put(&work.head[DESTINATION_HEAD_SHARE], most + below(3) - 1);
+    if (one_in(3) && used != 0)
+        put(&work.rows[below(used)][3], work.rows[below(used)][3]);
+    shared_out[paper_sound(lent(exact))]++;
+}
+
 /* the kind, a mark or a redelivery, sometimes where it is not in use */
 static void damage_mark(void)
 {
@@ -425,6 +443,10 @@ static void damage(uint64_t words)
 {
     if (words == 1 && one_in(4)) {
         damage_size();
+        return;
+    }
+    if (words == 1 && one_in(4)) {
+        damage_share();
         return;
     }
     if (words == 1 && one_in(2)) {
@@ -771,32 +793,40 @@ static void one_state(void)
     }
 }
 
+static bool refusal_known(size_t number)
+{
+    return number < 10 || number == 14;
+}
+
 /* says what was met; 1 where a refusal was not */
 static int table(void)
 {
     static const char *const names[4] = {"left by real calls", "1 to 4 words damaged", "random lengths", "wholly random words"};
-    uint64_t met[10] = {0};
+    uint64_t met[REFUSALS] = {0};
     int missing = 0;
-    printf("%" PRIu64 " states, seed %" PRIu64 "; accepted, then refused with 1 to 9\n", states, seed);
+    printf("%" PRIu64 " states, seed %" PRIu64 "; accepted, then refused with 1 to 9 and 14\n", states, seed);
     for (size_t k = 0; k < 4; k++) {
         printf("%-22s", names[k]);
-        for (size_t i = 0; i < 10; i++) {
-            printf("%7" PRIu64, got[k][i]);
+        for (size_t i = 0; i < REFUSALS; i++) {
+            if (refusal_known(i))
+                printf("%7" PRIu64, got[k][i]);
             met[i] += got[k][i];
         }
         printf("\n");
     }
     printf("%-22s", "together");
-    for (size_t i = 0; i < 10; i++) {
-        printf("%7" PRIu64, met[i]);
-        missing |= met[i] == 0;
-    }
+    for (size_t i = 0; i < REFUSALS; i++)
+        if (refusal_known(i)) {
+            printf("%7" PRIu64, met[i]);
+            missing |= met[i] == 0;
+        }
     printf("\nevents %" PRIu64 ", at most %" PRIu64 " in a call\n", sent, most_sent);
     printf("queries: answered %" PRIu64 ", refused with 1 %" PRIu64 ", 2 %" PRIu64 ", 3 %" PRIu64 "\n", asked[0], asked[1], asked[2], asked[3]);
     printf("many calls at once %" PRIu64 " times, %" PRIu64 " calls\n", batches, batched);
     printf("one mark, kind or redelivery set: sound %" PRIu64 ", not sound %" PRIu64 "\n", marked[1], marked[0]);
     printf("another size of a row or of all its copies: sound %" PRIu64 ", not sound %" PRIu64 "\n", sized[1], sized[0]);
-    missing |= marked[0] == 0 || marked[1] == 0 || sized[0] == 0 || sized[1] == 0;
+    printf("a share about what a connection holds: sound %" PRIu64 ", not sound %" PRIu64 "\n", shared_out[1], shared_out[0]);
+    missing |= marked[0] == 0 || marked[1] == 0 || sized[0] == 0 || sized[1] == 0 || shared_out[0] == 0 || shared_out[1] == 0;
     missing |= asked[0] == 0 || asked[1] == 0 || asked[2] == 0 || asked[3] == 0;
     if (missing)
         printf("not every refusal was met\n");

@@ -46,10 +46,10 @@ ALWAYS(sizeof(((struct destination *)0)->subs[0]) == 128);
 ALWAYS(sizeof(((struct destination *)0)->rows[0]) == 80);
 ALWAYS(sizeof(((struct destination *)0)->events[0]) == 48);
 ALWAYS(offsetof(struct destination, head) == 0);
-ALWAYS(offsetof(struct destination, subs) == 66768);
-ALWAYS(offsetof(struct destination, rows) == 70864);
-ALWAYS(offsetof(struct destination, events) == 111824);
-ALWAYS(sizeof(struct destination) == 137984);
+ALWAYS(offsetof(struct destination, subs) == 66776);
+ALWAYS(offsetof(struct destination, rows) == 70872);
+ALWAYS(offsetof(struct destination, events) == 111832);
+ALWAYS(sizeof(struct destination) == 137992);
 ALWAYS(DESTINATION_CLOCK_MOST == UINT64_C(4611686018427387904));
 ALWAYS(DESTINATION_CALL_LIMIT_MOST == UINT64_C(1099511627776));
 ALWAYS(DESTINATION_SEQUENCE_MOST == UINT64_C(9223372036854775807));
@@ -142,18 +142,18 @@ static void limits(void)
     /* each length alone, one short: so no two of them are exchanged */
     struct destination_request open = {0, {0, 0, 100, 0}};
     fill();
-    CHECK(is(lend(8345, 32, 512, 545, open), 1, 0, 0));
-    CHECK(is(lend(8346, 31, 512, 545, open), 1, 0, 0));
-    CHECK(is(lend(8346, 32, 511, 545, open), 1, 0, 0));
-    CHECK(is(lend(8346, 32, 512, 544, open), 1, 0, 0));
+    CHECK(is(lend(8346, 32, 512, 545, open), 1, 0, 0));
+    CHECK(is(lend(8347, 31, 512, 545, open), 1, 0, 0));
+    CHECK(is(lend(8347, 32, 511, 545, open), 1, 0, 0));
+    CHECK(is(lend(8347, 32, 512, 544, open), 1, 0, 0));
     CHECK(b.head[0] == GUARD_WORD);
-    CHECK(is(lend(8346, 32, 512, 545, open), 0, 0, 0));
+    CHECK(is(lend(8347, 32, 512, 545, open), 0, 0, 0));
 
     /* the ends of the ranges */
-    struct destination_request most = {0, {1, DESTINATION_TOPIC_LIMIT_MOST, DESTINATION_CALL_LIMIT_MOST, DESTINATION_CLOCK_MOST, DESTINATION_ALLOWANCE_MOST}};
+    struct destination_request most = {0, {1, DESTINATION_TOPIC_LIMIT_MOST, DESTINATION_CALL_LIMIT_MOST, DESTINATION_CLOCK_MOST, DESTINATION_ALLOWANCE_MOST, DESTINATION_SHARE_MOST}};
     CHECK(is(call(most), 0, 0, 0));
-    CHECK(b.head[DESTINATION_HEAD_ALLOWANCE] == DESTINATION_ALLOWANCE_MOST);
-    for (size_t i = 0; i < 5; i++) {
+    CHECK(b.head[DESTINATION_HEAD_ALLOWANCE] == DESTINATION_ALLOWANCE_MOST && b.head[DESTINATION_HEAD_SHARE] == DESTINATION_SHARE_MOST);
+    for (size_t i = 0; i < 6; i++) {
         struct destination_request more = most;
         more.words[i]++;
         CHECK(is(call(more), 3, 0, 0));
@@ -214,6 +214,16 @@ static void places(void)
 
 }
 
+/* a share of one row: 14 for its connection alone; 0 stands for all rows */
+static void shares(void)
+{
+    CHECK(is(call((struct destination_request){0, {0, 0, 30, 4, 0, 1}}), 0, 0, 0) && b.head[DESTINATION_HEAD_SHARE] == 1);
+    CHECK(is(call((struct destination_request){1, {11, 0, 1, 13, 0, 0, 9}}), 0, 0, 0));
+    CHECK(is(call((struct destination_request){1, {12, 0, 1, 13, 0, 0, 9}}), DESTINATION_SHARE_USED_UP, 0, 0));
+    CHECK(is(call((struct destination_request){1, {12, 0, 1, 0, 0, 0, 9}}), 0, 0, 0));
+    CHECK(is(call((struct destination_request){0, {0, 0, 30, 4}}), 0, 0, 0) && b.head[DESTINATION_HEAD_SHARE] == DESTINATION_SHARE_MOST);
+}
+
 /* each counter apart, after the calls of `places`: dequeued, expired, discarded, then the two calls without a code */
 static void counters(void)
 {
@@ -250,10 +260,10 @@ static bool asked(struct destination_asked a, uint64_t refusal, uint64_t answer)
 
 #define SHORT(name, ...) \
     do { \
-        CHECK(name(b.head, 8345, SUBS, 32, ROWS, 512 __VA_ARGS__).refusal == 1); \
-        CHECK(name(b.head, 8346, SUBS, 31, ROWS, 512 __VA_ARGS__).refusal == 1); \
-        CHECK(name(b.head, 8346, SUBS, 32, ROWS, 511 __VA_ARGS__).refusal == 1); \
-        CHECK(name(b.head, 8346, SUBS, 32, ROWS, 512 __VA_ARGS__).refusal == 0); \
+        CHECK(name(b.head, 8346, SUBS, 32, ROWS, 512 __VA_ARGS__).refusal == 1); \
+        CHECK(name(b.head, 8347, SUBS, 31, ROWS, 512 __VA_ARGS__).refusal == 1); \
+        CHECK(name(b.head, 8347, SUBS, 32, ROWS, 511 __VA_ARGS__).refusal == 1); \
+        CHECK(name(b.head, 8347, SUBS, 32, ROWS, 512 __VA_ARGS__).refusal == 0); \
     } while (0)
 #define AND ,
 
@@ -353,8 +363,8 @@ static void inline_functions(void)
     const struct destination_acknowledgement all = {255, true, true, true, true, -1, -2};
     const struct destination_acknowledgement none = {.type = 0, .first = 5, .last = 6};
 
-    INLINED(open, (DESTINATION_TOPIC, 2, 3, 4, 5), DESTINATION_OPEN, 1, 2, 3, 4, 5);
-    INLINED(open, (DESTINATION_QUEUE, 0, 100, 4, 0), 0, 0, 0, 100, 4);
+    INLINED(open, (DESTINATION_TOPIC, 2, 3, 4, 5, 6), DESTINATION_OPEN, 1, 2, 3, 4, 5, 6);
+    INLINED(open, (DESTINATION_QUEUE, 0, 100, 4, 0, 0), 0, 0, 0, 100, 4);
     INLINED(enqueue, (entry, 40), 1, 41, m1, 1, 42, 43, m2, 40, 4294967295);
     INLINED(enqueue, (plain, 40), 1, 44, 45, 0, 46, 47, 48, 40, 49);
     INLINED(join, (browser, 40), 2, 9, 9, 9, 6, 64, 2, 40);
@@ -389,7 +399,7 @@ static void inline_functions(void)
 
 static void on_struct(void)
 {
-    CHECK(destination_open(&one, DESTINATION_QUEUE, 0, 100, 0, 0).refusal == 0);
+    CHECK(destination_open(&one, DESTINATION_QUEUE, 0, 100, 0, 0, 0).refusal == 0);
     CHECK(destination_enqueue(&one, (struct destination_entry){.sequence = 5, .expiration = 6}, 1).refusal == 0);
     CHECK(destination_enqueue(&one, (struct destination_entry){.sequence = 7, .redelivery = -8, .size = 9}, 1).refusal == 0);
     two = one;
@@ -429,7 +439,7 @@ static struct destination_done batch(size_t requested, size_t outcomes, size_t e
 {
     for (size_t i = 0; i < sizeof many / 8; i++)
         ((uint64_t *)&many)[i] = GUARD_WORD;
-    CHECK(destination_open(&one, DESTINATION_QUEUE, 0, 100, 0, 0).refusal == 0);
+    CHECK(destination_open(&one, DESTINATION_QUEUE, 0, 100, 0, 0, 0).refusal == 0);
     struct destination_done r = destination_calls_of(&one, many.events, events, requests, requested, many.outcomes, outcomes);
     CHECK(guarded(many.g0) && guarded(many.g1) && guarded(many.g2));
     return r;
@@ -459,8 +469,8 @@ static void many_calls(void)
     CHECK(r.calls == 3 && r.events == 2 && many.outcomes[3].refusal == GUARD_WORD);
     r = batch(5, 5, DESTINATION_EVENTS - 1);
     CHECK(r.calls == 0 && r.events == 0);
-    CHECK(batch_lent(8345, 32, 512) == 0 && batch_lent(8346, 31, 512) == 0 && batch_lent(8346, 32, 511) == 0);
-    CHECK(batch_lent(8346, 32, 512) == 1);
+    CHECK(batch_lent(8346, 32, 512) == 0 && batch_lent(8347, 31, 512) == 0 && batch_lent(8347, 32, 511) == 0);
+    CHECK(batch_lent(8347, 32, 512) == 1);
 }
 
 static void events(void)
@@ -484,6 +494,7 @@ static void events(void)
 int main(void)
 {
     limits();
+    shares();
     places();
     counters();
     queries();

@@ -82,7 +82,7 @@ int main(void)
     const struct destination_id pusher = {9, 1, 1}, puller = {9, 1, -2};
 
     show("enqueue before open", destination_enqueue(&queue, (struct destination_entry){.sequence = 5}, 0));
-    show("open", destination_open(&queue, DESTINATION_QUEUE, 0, 100, 0, 0));
+    show("open", destination_open(&queue, DESTINATION_QUEUE, 0, 100, 0, 0, 0));
 
     enqueue(5, 0, 10);
     enqueue(3, 20, 10); /* goes first, but has expired when a consumer comes */

@@ -55,7 +55,7 @@ fn main() {
     let mut queue = Destination::new();
 
     show("enqueue before open", queue.enqueue(Entry { sequence: 5, ..Entry::default() }, 0));
-    show("open", queue.open(Kind::Queue, 0, 100, 0, 0));
+    show("open", queue.open(Kind::Queue, 0, 100, 0, 0, 0));
 
     enqueue(&mut queue, 5, 0, 10);
     enqueue(&mut queue, 3, 20, 10); // goes first, but has expired when a consumer comes

@@ -208,8 +208,8 @@ impl Request {
         Request::new(code, &words)
     }
 
-    pub fn open(kind: Kind, topic_limit: u64, call_limit: u64, clock: u64, allowance: u64) -> Request {
-        Request::new(0, &[(kind == Kind::Topic) as u64, topic_limit, call_limit, clock, allowance])
+    pub fn open(kind: Kind, topic_limit: u64, call_limit: u64, clock: u64, allowance: u64, share: u64) -> Request {
+        Request::new(0, &[(kind == Kind::Topic) as u64, topic_limit, call_limit, clock, allowance, share])
     }
 
     pub fn enqueue(e: Entry, clock: u64) -> Request {
@@ -309,10 +309,11 @@ pub enum Refusal {
     ConsumersFull = 7,
     ProducersFull = 8,
     CallsUsedUp = 9,
+    ShareUsedUp = 14,
 }
 
 impl Refusal {
-    const ALL: [Refusal; 9] = [
+    const ALL: [Refusal; 10] = [
         Refusal::Short,
         Refusal::NotSound,
         Refusal::Arguments,
@@ -322,6 +323,7 @@ impl Refusal {
         Refusal::ConsumersFull,
         Refusal::ProducersFull,
         Refusal::CallsUsedUp,
+        Refusal::ShareUsedUp,
     ];
 
     pub fn number(self) -> u64 {
@@ -439,9 +441,9 @@ impl Destination {
         self.done(outcome)
     }
 
-    /// `allowance`: by so many milliseconds later than its expiration an entry expires.
-    pub fn open(&mut self, kind: Kind, topic_limit: u64, call_limit: u64, clock: u64, allowance: u64) -> Called<'_> {
-        self.call(Request::open(kind, topic_limit, call_limit, clock, allowance))
+    /// `allowance`: by so many milliseconds later than its expiration an entry expires. `share`: rows of each producer connection at most; 0 for all.
+    pub fn open(&mut self, kind: Kind, topic_limit: u64, call_limit: u64, clock: u64, allowance: u64, share: u64) -> Called<'_> {
+        self.call(Request::open(kind, topic_limit, call_limit, clock, allowance, share))
     }
 
     pub fn enqueue(&mut self, e: Entry, clock: u64) -> Called<'_> {
@@ -674,8 +676,8 @@ mod tests {
     #[test]
     fn words() {
         let d = &mut Destination::new();
-        same(d, |d| d.open(Kind::Topic, 2, 30, 4, 5), 0, &[1, 2, 30, 4, 5]);
-        same(d, |d| d.open(Kind::Queue, 0, 100, 4, 0), 0, &[0, 0, 100, 4]);
+        same(d, |d| d.open(Kind::Topic, 2, 30, 4, 5, 6), 0, &[1, 2, 30, 4, 5, 6]);
+        same(d, |d| d.open(Kind::Queue, 0, 100, 4, 0, 0), 0, &[0, 0, 100, 4]);
         same(d, |d| d.enqueue(ENTRY, 40), 1, &[41, M1, 1, 42, 43, M1 - 1, 40, 44]);
         same(d, |d| d.join(BROWSER, 40), 2, &[8, 1, 2, 5, 5, 3, 40]);
         same(d, |d| d.join(PULLER, 40), 2, &[7, M1 - 1, M1 - 2, M1, 64, 0, 40]);
@@ -701,11 +703,12 @@ mod tests {
     fn many() {
         let requests = [
             Request::clear(),
-            Request::open(Kind::Queue, 0, 100, 0, 0),
+            Request::open(Kind::Queue, 0, 100, 0, 0, 2),
             Request::enqueue(ENTRY, 1),
             Request::enqueue(ENTRY, 1),
             Request::join(Consumer { prefetch: 3, ..PULLER }, 2),
             Request::enqueue(Entry { sequence: 42, ..ENTRY }, 3),
+            Request::enqueue(Entry { sequence: 43, ..ENTRY }, 3),
             Request::leave(ID, None, 4),
         ];
         let message = |sequence| Event::Message { to: ID, sequence, redelivery: -2 };
@@ -716,6 +719,7 @@ mod tests {
             Err(Refusal::NumberHeld),
             Ok((0, vec![message(41)])),
             Ok((0, vec![message(42)])),
+            Err(Refusal::ShareUsedUp),
             Ok((1, vec![])),
         ];
         assert_eq!(Destination::new().calls(&requests), expected);
@@ -727,9 +731,9 @@ mod tests {
         assert_eq!(d.is_queue(), Err(Refusal::NotSound));
         assert_eq!((d.counters(), d.bytes_held()), (Err(Refusal::NotSound), Err(Refusal::NotSound)));
         assert_eq!(d.page(0, 1), Err(Refusal::NotSound));
-        d.open(Kind::Topic, 0, 100, 0, 0).expect("accepted");
+        d.open(Kind::Topic, 0, 100, 0, 0, 0).expect("accepted");
         assert_eq!((d.is_queue(), d.has_consumers(), d.has_expiring()), (Ok(false), Ok(false), Ok(false)));
-        d.open(Kind::Queue, 0, 100, 5000, 0).expect("accepted");
+        d.open(Kind::Queue, 0, 100, 5000, 0, 0).expect("accepted");
         assert_eq!((d.idle_for(8000, 3), d.idle_for(7999, 3), d.idle_for(u64::MAX, 3)), (Ok(true), Ok(false), Err(Refusal::Arguments)));
         d.add_discarded().expect("accepted");
         d.expired_before_storing().expect("accepted");

@@ -55,6 +55,17 @@ fn sub_rows(sub: &Sub) -> usize {
     sub.inflight.len() + sub.tpending.len() + sub.browser.as_ref().map_or(0, |b| b.len())
 }
 
+/// The copies that belong to producer connections: a queue's browsers' copies belong to none.
+pub fn owned(dest: &Dest) -> Vec<Entry> {
+    let st = dest.state.lock();
+    let subs = st.subs.iter().filter(|s| !dest.is_queue() || s.browser.is_none());
+    let held = subs.flat_map(|s| {
+        let inflight = s.inflight.values().map(|i| &i.entry);
+        inflight.chain(s.tpending.values()).chain(s.browser.iter().flatten())
+    });
+    st.pending.values().chain(st.reserved.values().flatten()).chain(held).cloned().collect()
+}
+
 /// True when a copy with this sequence number stands in any place.
 pub fn holds(dest: &Dest, seq: u64) -> bool {
     let st = dest.state.lock();

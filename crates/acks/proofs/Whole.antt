@@ -72,6 +72,7 @@ module _ (subs rows events : List Row) (d : Head) (fits : Fits subs d (length ro
         audits = refl;
         queue = refl;
         allowance = refl;
+        share = refl;
         consumers = fits .consumers;
         used = fits .used;
         rows-used = fits .rows-used;
@@ -261,6 +262,7 @@ module _ (subs rows events : List Row) (d : Head) (fits : Fits subs d (length ro
               topicLimit = d .«topic_limit»;
               callLimit = d .«call_limit»;
               allowance = d .allowance;
+              share = d .share;
               callsUsed = d .«calls_used»;
               pending = map entryOf (waits j);
               subs = mine j;
@@ -301,6 +303,7 @@ module _ (subs rows events : List Row) (d : Head) (fits : Fits subs d (length ro
                 audits = same (λ (x : Head). x .audits);
                 queue = same (λ (x : Head). x .queue);
                 allowance = same (λ (x : Head). x .allowance);
+                share = same (λ (x : Head). x .share);
                 consumers = omega (arith, fits .consumers);
                 used = omega (arith, fits .used);
                 rows-used = omega (arith, fits .rows-used);

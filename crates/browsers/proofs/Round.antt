@@ -382,6 +382,7 @@ module _ (now : ℕ) (subs₀ rows₀ events₀ : List Row) (d₀ : Head) (fits 
             topicLimit = d₀ .«topic_limit»;
             callLimit = d₀ .«call_limit»;
             allowance = d₀ .allowance;
+            share = d₀ .share;
             callsUsed = d₀ .«calls_used»;
             pending = waits j;
             subs = mine j;
@@ -418,6 +419,7 @@ module _ (now : ℕ) (subs₀ rows₀ events₀ : List Row) (d₀ : Head) (fits 
               audits = same (λ (y : Head). y .audits);
               queue = same (λ (y : Head). y .queue);
               allowance = same (λ (y : Head). y .allowance);
+              share = same (λ (y : Head). y .share);
               consumers = omega (arith, n, fits .consumers);
               used = omega (arith, r .used, fits .used);
               rows-used = rw e (omega arith);

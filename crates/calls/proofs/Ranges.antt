@@ -5,7 +5,7 @@ use native.Mathlib.Omega.{arith}
 use mathlib.Core.Path.{_≡_, refl, sym, ap, _∙_}
 use mathlib.Core.Bool.{Bool, true, false, _&&_, _||_, and-assoc, and-true, or-false}
 use mathlib.Core.List.{List}
-use borrow.Author.Tests.{ltb-true, ltb-false, leb-true, leb-false, lt-ltb, le-ltb, lt-leb}
+use borrow.Author.Tests.{ltb-true, ltb-false, leb-true, leb-false, eqb-true, eqb-false, lt-ltb, le-ltb, le-leb, lt-leb}
 use lib.Dec.{leb, ltb, eqb}
 use lib.IntN.{ℤ}
 use lib.Seq.{drop-length}
@@ -14,7 +14,7 @@ use Rattle.words.proofs.Words.{int-signed}
 use Rattle.entry.specs.Entry.{bit, withRedelivery}
 use Rattle.definition.specs.Base.{is-some, all}
 use Rattle.definition.specs.Calls.{word, within, clockOk, idOk, optional, argumentsOk}
-use Rattle.definition.specs.Words.{at, idOf, entryOf, present, unusedFrom, read, decode}
+use Rattle.definition.specs.Words.{at, idOf, entryOf, present, unusedFrom, shareOf, read, decode}
 use Rattle.definition.proofs.Tests.{by-test, and-left, and-right}
 use Rattle.calls.specs.Calls.{Words}
 use Rattle.calls.specs.Ranges.{enqueues, joins, acks, timed, prefetches, clocked, sweeps}
@@ -41,6 +41,12 @@ within-int w h = by-test (ltb w (2 ^ 63))
     rw (c, le-ltb w (2 ^ 31) (omega arith)) (by-test (leb (2 ^ 64 - 2 ^ 31) w)
     (λ d. rw (d, lt-ltb (2 ^ 64 - suc w) (2 ^ 31) (omega (arith, leb-true (2 ^ 64 - 2 ^ 31) w d))))
     (λ d. rw (d, le-ltb (2 ^ 64 - suc w) (2 ^ 31) (omega (arith, leb-false (2 ^ 64 - 2 ^ 31) w d))))))
+
+-- a share's word: 0 stands for 512
+pub share-range : (w : ℕ) → (leb 1 (shareOf w) && leb (shareOf w) 512) ≡ leb w 512
+share-range w = by-test (eqb w 0)
+    (λ c. rw (c, eqb-true w 0 c))
+    (λ c. rw (c, le-leb 1 w (omega (arith, eqb-false w 0 c))))
 
 module _ (ws : List ℕ) (h : Words ws) where
   pub word-ok : (k : ℕ) → word (at k ws) ≡ true

@@ -16,6 +16,9 @@ const CALLS_MOST: u64 = 1099511627776;
 
 const ALLOWANCE_MOST: u64 = 86400000;
 
+// No share is above all rows; 0 stands for them.
+const SHARE_MOST: u64 = 512;
+
 const SEQ_END: u64 = 9223372036854775808;
 
 const SIZE_END: u64 = 4294967296;
@@ -72,7 +75,7 @@ impl Call {
         let w = self.words;
         let limits = (w[1] <= 512) & (1 <= w[2]) & (w[2] <= CALLS_MOST);
         let times = (w[3] <= entry::CLOCK_MOST) & (w[4] <= ALLOWANCE_MOST);
-        (w[0] <= 1) & limits & times & unused(w, 5)
+        (w[0] <= 1) & limits & times & (w[5] <= SHARE_MOST) & unused(w, 6)
     }
 
     // Whether the code is one of 1 to 15, and the words are its arguments: in range, and the unused ones 0.

@@ -67,7 +67,7 @@ placeFor code = if leb code 15 then code else RAW
 -- what a word holds, eight to a name: 0 nothing, 1 an unsigned number, 2 a signed one
 unfoldable pub kinds : List ℕ
 kinds =
-    1 ∷ 1 ∷ 1 ∷ 1 ∷ 1 ∷ 0 ∷ 0 ∷ 0  -- open
+    1 ∷ 1 ∷ 1 ∷ 1 ∷ 1 ∷ 1 ∷ 0 ∷ 0  -- open
     ∷ 1 ∷ 2 ∷ 1 ∷ 1 ∷ 1 ∷ 2 ∷ 1 ∷ 1  -- enqueue
     ∷ 1 ∷ 2 ∷ 2 ∷ 2 ∷ 1 ∷ 1 ∷ 1 ∷ 0  -- join
     ∷ 1 ∷ 2 ∷ 2 ∷ 2 ∷ 1 ∷ 0 ∷ 0 ∷ 0  -- leave

@@ -393,7 +393,7 @@ module _ (b : Bool) where
   call-calm lent c t z h = rw z (let k = perform-calm c t h in record { subs = k .subs; idle = k .idle })
 
 made-calm : (b : Bool) (t : Dest) → Made b t → Calm b t
-made-calm b t (opens k topicLimit callLimit now allowance e) = record { subs = λ l. tt; idle = λ q. absurd (true≢false q) }
+made-calm b t (opens k topicLimit callLimit now allowance share e) = record { subs = λ l. tt; idle = λ q. absurd (true≢false q) }
 made-calm b t (calls {b = d} {t = u} lent c r e) = call-calm d lent c u e (made-calm d u r)
 
 -- as accepted calls left it

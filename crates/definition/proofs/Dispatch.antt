@@ -18,7 +18,7 @@ use Rattle.definition.specs.Calls.{entryOk, seqs, flying, rowsOf}
 use Rattle.definition.proofs.Tests.{or-no-left, by-if, by-test, and-left, and-right}
 use Rattle.definition.proofs.Lists.{none-some, some-inj, All, empty-nil}
 use Rattle.definition.proofs.Thin.{alike-refl, Thin, done, skip, stay, thin-refl, thin-trans, map-append, tally-append, ascending-more}
-use Rattle.definition.proofs.Sums.{odd, sum, Tame, one, occ, bad, sum-append, sum-thin, sum-one, ok-sum, sum-ok, sum-once, thin-ascending, thin-keep, bad-ok}
+use Rattle.definition.proofs.Sums.{odd, from, sum, Tame, one, occ, bad, sum-append, sum-thin, sum-one, ok-sum, sum-ok, sum-once, thin-ascending, thin-keep, bad-ok}
 use Rattle.definition.proofs.Fit.{Fit, Little, total, met, dseqs, drain-little, browses-little}
 use Rattle.definition.proofs.Grown.{counted}
 use Rattle.definition.proofs.Local.{drained-id, browsed-id, alone}
@@ -269,6 +269,7 @@ module _ (L U : ℕ) where
     rows = omega (arith, g .rows, a one, sums-set (rowsM one) i (t .subs) s v e);
     ok = omega (arith, g .ok, a bad, sums-set (rowsM bad) i (t .subs) s v e);
     once = λ x. omega (arith, g .once x, b (occ x), sums-set (countM (occ x)) i (t .subs) s v e);
+    shared = λ c. omega (arith, g .shared c, b (from c), sums-set (countM (from c)) i (t .subs) s v e);
     agree = λ x. let z = g .agree x in (z .0, omega (arith, z .1, a (odd x (z .0)), sums-set (rowsM (odd x (z .0))) i (t .subs) s v e));
     sorted = o;
     turn = ap (λ n. ltb r n || eqb r 0) (length-set (t .subs) i v) ∙ w;

@@ -13,8 +13,8 @@ use Rattle.definition.specs.Consumer.{sameId}
 use Rattle.definition.specs.Calls.{distinctIds, seqs, held, idOk, optional, clockOk}
 use Rattle.definition.proofs.Tests.{if-true, if-false, by-test}
 use Rattle.definition.proofs.Lists.{some-inj, All, length-map}
-use Rattle.definition.proofs.Sums.{sum, Tame, one, occ, bad, odd, one-tame, occ-tame, bad-tame, odd-tame}
-use Rattle.definition.proofs.Whole.{sums, rowsM, countM, rowsSum, queueSum, Sane, sane-more, Under, Once, Agree, Frame, Fine}
+use Rattle.definition.proofs.Sums.{sum, Tame, one, occ, bad, odd, from, one-tame, occ-tame, bad-tame, odd-tame, from-tame}
+use Rattle.definition.proofs.Whole.{sums, rowsM, countM, rowsSum, queueSum, Sane, sane-more, Under, Once, Agree, Shared, Frame, Fine}
 
 -- ---- IDs
 
@@ -92,10 +92,14 @@ abbrev pub renewed : ℕ → Stats → List Sub → List Entry → List Held →
 renewed r c l p h i t = withRr r (withStats c (withSubs l (withPending p (withReserved h (withIdle i t)))))
 
 pub frame-renewed : (L U r : ℕ) (c : Stats) (l : List Sub) (p : List Entry) (h : List Held) (i : Option ℕ) (t : Dest) → Frame L U t → all (λ h. idOk (h .holder)) h ≡ true → optional clockOk i ≡ true → Frame L U (renewed r c l p h i t)
-frame-renewed L U r c l p h i t f a b = record { limit = f .limit; used = f .used; topic-limit = f .topic-limit; allowance = f .allowance; few-producers = f .few-producers; producers = f .producers; few-audits = f .few-audits; audits = f .audits; holders = a; mark = b }
+frame-renewed L U r c l p h i t f a b = record { limit = f .limit; used = f .used; topic-limit = f .topic-limit; allowance = f .allowance; share-low = f .share-low; share-high = f .share-high; few-producers = f .few-producers; producers = f .producers; few-audits = f .few-audits; audits = f .audits; holders = a; mark = b }
 
 pub agree-less : (t u : Dest) → Agree t → ((f : Entry → ℕ) → Tame f → rowsSum f u ≤ rowsSum f t) → Agree u
 agree-less t u h r = λ x. let z = h x in (z .0, omega (arith, z .1, r (odd x (z .0)) (odd-tame x (z .0))))
+
+pub shared-less : (k : Kind) (t u : Dest) → u .share ≡ t .share → Shared k t → ((f : Entry → ℕ) → Tame f → rowsSum f u ≤ rowsSum f t) → (k ≡ queue → (f : Entry → ℕ) → Tame f → queueSum f u ≤ queueSum f t) → Shared k u
+shared-less queue t u e h r q = λ c. omega (arith, e, h c, q refl (from c) (from-tame c))
+shared-less topic t u e h r q = λ c. omega (arith, e, h c, r (from c) (from-tame c))
 
 pub thin-once : (k : Kind) (t u : Dest) → Once k t → (k ≡ queue → (f : Entry → ℕ) → Tame f → queueSum f u ≤ queueSum f t) → (k ≡ topic → (u .pending ≡ []) × (u .reserved ≡ [])) → Once k u
 thin-once queue t u h q n = λ x. omega (arith, h x, q refl (occ x) (occ-tame x))
@@ -117,6 +121,7 @@ module _ (L U : ℕ) (k : Kind) (N x : ℕ) (t : Dest) (g : Fine L U k N t) wher
     ok = omega (arith, g .ok, m bad bad-tame, e .rows bad bad-tame);
     once = thin-once k t (renewed (t .rr) c l p h i t) (g .once) (λ q f w. omega (arith, m f w, e .taken q f w)) n;
     agree = agree-less t (renewed (t .rr) c l p h i t) (g .agree) (λ f w. omega (arith, m f w, e .rows f w));
+    shared = shared-less k t (renewed (t .rr) c l p h i t) refl (g .shared) (λ f w. omega (arith, m f w, e .rows f w)) (λ q f w. omega (arith, m f w, e .taken q f w));
     sorted = o;
     turn = ap (λ n. ltb (t .rr) n || eqb (t .rr) 0) (each-length k x N (t .subs) l e) ∙ g .turn;
     counters = u;

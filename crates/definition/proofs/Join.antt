@@ -18,9 +18,9 @@ use Rattle.definition.proofs.Tests.{if-true, if-false, by-if, by-test, 
 use Rattle.definition.proofs.Lists.{All}
 use Rattle.definition.proofs.Thin.{tally-length}
 use Rattle.definition.proofs.Ids.{same-sym}
-use Rattle.definition.proofs.Sums.{odd, sum, one, occ, bad, sum-one, sum-keep, thin-ascending, thin-keep, ok-sum, sum-ok, sum-once}
+use Rattle.definition.proofs.Sums.{odd, from, sum, one, occ, bad, sum-one, sum-keep, thin-ascending, thin-keep, ok-sum, sum-ok, sum-once}
 use Rattle.definition.proofs.Grown.{room-within}
-use Rattle.definition.proofs.Whole.{sums, rowsM, countM, rowsSum, Sane, Once, Fine, fine-more}
+use Rattle.definition.proofs.Whole.{Shared, sums, rowsM, countM, rowsSum, Sane, Once, Fine, fine-more}
 use Rattle.definition.proofs.Each.{thin-once}
 use Rattle.definition.proofs.Dispatch.{under-plus, count-browser, count-plain}
 use Rattle.definition.proofs.Ops.{once-topic, keep-fine, idle-fine, kind-fine}
@@ -87,18 +87,23 @@ sane-bad : (k : Kind) (N : ℕ) (s : Sub) → Sane k N s → rowsM bad s ≡ 0
 unfolding rowsM
 sane-bad k N s h = ok-sum (rowsOf s) (h .fits .ok)
 
+shared-more : (k : Kind) (t : Dest) (v : Sub) → Once k t → ((f : Entry → ℕ) → countM f v ≡ 0) → ((f : Entry → ℕ) → rowsM f v ≤ sum f (t .pending)) → Shared k t → Shared k (withSubs (t .subs ++ v ∷ []) t)
+shared-more queue t v o c w h = λ x. omega (arith, h x, sums-more (countM (from x)) (t .subs) v, c (from x))
+shared-more topic t v o c w h = λ x. omega (arith, h x, sums-more (rowsM (from x)) (t .subs) v, w (from x), ap (sum (from x)) (o .0))
+
 module _ (L U : ℕ) (k : Kind) where
   more-fine : (N : ℕ) (t : Dest) (v : Sub) → Fine L U k N t → Sane k N v → length (t .subs) + 1 ≤ 32 → is-some (find (isId (v .id)) (t .subs)) ≡ false → rowsSum one t + rowsM one v ≤ 512 → ((f : Entry → ℕ) → countM f v ≡ 0) → ((f : Entry → ℕ) → rowsM f v ≤ sum f (t .pending)) →
       Fine L U k N (withSubs (t .subs ++ v ∷ []) t)
   more-fine N t v g y n d r c w = record {
     kind = g .kind;
-    frame = record { limit = g .frame .limit; used = g .frame .used; topic-limit = g .frame .topic-limit; allowance = g .frame .allowance; few-producers = g .frame .few-producers; producers = g .frame .producers; few-audits = g .frame .few-audits; audits = g .frame .audits; holders = g .frame .holders; mark = g .frame .mark };
+    frame = record { limit = g .frame .limit; used = g .frame .used; topic-limit = g .frame .topic-limit; allowance = g .frame .allowance; share-low = g .frame .share-low; share-high = g .frame .share-high; few-producers = g .frame .few-producers; producers = g .frame .producers; few-audits = g .frame .few-audits; audits = g .frame .audits; holders = g .frame .holders; mark = g .frame .mark };
     few-subs = omega (arith, n, length-append (t .subs) (v ∷ []));
     subs = all-more (Sane k N) (t .subs) v (g .subs) y;
     ids = ids-more (t .subs) v (g .ids) d;
     rows = omega (arith, r, sums-more (rowsM one) (t .subs) v);
     ok = omega (arith, g .ok, sums-more (rowsM bad) (t .subs) v, sane-bad k N v y);
     once = thin-once k t (withSubs (t .subs ++ v ∷ []) t) (g .once) (λ q f w. omega (arith, sums-more (countM f) (t .subs) v, c f)) (once-topic k t (g .once));
+    shared = shared-more k t v (g .once) c w (g .shared);
     agree = λ x. let z = g .agree x in (z .0, omega (arith, z .1, sums-more (rowsM (odd x (z .0))) (t .subs) v, w (odd x (z .0))));
     sorted = g .sorted;
     turn = turn-more (t .rr) (length (t .subs)) (length (t .subs ++ v ∷ [])) (omega (arith, length-append (t .subs) (v ∷ []))) (g .turn);

@@ -9,20 +9,20 @@ use lib.Dec.{leb, ltb, eqb}
 use lib.ListN.{length, length-append, drop}
 use borrow.Author.Tests.{leb-true, leb-false, le-leb, ltb-false, eqb-false}
 use Rattle.definition.specs.Base.{if_then_else_, keep, all, find, put, is-some, member}
-use Rattle.definition.specs.Types.{Kind, queue, topic, Id, Entry, Audit, Dest, withProducers, withAudits, withIdle}
+use Rattle.definition.specs.Types.{Sub, Kind, queue, topic, Id, Entry, Audit, Dest, withProducers, withAudits, withIdle}
 use Rattle.definition.specs.Consumer.{sameId, addDiscarded, addExpired}
 use Rattle.audit.specs.Audit.{seen, recorded}
 use Rattle.definition.specs.Destination.{Answer, Spec, joined, subOf, enqueueBy, isProducer, addProducer, auditOf, removeProducer, testAt, isDuplicate, releaseAudits}
-use Rattle.definition.specs.Calls.{Lengths, short, entryOk, idOk, word, within, optional, clockOk, bound, seqs, allRows, freeRows, rowsFor, snapshotRows, auditOk, placed, sound, Call, enqueuing, joining, leaving, asking, unmarking, releasing, sweeping, clearing, adding, removing, testing, forgetting, discarding, missing, specOk, argumentsOk, ownRefusal, perform, refusal, used, call, openOk, opened}
+use Rattle.definition.specs.Calls.{rowsOf, held, ownRows, rowsFrom, withinShare, overShare, Lengths, short, entryOk, idOk, word, within, optional, clockOk, bound, seqs, allRows, freeRows, rowsFor, snapshotRows, auditOk, placed, sound, Call, enqueuing, joining, leaving, asking, unmarking, releasing, sweeping, clearing, adding, removing, testing, forgetting, discarding, missing, specOk, argumentsOk, ownRefusal, perform, refusal, used, call, openOk, opened}
 use Rattle.definition.specs.Orders.{Reached}
 use Rattle.definition.proofs.Tests.{and-false, by-if, by-test, and-left, and-right}
 use Rattle.definition.proofs.Lists.{keep-length, all-end, all-drop, all-keep, length-put}
 use Rattle.definition.proofs.Thin.{every-all, all-every}
-use Rattle.definition.proofs.Sums.{one, occ, sum-one, occ-member}
+use Rattle.definition.proofs.Sums.{from, from-length, sum-from, one, occ, sum-one, occ-member}
 use Rattle.definition.proofs.Sound.{facts, from-facts, all-put-bool, find-all}
-use Rattle.definition.proofs.Whole.{rowsSum, Fine, fine, unfine, fine-more, rows-length}
+use Rattle.definition.proofs.Whole.{sums, rowsM, ownSum, own-length, rowsSum, Fine, fine, unfine, fine-more, rows-length}
 use Rattle.definition.proofs.Ops.{once-topic, fine-from, touch-fine, count-fine, ask-fine}
-use Rattle.definition.proofs.Reach.{enqueue-fine}
+use Rattle.definition.proofs.Reach.{counts-rows, enqueue-fine}
 use Rattle.definition.proofs.Join.{joined-fine, join-fine}
 use Rattle.definition.proofs.Leave.{leave-fine, unmark-fine, release-fine, sweep-fine, clear-fine}
 use Rattle.definition.proofs.Made.{Made, opens, calls, made}
@@ -60,8 +60,8 @@ abbrev tables : List Id → List Audit → Option ℕ → Dest → Dest
 tables p a i t = withProducers p (withAudits a (withIdle i t))
 
 tables-fine : (L U : ℕ) (k : Kind) (N : ℕ) (t : Dest) (p : List Id) (a : List Audit) (i : Option ℕ) → Fine L U k N t → leb (length p) 32 ≡ true → all idOk p ≡ true → leb (length a) 8 ≡ true → all auditOk a ≡ true → optional clockOk i ≡ true → Fine L U k N (tables p a i t)
-tables-fine L U k N t p a i g b c d e m = fine-from L U k N N t (tables p a i t) g (g .kind)
-    (record { limit = g .frame .limit; used = g .frame .used; topic-limit = g .frame .topic-limit; allowance = g .frame .allowance; few-producers = b; producers = c; few-audits = d; audits = e; holders = g .frame .holders; mark = m })
+tables-fine L U k N t p a i g b c d e m = fine-from L U k N N t (tables p a i t) g (g .kind) refl
+    (record { limit = g .frame .limit; used = g .frame .used; topic-limit = g .frame .topic-limit; allowance = g .frame .allowance; share-low = g .frame .share-low; share-high = g .frame .share-high; few-producers = b; producers = c; few-audits = d; audits = e; holders = g .frame .holders; mark = m })
     (g .few-subs) (g .subs) (g .ids) (λ f w. omega arith) (λ q f w. omega arith) (once-topic k t (g .once)) (g .sorted) (g .turn) (g .counters)
 
 fewer : {A : Type 0} (p : A → Bool) (l : List A) (n : ℕ) → leb (length l) n ≡ true → leb (length (keep p l)) n ≡ true
@@ -128,6 +128,22 @@ not-held x t h = omega (arith, occ-member x (allRows t) h, rows-length (occ x) t
 kind-rows : (k : Kind) (e : Entry) (t : Dest) → t .kind ≡ k → rowsFor e t (t .kind) ≡ rowsFor e t k
 kind-rows k e t h = ap (λ j. rowsFor e t j) h
 
+-- a connection's rows are not more than all rows
+sums-from : (c : ℕ) (l : List Sub) → sums (rowsM (from c)) l ≤ sums (rowsM one) l
+unfolding rowsM
+sums-from c [] = omega arith
+sums-from c (s ∷ l) = omega (arith, from-length c (rowsOf s), sum-one (rowsOf s), sums-from c l)
+
+pub own-few : (k : Kind) (c : ℕ) (t : Dest) → ownSum k (from c) t ≤ rowsSum one t
+own-few queue c t = omega (arith, from-length c (t .pending), sum-one (t .pending), from-length c (held t), sum-one (held t), counts-rows (from c) (t .subs), sums-from c (t .subs))
+own-few topic c t = omega (arith, from-length c (t .pending), sum-one (t .pending), from-length c (held t), sum-one (held t), sums-from c (t .subs))
+
+-- an enqueue that 14 does not refuse is within its connection's share, of 512 too
+in-share : (k : Kind) (e : Entry) (t : Dest) → t .kind ≡ k → rowsSum one t + rowsFor e t k ≤ 512 → overShare e t ≡ false → ownSum k (from (e .producer)) t + rowsFor e t k ≤ t .share
+in-share k e t h f v = by-test (ltb (t .share) 512)
+    (λ c. omega (arith, ltb-false (t .share) (rowsFrom (e .producer) (ownRows t (t .kind)) + rowsFor e t (t .kind)) (and-false (ltb (t .share) 512) _ v c), kind-rows k e t h, ap (λ j. rowsFrom (e .producer) (ownRows t j)) h, sum-from (e .producer) (ownRows t k), own-length k (from (e .producer)) t))
+    (λ c. omega (arith, ltb-false (t .share) 512 c, f, own-few k (e .producer) t))
+
 -- a join's consumer in its place
 pub joins : (L U : ℕ) (k : Kind) (N : ℕ) (p : Spec) (now : ℕ) (t : Dest) → 1 ≤ N → Fine L U k N t → argumentsOk (joining p now) ≡ true → ownRefusal t (joining p now) ≡ 0 → Fine L U k (N + 513) (joined now p t)
 unfolding argumentsOk ownRefusal
@@ -143,19 +159,23 @@ pub record Stores (k : Kind) (e : Entry) (t : Dest) : Type 0 where
   pub ok : entryOk e ≡ true
   pub fits : rowsSum one t + rowsFor e t k ≤ 512
   pub new : rowsSum (occ (e .seq)) t ≤ 0
+  pub shared : ownSum k (from (e .producer)) t + rowsFor e t k ≤ t .share
 
 pub stores : (L U : ℕ) (k : Kind) (N : ℕ) (e : Entry) (now : ℕ) (t : Dest) → Fine L U k N t → argumentsOk (enqueuing e now) ≡ true → ownRefusal t (enqueuing e now) ≡ 0 → Stores k e t
 unfolding argumentsOk ownRefusal
 stores L U k N e now t g a o =
     let m : member (e .seq) (seqs (allRows t)) ≡ false = not-refused (member (e .seq) (seqs (allRows t))) 3 _ o in
-    let r : ltb (freeRows t) (rowsFor e t (t .kind)) ≡ false = not-refused (ltb (freeRows t) (rowsFor e t (t .kind))) 4 0 (then-next (member (e .seq) (seqs (allRows t))) 3 _ o) in
-    record { ok = and-left (entryOk e) _ a; fits = omega (arith, free-rows t (rowsFor e t (t .kind)) (g .rows) r, kind-rows k e t (g .kind)); new = not-held (e .seq) t m }
+    let o1 = then-next (member (e .seq) (seqs (allRows t))) 3 _ o in
+    let v : overShare e t ≡ false = not-refused (overShare e t) 13 _ o1 in
+    let r : ltb (freeRows t) (rowsFor e t (t .kind)) ≡ false = not-refused (ltb (freeRows t) (rowsFor e t (t .kind))) 4 0 (then-next (overShare e t) 13 _ o1) in
+    let f : rowsSum one t + rowsFor e t k ≤ 512 = omega (arith, free-rows t (rowsFor e t (t .kind)) (g .rows) r, kind-rows k e t (g .kind)) in
+    record { ok = and-left (entryOk e) _ a; fits = f; new = not-held (e .seq) t m; shared = in-share k e t (g .kind) f v }
 
 perform-fine : (L U : ℕ) (k : Kind) (N : ℕ) (c : Call) (t : Dest) → 1 ≤ N → Fine L U k N t → argumentsOk c ≡ true → ownRefusal t c ≡ 0 → Fine L U k (N + 4096) (perform t c .dest)
 unfolding perform argumentsOk ownRefusal isDuplicate
 perform-fine L U k N (enqueuing e now) t n g a o =
     let y = stores L U k N e now t g a o in
-    subst⁻¹ (λ (j : Kind). Fine L U k (N + 4096) (enqueueBy now e t j .dest)) (g .kind) (enqueue-fine L U k N now e t g (y .ok) (y .fits) (y .new))
+    subst⁻¹ (λ (j : Kind). Fine L U k (N + 4096) (enqueueBy now e t j .dest)) (g .kind) (enqueue-fine L U k N now e t g (y .ok) (y .fits) (y .new) (y .shared))
 perform-fine L U k N (joining p now) t n g a o =
     join-fine L U k N now p t (joins L U k N p now t n g a o)
 perform-fine L U k N (leaving i last now) t n g a o = leave-fine L U k N now i last t (and-right (within (2 ^ 63) last) _ (and-right (idOk i) _ a)) g
@@ -185,10 +205,10 @@ call-sound lent c t z =
     (omega (arith, leb-true (t .callsUsed) (t .callLimit) (f .calls), eqb-false (t .callsUsed) (t .callLimit) (q .left))) (omega arith)
     (perform-fine (t .callLimit) (t .callsUsed) (t .kind) (bound (t .callsUsed)) c t (omega arith) (fine t (q .is-sound)) (q .arguments) (q .own)))
 
-open-sound : (k : Kind) (topicLimit callLimit now allowance : ℕ) → openOk k topicLimit callLimit now allowance ≡ true → sound (opened k topicLimit callLimit now allowance) ≡ true
-open-sound k topicLimit callLimit now allowance h =
-    let f = every-all (leb topicLimit 512 ∷ leb 1 callLimit ∷ leb callLimit (2 ^ 40) ∷ clockOk now ∷ leb allowance 86400000 ∷ []) h in
-    from-facts (opened k topicLimit callLimit now allowance) (record {
+open-sound : (k : Kind) (topicLimit callLimit now allowance share : ℕ) → openOk k topicLimit callLimit now allowance share ≡ true → sound (opened k topicLimit callLimit now allowance share) ≡ true
+open-sound k topicLimit callLimit now allowance share h =
+    let f = every-all (leb topicLimit 512 ∷ leb 1 callLimit ∷ leb callLimit (2 ^ 40) ∷ clockOk now ∷ leb allowance 86400000 ∷ leb 1 share ∷ leb share 512 ∷ []) h in
+    from-facts (opened k topicLimit callLimit now allowance share) (record {
       limit-low = f .1 .0;
       limit-high = f .1 .1 .0;
       calls = le-leb 0 callLimit (omega arith);
@@ -210,14 +230,21 @@ open-sound k topicLimit callLimit now allowance h =
       audits = refl;
       allowance = f .1 .1 .1 .1 .0;
       sizes = refl;
+      share-low = f .1 .1 .1 .1 .1 .0;
+      share-high = f .1 .1 .1 .1 .1 .1 .0;
+      shares = none-held k;
     })
   where
-    stands : (j : Kind) → placed (opened k topicLimit callLimit now allowance) j ≡ true
+    stands : (j : Kind) → placed (opened k topicLimit callLimit now allowance share) j ≡ true
     stands queue = refl
     stands topic = refl
 
+    none-held : (j : Kind) → withinShare share (ownRows (opened k topicLimit callLimit now allowance share) j) ≡ true
+    none-held queue = refl
+    none-held topic = refl
+
 made-sound : (b : Bool) (t : Dest) → Made b t → sound t ≡ true
-made-sound b t (opens k topicLimit callLimit now allowance e) = open-sound k topicLimit callLimit now allowance e
+made-sound b t (opens k topicLimit callLimit now allowance share e) = open-sound k topicLimit callLimit now allowance share e
 made-sound b t (calls {t = u} lent c r e) = call-sound lent c u e
 
 pub reached-sound : (b : Bool) (t : Dest) → Reached b t → sound t ≡ true

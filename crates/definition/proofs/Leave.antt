@@ -85,6 +85,7 @@ holders-from j (i ∷ l) h = by-bool (λ b. all (λ h. idOk (h .holder)) (if b t
 record Before (L U N K : ℕ) (t d : Dest) (es : List Entry) : Type 0 where
   was : Fine L U queue N t
   kind : d .kind ≡ queue
+  share : d .share ≡ t .share
   frame : Frame L U d
   few-subs : length (d .subs) ≤ 32
   subs : All (Sane queue K) (d .subs)
@@ -97,7 +98,7 @@ record Before (L U N K : ℕ) (t d : Dest) (es : List Entry) : Type 0 where
 
 reinsert-fine : (L U N K now : ℕ) (t d : Dest) (es : List Entry) → Before L U N K t d es → Fine L U queue (K + 512) (reinsert now es d)
 unfolding reinsert
-reinsert-fine L U N K now t d es b = fine-from L U queue N (K + 512) t _ (b .was) (b .kind)
+reinsert-fine L U N K now t d es b = fine-from L U queue N (K + 512) t _ (b .was) (b .kind) (b .share)
     (frame-renewed L U (d .rr) (d .stats ⊕ addExpired (tally (expired (pos (due now d))) es)) (map (holdBackAll live) (d .subs)) (insertAll live (d .pending)) (d .reserved) (d .idle) d (b .frame) (b .frame .holders) (b .frame .mark))
     (omega (arith, b .few-subs, each-length queue 0 K _ _ e))
     (all-map (Sane queue (K + 0)) (Sane queue (K + 512)) (map (holdBackAll live) (d .subs)) (λ s. sane-more queue (K + 0) (K + 512) s (omega arith)) (e .sane))
@@ -122,7 +123,7 @@ module _ (L U : ℕ) where
   drop-frame r l t f = frame-renewed L U r (t .stats) l (t .pending) (t .reserved) (t .idle) t f (f .holders) (f .mark)
 
   drop-fine : (k : Kind) (N : ℕ) (i : Id) (s : Sub) (t : Dest) → subOf i t ≡ some s → Fine L U k N t → Fine L U k N (dropSub i t)
-  drop-fine k N i s t f g = fine-from L U k N N t (dropSub i t) g (g .kind) (drop-frame _ (without (isId i) (t .subs)) t (g .frame))
+  drop-fine k N i s t f g = fine-from L U k N N t (dropSub i t) g (g .kind) refl (drop-frame _ (without (isId i) (t .subs)) t (g .frame))
       (omega (arith, g .few-subs, length-without (isId i) (t .subs))) (all-without (isId i) (Sane k N) (t .subs) (g .subs)) (ids-without (isId i) (t .subs) (g .ids))
       (λ h w. omega (arith, sums-without (isId i) (rowsM h) (t .subs) s f)) (λ q h w. omega (arith, sums-without (isId i) (countM h) (t .subs) s f)) (once-topic k t (g .once)) (g .sorted)
       (turn-less (t .rr) (length (without (isId i) (t .subs)))) (g .counters)
@@ -136,6 +137,7 @@ module _ (L U : ℕ) where
       record {
         was = g;
         kind = g .kind;
+        share = refl;
         frame = frame-renewed L U _ (t .stats) (without (isId i) (t .subs)) (t .pending) (t .reserved ++ reservedFrom (s .id) (s .inflight)) (t .idle) t (g .frame) (all-append (λ h. idOk (h .holder)) (t .reserved) (reservedFrom (s .id) (s .inflight)) (g .frame .holders) (holders-from (s .id) (s .inflight) (h .fits .named))) (g .frame .mark);
         few-subs = omega (arith, g .few-subs, length-without (isId i) (t .subs));
         subs = all-without (isId i) (Sane queue N) (t .subs) (g .subs);
@@ -201,6 +203,7 @@ module _ (L U : ℕ) where
   release-before N i t g = record {
     was = g;
     kind = g .kind;
+    share = refl;
     frame = frame-renewed L U (t .rr) (t .stats) (t .subs) (t .pending) (keep (λ h. not (heldBy i h)) (t .reserved)) (t .idle) t (g .frame) (all-keep (λ h. idOk (h .holder)) (λ h. not (heldBy i h)) (t .reserved) (g .frame .holders)) (g .frame .mark);
     few-subs = g .few-subs;
     subs = g .subs;

@@ -23,6 +23,7 @@ pub mod Halves
 pub mod Slow
 pub mod Surplus
 pub mod Bytes
+pub mod Shares
 pub mod Kept
 pub mod Order
 pub mod Room

@@ -9,7 +9,7 @@ use lib.Dec.{leb, eqb}
 use borrow.Author.Tests.{eqb-true, eqb-false, eq-eqb, ne-eqb}
 use Rattle.definition.specs.Types.{Kind, Id, Dest}
 use Rattle.definition.specs.Calls.{Lengths, short, Request, Call, enqueuing, joining, leaving, asking, unmarking, releasing, sweeping, clearing, adding, removing, testing, forgetting, discarding, missing, argumentsOk, sound, Result, refused, refusal, call, openOk, opened}
-use Rattle.definition.specs.Words.{idOf, provided, read, inRange, decode, kindOf, at, openWords, unusedFrom, openStep, callStep, step}
+use Rattle.definition.specs.Words.{idOf, provided, read, inRange, decode, kindOf, at, shareOf, openWords, unusedFrom, openStep, callStep, step}
 use Rattle.definition.specs.Orders.{Reached, opening, calling, discards, misses}
 use Rattle.definition.proofs.Tests.{if-false, by-if, by-test, and-left, and-right}
 use Rattle.definition.proofs.Lists.{none-some, some-inj}
@@ -32,7 +32,7 @@ isClear missing = false
 
 -- `Reached`, by the calls' kinds
 pub data Made : Bool → Dest → Type 0 where
-  opens : (k : Kind) (topicLimit callLimit now allowance : ℕ) → openOk k topicLimit callLimit now allowance ≡ true → Made false (opened k topicLimit callLimit now allowance)
+  opens : (k : Kind) (topicLimit callLimit now allowance share : ℕ) → openOk k topicLimit callLimit now allowance share ≡ true → Made false (opened k topicLimit callLimit now allowance share)
   calls : {b : Bool} {t : Dest} (lent : Lengths) (c : Call) → Made b t → refusal lent c t ≡ 0 → Made (isClear c || b) (call lent c t .dest)
 
 -- ---- the words of code 10 alone are a clear
@@ -97,7 +97,7 @@ unfolding openStep
 open-made lent ws t = by-test (short lent)
     (λ e. rw e (λ h. absurd (omega arith)))
     (λ e. by-test (openWords ws)
-    (λ f. rw (e, f) (λ h. opens (kindOf (at 0 ws)) (at 1 ws) (at 2 ws) (at 3 ws) (at 4 ws) (and-left _ (unusedFrom 5 ws) (and-right (leb (at 0 ws) 1) _ f))))
+    (λ f. rw (e, f) (λ h. opens (kindOf (at 0 ws)) (at 1 ws) (at 2 ws) (at 3 ws) (at 4 ws) (shareOf (at 5 ws)) (and-left _ (unusedFrom 6 ws) (and-right (leb (at 0 ws) 1) _ f))))
     (λ f. rw (e, f) (λ h. absurd (omega arith))))
 
 pub made : (b : Bool) (t : Dest) → Reached b t → Made b t

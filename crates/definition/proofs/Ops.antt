@@ -23,7 +23,7 @@ use Rattle.definition.proofs.Fit.{Waits, Fit, Acked, ack-acked, null-fi
 use Rattle.definition.proofs.Own.{ack-id, pulling-sub}
 use Rattle.definition.proofs.Grown.{ack-total, prefetch-fit, pulling-fit}
 use Rattle.definition.proofs.Whole.{sums, rowsM, countM, rowsSum, queueSum, Sane, sane-more, Under, under-more, Once, Frame, Fine, fine-more}
-use Rattle.definition.proofs.Each.{Eased, Each, each-refl, each-put, each-fine, renewed, agree-less, thin-once}
+use Rattle.definition.proofs.Each.{Eased, Each, each-refl, each-put, each-fine, renewed, agree-less, shared-less, thin-once}
 use Rattle.definition.proofs.Dispatch.{not-topic, under-plus, dispatch-fine, rows-parts}
 
 -- a topic has nothing waiting and nothing reserved
@@ -31,10 +31,10 @@ pub once-topic : (k : Kind) (t : Dest) → Once k t → k ≡ topic → (t .pend
 once-topic topic t h e = h
 once-topic queue t h e = absurd (not-topic e)
 
-pub fine-from : (L U : ℕ) (k : Kind) (N K : ℕ) (t u : Dest) → Fine L U k N t → u .kind ≡ k → Frame L U u → length (u .subs) ≤ 32 → All (Sane k K) (u .subs) → distinctIds (u .subs) ≡ true →
+pub fine-from : (L U : ℕ) (k : Kind) (N K : ℕ) (t u : Dest) → Fine L U k N t → u .kind ≡ k → u .share ≡ t .share → Frame L U u → length (u .subs) ≤ 32 → All (Sane k K) (u .subs) → distinctIds (u .subs) ≡ true →
     ((f : Entry → ℕ) → Tame f → rowsSum f u ≤ rowsSum f t) → (k ≡ queue → (f : Entry → ℕ) → Tame f → queueSum f u ≤ queueSum f t) → (k ≡ topic → (u .pending ≡ []) × (u .reserved ≡ [])) →
     ascending (seqs (u .pending)) ≡ true → (ltb (u .rr) (length (u .subs)) || eqb (u .rr) 0) ≡ true → Under K (u .stats) → Fine L U k K u
-fine-from L U k N K t u g a b c d e r q n o w y = record {
+fine-from L U k N K t u g a v b c d e r q n o w y = record {
   kind = a;
   frame = b;
   few-subs = c;
@@ -44,6 +44,7 @@ fine-from L U k N K t u g a b c d e r q n o w y = record {
   ok = omega (arith, r bad bad-tame, g .ok);
   once = thin-once k t u (g .once) q n;
   agree = agree-less t u (g .agree) r;
+  shared = shared-less k t u v (g .shared) r q;
   sorted = o;
   turn = w;
   counters = y;

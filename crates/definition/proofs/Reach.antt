@@ -17,10 +17,10 @@ use Rattle.definition.specs.Calls.{entryOk, flying, rowsOf, held, rowsFo
 use Rattle.definition.proofs.Tests.{by-if, by-test}
 use Rattle.definition.proofs.Lists.{All, length-map}
 use Rattle.definition.proofs.Thin.{Thin, thin-refl, thin-trans}
-use Rattle.definition.proofs.Sums.{odd, odd-tame, odd-own, odd-other, sum-odd-occ, sum, Tame, one, occ, bad, one-tame, occ-tame, bad-tame, sum-append, sum-thin, sum-one, sum-insert, insert-ascending, thin-ascending, thin-keep, thin-drop, keep-tally, occ-yes, occ-no, ok-sum, sum-ok, sum-once, once-sum, bad-ok}
+use Rattle.definition.proofs.Sums.{from, from-tame, from-few, from-other, odd, odd-tame, odd-own, odd-other, sum-odd-occ, sum, Tame, one, occ, bad, one-tame, occ-tame, bad-tame, sum-append, sum-thin, sum-one, sum-insert, insert-ascending, thin-ascending, thin-keep, thin-drop, keep-tally, occ-yes, occ-no, ok-sum, sum-ok, sum-once, once-sum, bad-ok}
 use Rattle.definition.proofs.Fit.{total}
 use Rattle.definition.proofs.Grown.{counted}
-use Rattle.definition.proofs.Whole.{sums, rowsM, countM, rowsSum, Sane, sane-more, under-more, all-map, Agree, Fine, fine-more}
+use Rattle.definition.proofs.Whole.{sums, rowsM, countM, rowsSum, queueSum, ownSum, Sane, sane-more, under-more, all-map, Agree, Fine, fine-more}
 use Rattle.definition.proofs.Each.{Eased, Each, each-map, ids-same, renewed}
 use Rattle.definition.proofs.Dispatch.{under-plus, dispatch-fine, cursor-rows, cursor-count, cursor-sane}
 use Rattle.definition.proofs.Ops.{subs-fine}
@@ -65,10 +65,10 @@ agree-new e t g o x = by-test (eqb x (e .seq))
 module _ (L U : ℕ) where
   -- ---- enqueue, on a queue
 
-  insert-fine : (N : ℕ) (e : Entry) (t : Dest) → Fine L U queue N t → entryOk e ≡ true → rowsSum one t + 1 ≤ 512 → rowsSum (occ (e .seq)) t ≤ 0 → Fine L U queue N (withPending (insert e (t .pending)) t)
-  insert-fine N e t g h r o = record {
+  insert-fine : (N : ℕ) (e : Entry) (t : Dest) → Fine L U queue N t → entryOk e ≡ true → rowsSum one t + 1 ≤ 512 → rowsSum (occ (e .seq)) t ≤ 0 → queueSum (from (e .producer)) t + 1 ≤ t .share → Fine L U queue N (withPending (insert e (t .pending)) t)
+  insert-fine N e t g h r o q = record {
     kind = g .kind;
-    frame = record { limit = g .frame .limit; used = g .frame .used; topic-limit = g .frame .topic-limit; allowance = g .frame .allowance; few-producers = g .frame .few-producers; producers = g .frame .producers; few-audits = g .frame .few-audits; audits = g .frame .audits; holders = g .frame .holders; mark = g .frame .mark };
+    frame = record { limit = g .frame .limit; used = g .frame .used; topic-limit = g .frame .topic-limit; allowance = g .frame .allowance; share-low = g .frame .share-low; share-high = g .frame .share-high; few-producers = g .frame .few-producers; producers = g .frame .producers; few-audits = g .frame .few-audits; audits = g .frame .audits; holders = g .frame .holders; mark = g .frame .mark };
     few-subs = g .few-subs;
     subs = g .subs;
     ids = g .ids;
@@ -78,6 +78,9 @@ module _ (L U : ℕ) where
         (λ c. let p : rowsSum (occ x) t ≤ 0 = subst⁻¹ (λ y. rowsSum (occ y) t ≤ 0) (eqb-true x (e .seq) c) o in omega (arith, p, occ-yes x e c, sum-insert (occ x) e (t .pending), counts-rows (occ x) (t .subs)))
         (λ c. omega (arith, g .once x, occ-no x e c, sum-insert (occ x) e (t .pending)));
     agree = λ x. let z = agree-new e t (g .agree) o x in (z .0, omega (arith, z .1, z .2, sum-insert (odd x (z .0)) e (t .pending)));
+    shared = λ c. by-test (eqb c (e .producer))
+        (λ d. let p : queueSum (from c) t + 1 ≤ t .share = subst⁻¹ (λ y. queueSum (from y) t + 1 ≤ t .share) (eqb-true c (e .producer) d) q in omega (arith, p, from-few c e, sum-insert (from c) e (t .pending)))
+        (λ d. omega (arith, g .shared c, from-other c e d, sum-insert (from c) e (t .pending)));
     sorted = insert-ascending e (t .pending) (g .sorted);
     turn = g .turn;
     counters = g .counters;
@@ -86,26 +89,26 @@ module _ (L U : ℕ) where
   each-one : (k : Kind) (N : ℕ) (l m : List Sub) → Each k 0 N l m → Each k 1 N l m
   each-one k N l m e = record { ids = e .ids; sane = all-map (Sane k (N + 0)) (Sane k (N + 1)) m (λ s. sane-more k (N + 0) (N + 1) s (omega arith)) (e .sane); rows = e .rows; taken = e .taken }
 
-  pub stored-fine : (N : ℕ) (e : Entry) (t : Dest) → Fine L U queue N t → entryOk e ≡ true → rowsSum one t + 1 ≤ 512 → rowsSum (occ (e .seq)) t ≤ 0 → Fine L U queue (N + 1) (stored e t)
-  stored-fine N e t g h r o =
+  pub stored-fine : (N : ℕ) (e : Entry) (t : Dest) → Fine L U queue N t → entryOk e ≡ true → rowsSum one t + 1 ≤ 512 → rowsSum (occ (e .seq)) t ≤ 0 → queueSum (from (e .producer)) t + 1 ≤ t .share → Fine L U queue (N + 1) (stored e t)
+  stored-fine N e t g h r o q =
       let m : Each queue 1 N (t .subs) (map (holdBack (e .seq)) (t .subs)) = each-one queue N _ _ (each-map queue 0 N (holdBack (e .seq)) (t .subs) (λ s. back-eased queue _ s (omega arith)) (g .subs)) in
       insert-fine (N + 1) e (renewed (t .rr) (t .stats ⊕ addEnqueued 1) (map (holdBack (e .seq)) (t .subs)) (t .pending) (t .reserved) none t)
       (subs-fine L U queue N 1 t (t .stats ⊕ addEnqueued 1) (map (holdBack (e .seq)) (t .subs)) none g m refl (under-plus N 1 (t .stats) (addEnqueued 1) (g .counters) (omega arith)))
-      h (omega (arith, r, m .rows one one-tame)) (omega (arith, o, m .rows (occ (e .seq)) (occ-tame (e .seq))))
+      h (omega (arith, r, m .rows one one-tame)) (omega (arith, o, m .rows (occ (e .seq)) (occ-tame (e .seq)))) (omega (arith, q, m .taken refl (from (e .producer)) (from-tame (e .producer))))
 
   -- ---- enqueue, on a topic
 
   record Fanned (N now limit : ℕ) (e : Entry) (l : List Sub) : Type 0 where
     ids : map (λ s. s .id) (fanOutAll now limit e l .subs) ≡ map (λ s. s .id) l
     sane : All (Sane topic N) (fanOutAll now limit e l .subs)
-    rows : sums (rowsM one) (fanOutAll now limit e l .subs) ≤ sums (rowsM one) l + tally (λ s. accepts s e) l
+    rows : (f : Entry → ℕ) → Tame f → f e ≤ 1 → sums (rowsM f) (fanOutAll now limit e l .subs) ≤ sums (rowsM f) l + tally (λ s. accepts s e) l
     more : (f : Entry → ℕ) → Tame f → f e ≤ 0 → sums (rowsM f) (fanOutAll now limit e l .subs) ≤ sums (rowsM f) l
     counts : total (fanOutAll now limit e l .counts) ≤ sums (rowsM one) l + length l
 
   record FannedOne (N : ℕ) (e : Entry) (s : Sub) (a : Bool) (v : Sub) (c : Stats) : Type 0 where
     id : v .id ≡ s .id
     sane : Sane topic N v
-    rows : rowsM one v ≤ rowsM one s + (if a then 1 else 0)
+    rows : (f : Entry → ℕ) → Tame f → f e ≤ 1 → rowsM f v ≤ rowsM f s + (if a then 1 else 0)
     more : (f : Entry → ℕ) → Tame f → f e ≤ 0 → rowsM f v ≤ rowsM f s
     counts : total c ≤ rowsM one s + 1
 
@@ -179,46 +182,49 @@ module _ (L U : ℕ) where
       (λ c. let w = trims now limit (insert e (s .tpending)) in let m = trim now limit (insert e (s .tpending)) .list in rw c (record {
         id = refl;
         sane = fan-sane N e m s h k o (w .thin);
-        rows = omega (arith, fan-sum one one-tame e m s (w .thin));
+        rows = λ f y z. omega (arith, fan-sum f y e m s (w .thin), z);
         more = λ f y z. omega (arith, fan-sum f y e m s (w .thin), z);
         counts = omega (arith, w .counts, insert-length e s);
       }))
-      (λ c. rw c (record { id = refl; sane = h; rows = omega arith; more = λ f y z. omega arith; counts = omega arith }))
+      (λ c. rw c (record { id = refl; sane = h; rows = λ f y z. omega arith; more = λ f y z. omega arith; counts = omega arith }))
 
   fan-all : (N now limit : ℕ) (e : Entry) (l : List Sub) → All (Sane topic N) l → entryOk e ≡ true → sums (rowsM (occ (e .seq))) l ≤ 0 → Fanned N now limit e l
   unfolding fanOutAll
-  fan-all N now limit e [] a k o = record { ids = refl; sane = tt; rows = omega arith; more = λ f y z. omega arith; counts = omega arith }
+  fan-all N now limit e [] a k o = record { ids = refl; sane = tt; rows = λ f y z. omega arith; more = λ f y z. omega arith; counts = omega arith }
   fan-all N now limit e (s ∷ l) a k o =
       let p = fan-one N now limit e s (a .0) k (omega (arith, o)) in
       let r = fan-all N now limit e l (a .1) k (omega (arith, o)) in
       record {
         ids = ap (λ i. i ∷ map (λ s. s .id) (fanOutAll now limit e l .subs)) (p .id) ∙ ap (λ x. s .id ∷ x) (r .ids);
         sane = (p .sane, r .sane);
-        rows = omega (arith, p .rows, r .rows);
+        rows = λ f y z. omega (arith, p .rows f y z, r .rows f y z);
         more = λ f y z. omega (arith, p .more f y z, r .more f y z);
         counts = omega (arith, p .counts, r .counts);
       }
 
-  pub fanned-fine : (N now : ℕ) (e : Entry) (t : Dest) → Fine L U topic N t → entryOk e ≡ true → rowsSum one t + tally (λ s. accepts s e) (t .subs) ≤ 512 → rowsSum (occ (e .seq)) t ≤ 0 → Fine L U topic (N + 1024) (fannedOut now e t)
-  fanned-fine N now e t g k r o =
+  pub fanned-fine : (N now : ℕ) (e : Entry) (t : Dest) → Fine L U topic N t → entryOk e ≡ true → rowsSum one t + tally (λ s. accepts s e) (t .subs) ≤ 512 → rowsSum (occ (e .seq)) t ≤ 0 → rowsSum (from (e .producer)) t + tally (λ s. accepts s e) (t .subs) ≤ t .share → Fine L U topic (N + 1024) (fannedOut now e t)
+  fanned-fine N now e t g k r o q =
       let p = fan-all N now (t .topicLimit) e (t .subs) (g .subs) k (omega (arith, o)) in
       let n : length (fanOutAll now (t .topicLimit) e (t .subs) .subs) ≡ length (t .subs) = sym (length-map (λ s. s .id) (fanOutAll now (t .topicLimit) e (t .subs) .subs)) ∙ ap length (p .ids) ∙ length-map (λ s. s .id) (t .subs) in
       record {
         kind = g .kind;
-        frame = record { limit = g .frame .limit; used = g .frame .used; topic-limit = g .frame .topic-limit; allowance = g .frame .allowance; few-producers = g .frame .few-producers; producers = g .frame .producers; few-audits = g .frame .few-audits; audits = g .frame .audits; holders = g .frame .holders; mark = g .frame .mark };
+        frame = record { limit = g .frame .limit; used = g .frame .used; topic-limit = g .frame .topic-limit; allowance = g .frame .allowance; share-low = g .frame .share-low; share-high = g .frame .share-high; few-producers = g .frame .few-producers; producers = g .frame .producers; few-audits = g .frame .few-audits; audits = g .frame .audits; holders = g .frame .holders; mark = g .frame .mark };
         few-subs = omega (arith, n, g .few-subs);
         subs = all-map (Sane topic N) (Sane topic (N + 1024)) (fanOutAll now (t .topicLimit) e (t .subs) .subs) (λ s. sane-more topic N (N + 1024) s (omega arith)) (p .sane);
         ids = ids-same (t .subs) (fanOutAll now (t .topicLimit) e (t .subs) .subs) (p .ids) ∙ g .ids;
-        rows = omega (arith, r, p .rows);
+        rows = omega (arith, r, p .rows one one-tame (omega arith));
         ok = omega (arith, g .ok, p .more bad bad-tame (omega (arith, bad-ok e k)));
         once = g .once;
         agree = λ x. let z = agree-new e t (g .agree) o x in (z .0, omega (arith, z .2, p .more (odd x (z .0)) (odd-tame x (z .0)) (z .1)));
+        shared = λ c. by-test (eqb c (e .producer))
+            (λ d. let y : rowsSum (from c) t + tally (λ s. accepts s e) (t .subs) ≤ t .share = subst⁻¹ (λ x. rowsSum (from x) t + tally (λ s. accepts s e) (t .subs) ≤ t .share) (eqb-true c (e .producer) d) q in omega (arith, y, p .rows (from c) (from-tame c) (from-few c e)))
+            (λ d. omega (arith, g .shared c, p .more (from c) (from-tame c) (omega (arith, from-other c e d))));
         sorted = g .sorted;
         turn = ap (λ n. ltb (t .rr) n || eqb (t .rr) 0) n ∙ g .turn;
         counters = under-more (N + 1 + 1000) (N + 1024) _ (omega arith) (under-plus (N + 1) 1000 (t .stats ⊕ addEnqueued 1) (fanOutAll now (t .topicLimit) e (t .subs) .counts) (under-plus N 1 (t .stats) (addEnqueued 1) (g .counters) (omega arith)) (omega (arith, p .counts, g .rows, g .few-subs)));
       }
 
-  pub enqueue-fine : (k : Kind) (N now : ℕ) (e : Entry) (t : Dest) → Fine L U k N t → entryOk e ≡ true → rowsSum one t + rowsFor e t k ≤ 512 → rowsSum (occ (e .seq)) t ≤ 0 → Fine L U k (N + 4096) (enqueueBy now e t k .dest)
+  pub enqueue-fine : (k : Kind) (N now : ℕ) (e : Entry) (t : Dest) → Fine L U k N t → entryOk e ≡ true → rowsSum one t + rowsFor e t k ≤ 512 → rowsSum (occ (e .seq)) t ≤ 0 → ownSum k (from (e .producer)) t + rowsFor e t k ≤ t .share → Fine L U k (N + 4096) (enqueueBy now e t k .dest)
   unfolding enqueueBy dispatchBy
-  enqueue-fine queue N now e t g k r o = fine-more L U queue (N + 1 + 2048) (N + 4096) _ (omega arith) (dispatch-fine L U queue (N + 1) (due now t) (stored e t) (stored-fine N e t g k r o))
-  enqueue-fine topic N now e t g k r o = fine-more L U topic (N + 1024 + 2048) (N + 4096) _ (omega arith) (dispatch-fine L U topic (N + 1024) (due now t) (fannedOut (due now t) e t) (fanned-fine N (due now t) e t g k r o))
+  enqueue-fine queue N now e t g k r o q = fine-more L U queue (N + 1 + 2048) (N + 4096) _ (omega arith) (dispatch-fine L U queue (N + 1) (due now t) (stored e t) (stored-fine N e t g k r o q))
+  enqueue-fine topic N now e t g k r o q = fine-more L U topic (N + 1024 + 2048) (N + 4096) _ (omega arith) (dispatch-fine L U topic (N + 1024) (due now t) (fannedOut (due now t) e t) (fanned-fine N (due now t) e t g k r o q))

@@ -99,8 +99,8 @@ module _ (L U : ℕ) (k : Kind) (N : ℕ) where
 
 enqueue-sends : (L U : ℕ) (k : Kind) (N now : ℕ) (e : Entry) (t : Dest) → Fine L U k N t → Stores k e t → length (enqueueBy now e t k .events) ≤ 545
 unfolding enqueueBy dispatchBy
-enqueue-sends L U queue N now e t g y = fine-sends L U queue (N + 1) queue (due now t) (stored e t) (stored-fine L U N e t g (y .ok) (y .fits) (y .new))
-enqueue-sends L U topic N now e t g y = fine-sends L U topic (N + 1024) topic (due now t) (fannedOut (due now t) e t) (fanned-fine L U N (due now t) e t g (y .ok) (y .fits) (y .new))
+enqueue-sends L U queue N now e t g y = fine-sends L U queue (N + 1) queue (due now t) (stored e t) (stored-fine L U N e t g (y .ok) (y .fits) (y .new) (y .shared))
+enqueue-sends L U topic N now e t g y = fine-sends L U topic (N + 1024) topic (due now t) (fannedOut (due now t) e t) (fanned-fine L U N (due now t) e t g (y .ok) (y .fits) (y .new) (y .shared))
 
 leave-sends : (L U : ℕ) (k : Kind) (N now : ℕ) (i : Id) (last : ℤ) (t : Dest) (o : Option Sub) → subOf i t ≡ o → clockOk now ≡ true → Fine L U k N t → length (removeAt now i last t o .events) ≤ 545
 unfolding removeAt

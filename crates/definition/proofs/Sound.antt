@@ -9,15 +9,15 @@ use lib.Dec.{leb, ltb, eqb}
 use lib.ListN.{length, length-append}
 use borrow.Author.Tests.{leb-true, le-leb}
 use Rattle.definition.specs.Base.{all, find, put, ascending}
-use Rattle.definition.specs.Types.{Kind, queue, topic, Id, Sub, Stats, Dest}
+use Rattle.definition.specs.Types.{Entry, Kind, queue, topic, Id, Sub, Stats, Dest}
 use Rattle.definition.specs.Consumer.{sameId, _⊕_}
 use Rattle.definition.specs.Destination.{isId, subOf}
-use Rattle.definition.specs.Calls.{sizesAgree, Request, asking, argumentsOk, requestOk, used, bound, seqs, rowsOf, subSound, consumerRows, taken, held, allRows, distinctIds, countersOk, placed, soundTests, sound, idOk, entryOk, optional, clockOk, auditOk}
+use Rattle.definition.specs.Calls.{sizesAgree, ownRows, withinShare, Request, asking, argumentsOk, requestOk, used, bound, seqs, rowsOf, subSound, consumerRows, taken, held, allRows, distinctIds, countersOk, placed, soundTests, sound, idOk, entryOk, optional, clockOk, auditOk}
 use Rattle.definition.proofs.Tests.{if-true, if-false, by-test, and-left, and-right, and-both}
 use Rattle.definition.proofs.Lists.{none-some, some-inj, length-put}
 use Rattle.definition.proofs.Thin.{every-all, all-every, Thin, done, thin-refl, thin-append, thin-length, thin-distinct}
 use Rattle.definition.proofs.Local.{changed}
-use Rattle.definition.proofs.Sums.{odd, odd-tame, sum-thin, agree-sum, sum-agree}
+use Rattle.definition.proofs.Sums.{odd, odd-tame, from, from-tame, sum-thin, agree-sum, sum-agree, share-sum, sum-share}
 use Rattle.definition.proofs.Own.{own, own-id}
 use Rattle.definition.proofs.Fit.{Waits, Fit, fit, unfit, total}
 use Rattle.definition.proofs.Grown.{Grown, own-grown, counted, Flight}
@@ -98,16 +98,19 @@ pub record Facts (t : Dest) : Type 0 where
   pub audits : all auditOk (t .audits) ≡ true
   pub allowance : leb (t .allowance) 86400000 ≡ true
   pub sizes : sizesAgree (allRows t) ≡ true
+  pub share-low : leb 1 (t .share) ≡ true
+  pub share-high : leb (t .share) 512 ≡ true
+  pub shares : withinShare (t .share) (ownRows t (t .kind)) ≡ true
 
 pub facts : (t : Dest) → sound t ≡ true → Facts t
 unfolding sound
 facts t e =
     let f = every-all (soundTests t) e in
-    record { limit-low = f .0; limit-high = f .1 .0; calls = f .1 .1 .0; topic-limit = f .1 .1 .1 .0; few-subs = f .1 .1 .1 .1 .0; few-producers = f .1 .1 .1 .1 .1 .0; producers = f .1 .1 .1 .1 .1 .1 .0; few-rows = f .1 .1 .1 .1 .1 .1 .1 .0; entries = f .1 .1 .1 .1 .1 .1 .1 .1 .0; holders = f .1 .1 .1 .1 .1 .1 .1 .1 .1 .0; sorted = f .1 .1 .1 .1 .1 .1 .1 .1 .1 .1 .0; consumers = f .1 .1 .1 .1 .1 .1 .1 .1 .1 .1 .1 .0; ids = f .1 .1 .1 .1 .1 .1 .1 .1 .1 .1 .1 .1 .0; places = f .1 .1 .1 .1 .1 .1 .1 .1 .1 .1 .1 .1 .1 .0; turn = f .1 .1 .1 .1 .1 .1 .1 .1 .1 .1 .1 .1 .1 .1 .0; counters = f .1 .1 .1 .1 .1 .1 .1 .1 .1 .1 .1 .1 .1 .1 .1 .0; mark = f .1 .1 .1 .1 .1 .1 .1 .1 .1 .1 .1 .1 .1 .1 .1 .1 .0; few-audits = f .1 .1 .1 .1 .1 .1 .1 .1 .1 .1 .1 .1 .1 .1 .1 .1 .1 .0; audits = f .1 .1 .1 .1 .1 .1 .1 .1 .1 .1 .1 .1 .1 .1 .1 .1 .1 .1 .0; allowance = f .1 .1 .1 .1 .1 .1 .1 .1 .1 .1 .1 .1 .1 .1 .1 .1 .1 .1 .1 .0; sizes = f .1 .1 .1 .1 .1 .1 .1 .1 .1 .1 .1 .1 .1 .1 .1 .1 .1 .1 .1 .1 .0 }
+    record { limit-low = f .0; limit-high = f .1 .0; calls = f .1 .1 .0; topic-limit = f .1 .1 .1 .0; few-subs = f .1 .1 .1 .1 .0; few-producers = f .1 .1 .1 .1 .1 .0; producers = f .1 .1 .1 .1 .1 .1 .0; few-rows = f .1 .1 .1 .1 .1 .1 .1 .0; entries = f .1 .1 .1 .1 .1 .1 .1 .1 .0; holders = f .1 .1 .1 .1 .1 .1 .1 .1 .1 .0; sorted = f .1 .1 .1 .1 .1 .1 .1 .1 .1 .1 .0; consumers = f .1 .1 .1 .1 .1 .1 .1 .1 .1 .1 .1 .0; ids = f .1 .1 .1 .1 .1 .1 .1 .1 .1 .1 .1 .1 .0; places = f .1 .1 .1 .1 .1 .1 .1 .1 .1 .1 .1 .1 .1 .0; turn = f .1 .1 .1 .1 .1 .1 .1 .1 .1 .1 .1 .1 .1 .1 .0; counters = f .1 .1 .1 .1 .1 .1 .1 .1 .1 .1 .1 .1 .1 .1 .1 .0; mark = f .1 .1 .1 .1 .1 .1 .1 .1 .1 .1 .1 .1 .1 .1 .1 .1 .0; few-audits = f .1 .1 .1 .1 .1 .1 .1 .1 .1 .1 .1 .1 .1 .1 .1 .1 .1 .0; audits = f .1 .1 .1 .1 .1 .1 .1 .1 .1 .1 .1 .1 .1 .1 .1 .1 .1 .1 .0; allowance = f .1 .1 .1 .1 .1 .1 .1 .1 .1 .1 .1 .1 .1 .1 .1 .1 .1 .1 .1 .0; sizes = f .1 .1 .1 .1 .1 .1 .1 .1 .1 .1 .1 .1 .1 .1 .1 .1 .1 .1 .1 .1 .0; share-low = f .1 .1 .1 .1 .1 .1 .1 .1 .1 .1 .1 .1 .1 .1 .1 .1 .1 .1 .1 .1 .1 .0; share-high = f .1 .1 .1 .1 .1 .1 .1 .1 .1 .1 .1 .1 .1 .1 .1 .1 .1 .1 .1 .1 .1 .1 .0; shares = f .1 .1 .1 .1 .1 .1 .1 .1 .1 .1 .1 .1 .1 .1 .1 .1 .1 .1 .1 .1 .1 .1 .1 .0 }
 
 pub from-facts : (t : Dest) → Facts t → sound t ≡ true
 unfolding sound
-from-facts t f = all-every (soundTests t) (f .limit-low, (f .limit-high, (f .calls, (f .topic-limit, (f .few-subs, (f .few-producers, (f .producers, (f .few-rows, (f .entries, (f .holders, (f .sorted, (f .consumers, (f .ids, (f .places, (f .turn, (f .counters, (f .mark, (f .few-audits, (f .audits, (f .allowance, (f .sizes, tt)))))))))))))))))))))
+from-facts t f = all-every (soundTests t) (f .limit-low, (f .limit-high, (f .calls, (f .topic-limit, (f .few-subs, (f .few-producers, (f .producers, (f .few-rows, (f .entries, (f .holders, (f .sorted, (f .consumers, (f .ids, (f .places, (f .turn, (f .counters, (f .mark, (f .few-audits, (f .audits, (f .allowance, (f .sizes, (f .share-low, (f .share-high, (f .shares, tt))))))))))))))))))))))))
 
 -- ---- bounds that rise with the calls used
 
@@ -127,10 +130,19 @@ counters-more u a c h t =
     all-every (leb (a .enqueued + c .enqueued) (bound (u + 1)) ∷ leb (a .dequeued + c .dequeued) (bound (u + 1)) ∷ leb (a .expired + c .expired) (bound (u + 1)) ∷ leb (a .discarded + c .discarded) (bound (u + 1)) ∷ leb (a .dispatched + c .dispatched) (bound (u + 1)) ∷ [])
     (bound-more u _ _ (f .0) (omega arith), (bound-more u _ _ (f .1 .0) (omega arith), (bound-more u _ _ (f .1 .1 .0) (omega arith), (bound-more u _ _ (f .1 .1 .1 .0) (omega arith), (bound-more u _ _ (f .1 .1 .1 .1 .0) (omega arith), tt)))))
 
+thin-share : (S : ℕ) (l m : List Entry) → Thin l m → withinShare S l ≡ true → withinShare S m ≡ true
+thin-share S l m w h = sum-share S m (λ c. omega (arith, share-sum S l h c, sum-thin (from c) (from-tame c) l m w))
+
 placed-put : (k : Kind) (i : Id) (s v : Sub) (c : Stats) (t : Dest) → subOf i t ≡ some s → Flight k s v → placed t k ≡ true → placed (used (changed i v c t)) k ≡ true
 placed-put queue i s v c t found g h =
     thin-distinct _ _ (thin-append _ _ (thin-refl (t .pending)) (thin-append _ _ (thin-refl (held t)) (taken-put (isId i) (t .subs) s v found g))) h
 placed-put topic i s v c t found g h = h
+
+shares-put : (k : Kind) (i : Id) (s v : Sub) (c : Stats) (t : Dest) → subOf i t ≡ some s → Flight k s v → Thin (allRows t) (allRows (used (changed i v c t))) → withinShare (t .share) (ownRows t k) ≡ true →
+    withinShare (t .share) (ownRows (used (changed i v c t)) k) ≡ true
+shares-put queue i s v c t found g w h = thin-share (t .share) (ownRows t queue) (ownRows (used (changed i v c t)) queue)
+    (thin-append _ _ (thin-refl (t .pending)) (thin-append _ _ (thin-refl (held t)) (taken-put (isId i) (t .subs) s v found g))) h
+shares-put topic i s v c t found g w h = thin-share (t .share) (allRows t) (allRows (used (changed i v c t))) w h
 
 pub own-sound : (i : Id) (q : Request) (s : Sub) (t : Dest) → subOf i t ≡ some s → argumentsOk (asking i q) ≡ true → suc (t .callsUsed) ≤ t .callLimit → sound t ≡ true →
     sound (used (changed i (own (t .kind) q s .sub) (own (t .kind) q s .counts) t)) ≡ true
@@ -159,6 +171,9 @@ own-sound i q s t found a h e = from-facts (used (changed i v c t)) (record {
   audits = f .audits;
   allowance = f .allowance;
   sizes = sum-agree (t .pending ++ (held t ++ consumerRows (put (isId i) v (t .subs)))) (λ x. let z = agree-sum (allRows t) (f .sizes) x in (z .0, omega (arith, z .1, sum-thin (odd x (z .0)) (odd-tame x (z .0)) _ _ thinner)));
+  share-low = f .share-low;
+  share-high = f .share-high;
+  shares = shares-put (t .kind) i s v c t found (g .flight) thinner (f .shares);
 })
   where
     v : Sub

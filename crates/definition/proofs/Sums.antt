@@ -4,14 +4,14 @@ use native.Mathlib.Omega.{arith}
 use mathlib.Core.Path.{_≡_, refl, sym, _∙_, ap, subst, subst⁻¹}
 use mathlib.Core.Bool.{Bool, true, false, not, _||_, true≢false}
 use mathlib.Core.List.{List, [], _∷_, _++_, map}
-use lib.Dec.{ltb, eqb}
+use lib.Dec.{leb, ltb, eqb}
 use lib.ListN.{length, drop}
-use borrow.Author.Tests.{eqb-true, eqb-false, eq-eqb, ltb-true, ltb-false, lt-ltb, not-true}
+use borrow.Author.Tests.{eqb-true, eqb-false, eq-eqb, leb-true, le-leb, ltb-true, ltb-false, lt-ltb, not-true}
 use Rattle.definition.specs.Base.{if_then_else_, keep, tally, all, member, distinct, rising, ascending}
 use Rattle.definition.specs.Types.{Entry}
 use Rattle.definition.specs.Consumer.{redelivered}
 use Rattle.definition.specs.Destination.{insert, insertAll}
-use Rattle.definition.specs.Calls.{entryOk, seqs, sizesAgree}
+use Rattle.definition.specs.Calls.{entryOk, seqs, sizesAgree, rowsFrom, withinShare}
 use Rattle.definition.proofs.Tests.{by-test, and-left, and-right, and-both}
 use Rattle.definition.proofs.Thin.{Alike, alike-refl, alike-redelivered, Thin, done, skip, stay, thin-refl}
 
@@ -195,6 +195,58 @@ sum-agree (e ∷ l) h =
     let z : r .0 ≡ e .size = odd-size (r .0) e (omega (arith, r .1)) in
     let m : sum (odd (e .seq) (e .size)) l ≤ 0 = subst (λ (y : ℕ). sum (odd (e .seq) y) l ≤ 0) z (omega (arith, r .1)) in
     and-both (all (like e) l) _ (odd-like e l m) (sum-agree l (λ x. (h x .0, omega (arith, h x .1))))
+
+-- ---- a share for each connection
+
+-- those of the connection c
+unfoldable pub from : ℕ → Entry → ℕ
+from c e = if eqb c (e .producer) then 1 else 0
+
+pub from-tame : (c : ℕ) → Tame (from c)
+unfolding from
+from-tame c e g a = rw (a .producer) (omega arith)
+
+pub from-few : (c : ℕ) (e : Entry) → from c e ≤ 1
+unfolding from
+from-few c e = by-test (eqb c (e .producer)) (λ d. rw d (omega arith)) (λ d. rw d (omega arith))
+
+pub from-own : (e : Entry) → from (e .producer) e ≡ 1
+unfolding from
+from-own e = rw (eq-eqb (e .producer) (e .producer) refl)
+
+pub from-other : (c : ℕ) (e : Entry) → eqb c (e .producer) ≡ false → from c e ≡ 0
+unfolding from
+from-other c e h = rw h
+
+pub sum-from : (c : ℕ) (l : List Entry) → sum (from c) l ≡ rowsFrom c l
+unfolding from
+sum-from c [] = refl
+sum-from c (e ∷ l) = ap (λ n. (if eqb c (e .producer) then 1 else 0) + n) (sum-from c l)
+
+pub from-length : (c : ℕ) (l : List Entry) → sum (from c) l ≤ length l
+from-length c [] = omega arith
+from-length c (e ∷ l) = omega (arith, from-few c e, from-length c l)
+
+-- a test of the connections that hold rows is one of all
+module _ (S : ℕ) (l : List Entry) where
+  abbrev shareTest : Entry → Bool
+  shareTest e = leb (rowsFrom (e .producer) l) S
+
+  share-some : (m : List Entry) → all shareTest m ≡ true → (c : ℕ) → 1 ≤ sum (from c) m → sum (from c) l ≤ S
+  share-some [] h c n = absurd (omega (arith, n))
+  share-some (e ∷ m) h c n = by-test (eqb c (e .producer))
+      (λ d. subst⁻¹ (λ (x : ℕ). sum (from x) l ≤ S) (eqb-true c (e .producer) d) (omega (arith, sum-from (e .producer) l, leb-true (rowsFrom (e .producer) l) S (and-left (shareTest e) _ h))))
+      (λ d. share-some m (and-right (shareTest e) _ h) c (omega (arith, n, from-other c e d)))
+
+  pub share-sum : withinShare S l ≡ true → (c : ℕ) → sum (from c) l ≤ S
+  share-sum h c = by-test (eqb (sum (from c) l) 0) (λ d. omega (arith, eqb-true (sum (from c) l) 0 d)) (λ d. share-some l h c (omega (arith, eqb-false (sum (from c) l) 0 d)))
+
+  sum-some : (m : List Entry) → ((c : ℕ) → sum (from c) l ≤ S) → all shareTest m ≡ true
+  sum-some [] h = refl
+  sum-some (e ∷ m) h = and-both (shareTest e) _ (le-leb (rowsFrom (e .producer) l) S (omega (arith, sum-from (e .producer) l, h (e .producer)))) (sum-some m h)
+
+  pub sum-share : ((c : ℕ) → sum (from c) l ≤ S) → withinShare S l ≡ true
+  sum-share h = sum-some l h
 
 -- ---- rising numbers
 

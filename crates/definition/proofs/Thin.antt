@@ -47,19 +47,20 @@ redelivered-ok e h =
 pub record Alike (e f : Entry) : Type 0 where
   pub seq : f .seq ≡ e .seq
   pub size : f .size ≡ e .size
+  pub producer : f .producer ≡ e .producer
   pub ok : entryOk e ≡ true → entryOk f ≡ true
 
 pub alike-refl : (e : Entry) → Alike e e
-alike-refl e = record { seq = refl; size = refl; ok = λ h. h }
+alike-refl e = record { seq = refl; size = refl; producer = refl; ok = λ h. h }
 
 pub alike-same : (e f : Entry) → f ≡ e → Alike e f
-alike-same e f h = record { seq = ap (λ (x : Entry). x .seq) h; size = ap (λ (x : Entry). x .size) h; ok = λ k. ap entryOk h ∙ k }
+alike-same e f h = record { seq = ap (λ (x : Entry). x .seq) h; size = ap (λ (x : Entry). x .size) h; producer = ap (λ (x : Entry). x .producer) h; ok = λ k. ap entryOk h ∙ k }
 
 pub alike-redelivered : (e : Entry) → Alike e (redelivered e)
-alike-redelivered e = record { seq = refl; size = refl; ok = redelivered-ok e }
+alike-redelivered e = record { seq = refl; size = refl; producer = refl; ok = redelivered-ok e }
 
 pub alike-trans : (e f g : Entry) → Alike e f → Alike f g → Alike e g
-alike-trans e f g a b = record { seq = b .seq ∙ a .seq; size = b .size ∙ a .size; ok = λ h. b .ok (a .ok h) }
+alike-trans e f g a b = record { seq = b .seq ∙ a .seq; size = b .size ∙ a .size; producer = b .producer ∙ a .producer; ok = λ h. b .ok (a .ok h) }
 
 -- ---- thinner lists of entries
 

@@ -10,11 +10,11 @@ use borrow.Author.Tests.{leb-true, le-leb}
 use Rattle.definition.specs.Base.{all, empty, ascending}
 use Rattle.definition.specs.Types.{Kind, queue, topic, Entry, Sub, Stats, Dest}
 use Rattle.definition.specs.Consumer.{expired}
-use Rattle.definition.specs.Calls.{used, bound, idOk, optional, clockOk, auditOk, seqs, rowsOf, subSound, consumerRows, taken, held, allRows, distinctIds, countersOk, placed, sound}
+use Rattle.definition.specs.Calls.{used, bound, idOk, optional, clockOk, auditOk, seqs, rowsOf, subSound, consumerRows, taken, held, allRows, distinctIds, countersOk, placed, ownRows, withinShare, sound}
 use Rattle.definition.proofs.Tests.{and-left, and-right, and-both}
 use Rattle.definition.proofs.Lists.{All, empty-nil}
 use Rattle.definition.proofs.Thin.{every-all, all-every}
-use Rattle.definition.proofs.Sums.{sum, one, occ, bad, odd, agree-sum, sum-agree, sum-append, sum-one, ok-sum, sum-ok, once-sum, sum-once}
+use Rattle.definition.proofs.Sums.{sum, one, occ, bad, odd, from, agree-sum, sum-agree, share-sum, sum-share, sum-append, sum-one, ok-sum, sum-ok, once-sum, sum-once}
 use Rattle.definition.proofs.Fit.{Waits, Fit, fit, unfit}
 use Rattle.definition.proofs.Grown.{counted}
 use Rattle.definition.proofs.Sound.{facts, from-facts, waits-more}
@@ -72,12 +72,22 @@ Once topic t = (t .pending ≡ []) × (t .reserved ≡ [])
 abbrev pub Agree : Dest → Type 0
 Agree t = (x : ℕ) → (z : ℕ) × (rowsSum (odd x z) t ≤ 0)
 
+-- the rows that belong to connections, and that each holds no more than its share
+abbrev pub ownSum : Kind → (Entry → ℕ) → Dest → ℕ
+ownSum queue f t = queueSum f t
+ownSum topic f t = rowsSum f t
+
+abbrev pub Shared : Kind → Dest → Type 0
+Shared k t = (c : ℕ) → ownSum k (from c) t ≤ t .share
+
 -- the fields that no dispatch touches
 pub record Frame (L U : ℕ) (t : Dest) : Type 0 where
   pub limit : t .callLimit ≡ L
   pub used : t .callsUsed ≡ U
   pub topic-limit : leb (t .topicLimit) 512 ≡ true
   pub allowance : leb (t .allowance) 86400000 ≡ true
+  pub share-low : leb 1 (t .share) ≡ true
+  pub share-high : leb (t .share) 512 ≡ true
   pub few-producers : leb (length (t .producers)) 32 ≡ true
   pub producers : all idOk (t .producers) ≡ true
   pub few-audits : leb (length (t .audits)) 8 ≡ true
@@ -95,6 +105,7 @@ pub record Fine (L U : ℕ) (k : Kind) (N : ℕ) (t : Dest) : Type 0 where
   pub ok : rowsSum bad t ≤ 0
   pub once : Once k t
   pub agree : Agree t
+  pub shared : Shared k t
   pub sorted : ascending (seqs (t .pending)) ≡ true
   pub turn : (ltb (t .rr) (length (t .subs)) || eqb (t .rr) 0) ≡ true
   pub counters : Under N (t .stats)
@@ -122,6 +133,7 @@ fine-more L U k M N t h f = record {
   ok = f .ok;
   once = f .once;
   agree = f .agree;
+  shared = f .shared;
   sorted = f .sorted;
   turn = f .turn;
   counters = under-more M N (t .stats) h (f .counters);
@@ -147,6 +159,10 @@ rows-length f t = omega (arith, sum-append f (t .pending) (held t ++ consumerRow
 
 queue-length : (f : Entry → ℕ) (t : Dest) → sum f (t .pending ++ (held t ++ taken (t .subs))) ≡ queueSum f t
 queue-length f t = omega (arith, sum-append f (t .pending) (held t ++ taken (t .subs)), sum-append f (held t) (taken (t .subs)), sums-taken f (t .subs))
+
+pub own-length : (k : Kind) (f : Entry → ℕ) (t : Dest) → sum f (ownRows t k) ≡ ownSum k f t
+own-length queue f t = queue-length f t
+own-length topic f t = rows-length f t
 
 nil-empty : {A : Type 0} (l : List A) → l ≡ [] → empty l ≡ true
 nil-empty l h = ap empty h
@@ -175,7 +191,7 @@ fine t e =
     let s = sound-sane (t .kind) (t .callsUsed) (t .subs) (f .consumers) in
     record {
       kind = refl;
-      frame = record { limit = refl; used = refl; topic-limit = f .topic-limit; allowance = f .allowance; few-producers = f .few-producers; producers = f .producers; few-audits = f .few-audits; audits = f .audits; holders = f .holders; mark = f .mark };
+      frame = record { limit = refl; used = refl; topic-limit = f .topic-limit; allowance = f .allowance; share-low = f .share-low; share-high = f .share-high; few-producers = f .few-producers; producers = f .producers; few-audits = f .few-audits; audits = f .audits; holders = f .holders; mark = f .mark };
       few-subs = leb-true _ _ (f .few-subs);
       subs = s;
       ids = f .ids;
@@ -183,6 +199,7 @@ fine t e =
       ok = omega (arith, ok-sum (t .pending ++ held t) (f .entries), sum-append bad (t .pending) (held t), rows-bad (t .kind) (bound (t .callsUsed)) (t .subs) s);
       once = placed-once (t .kind) t (f .places);
       agree = λ x. let z = agree-sum (allRows t) (f .sizes) x in (z .0, omega (arith, z .1, rows-length (odd x (z .0)) t));
+      shared = λ c. omega (arith, share-sum (t .share) (ownRows t (t .kind)) (f .shares) c, own-length (t .kind) (from c) t);
       sorted = f .sorted;
       turn = f .turn;
       counters = counters-under _ _ (f .counters);
@@ -213,8 +230,15 @@ unfine L U k N t a b c n f =
       audits = f .frame .audits;
       allowance = f .frame .allowance;
       sizes = sum-agree (allRows t) (λ x. let z = f .agree x in (z .0, omega (arith, z .1, rows-length (odd x (z .0)) t)));
+      share-low = f .frame .share-low;
+      share-high = f .frame .share-high;
+      shares = ap (λ j. withinShare (t .share) (ownRows (used t) j)) (f .kind) ∙ sum-share (t .share) (ownRows (used t) k) (λ c. omega (arith, f .shared c, used-length k (from c)));
     })
   where
     again : (j : Kind) → Once j t → Once j (used t)
     again queue h = h
     again topic h = h
+
+    used-length : (j : Kind) (m : Entry → ℕ) → sum m (ownRows (used t) j) ≡ ownSum j m t
+    used-length queue m = queue-length m t
+    used-length topic m = rows-length m t

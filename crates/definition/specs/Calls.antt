@@ -23,7 +23,7 @@ pub record Lengths : Type 0 where
 
 -- a state buffer is short: docs/LAYOUT.md has the sizes
 unfoldable pub stateShort : Lengths → Bool
-stateShort l = ltb (l .head) 8346 || (ltb (l .subs) 32 || ltb (l .rows) 512)
+stateShort l = ltb (l .head) 8347 || (ltb (l .subs) 32 || ltb (l .rows) 512)
 
 -- refusal 1, of a call that may send
 unfoldable pub short : Lengths → Bool
@@ -126,6 +126,19 @@ abbrev pub sizesAgree : List Entry → Bool
 sizesAgree [] = true
 sizesAgree (e ∷ es) = all (λ f. not (eqb (e .seq) (f .seq)) || eqb (e .size) (f .size)) es && sizesAgree es
 
+-- the rows that belong to producer connections: copies of a queue's browsers belong to none, a topic's count as any consumer's
+abbrev pub ownRows : Dest → Kind → List Entry
+ownRows t queue = t .pending ++ (held t ++ taken (t .subs))
+ownRows t topic = allRows t
+
+-- those of one connection
+abbrev pub rowsFrom : ℕ → List Entry → ℕ
+rowsFrom c l = tally (λ e. eqb c (e .producer)) l
+
+-- no connection holds more than the share
+abbrev pub withinShare : ℕ → List Entry → Bool
+withinShare share l = all (λ e. leb (rowsFrom (e .producer) l) share) l
+
 abbrev pub soundTests : Dest → List Bool
 soundTests t =
     leb 1 (t .callLimit)
@@ -149,6 +162,9 @@ soundTests t =
     ∷ all auditOk (t .audits)
     ∷ leb (t .allowance) 86400000
     ∷ sizesAgree (allRows t)
+    ∷ leb 1 (t .share)
+    ∷ leb (t .share) 512
+    ∷ withinShare (t .share) (ownRows t (t .kind))
     ∷ []
 
 unfoldable pub sound : Dest → Bool
@@ -232,10 +248,15 @@ rowsFor e t topic = tally (λ s. accepts s e) (t .subs)
 abbrev pub snapshotRows : ℕ → Spec → Dest → ℕ
 snapshotRows now p t = if p .browser then tally (λ e. not (expired (pos (due now t)) e) && selects (e .«match_word») (p .selector)) (t .pending) else 0
 
+-- with an enqueue's rows its connection holds more than a share below 512
+abbrev pub overShare : Entry → Dest → Bool
+overShare e t = ltb (t .share) 512 && ltb (t .share) (rowsFrom (e .producer) (ownRows t (t .kind)) + rowsFor e t (t .kind))
+
 -- the refusals that are one call's own; 0 for none
 unfoldable pub ownRefusal : Dest → Call → ℕ
 ownRefusal t (enqueuing e now) =
     if member (e .seq) (seqs (allRows t)) then 4
+    else if overShare e t then 14
     else if ltb (freeRows t) (rowsFor e t (t .kind)) then 5
     else 0
 ownRefusal t (joining p now) =
@@ -295,15 +316,16 @@ call lent c t =
 
 -- ---- open
 
-abbrev pub openOk : Kind → ℕ → ℕ → ℕ → ℕ → Bool
-openOk k topicLimit callLimit now allowance = every (leb topicLimit 512 ∷ leb 1 callLimit ∷ leb callLimit (2 ^ 40) ∷ clockOk now ∷ leb allowance 86400000 ∷ [])
+abbrev pub openOk : Kind → ℕ → ℕ → ℕ → ℕ → ℕ → Bool
+openOk k topicLimit callLimit now allowance share = every (leb topicLimit 512 ∷ leb 1 callLimit ∷ leb callLimit (2 ^ 40) ∷ clockOk now ∷ leb allowance 86400000 ∷ leb 1 share ∷ leb share 512 ∷ [])
 
-abbrev pub opened : Kind → ℕ → ℕ → ℕ → ℕ → Dest
-opened k topicLimit callLimit now allowance = record {
+abbrev pub opened : Kind → ℕ → ℕ → ℕ → ℕ → ℕ → Dest
+opened k topicLimit callLimit now allowance share = record {
   kind = k;
   topicLimit = topicLimit;
   callLimit = callLimit;
   allowance = allowance;
+  share = share;
   callsUsed = 0;
   pending = [];
   subs = [];

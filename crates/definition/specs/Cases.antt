@@ -35,7 +35,7 @@ numbers (null i ∷ es) = 2 ∷ i .conn ∷ numbers es
 
 -- the state lent whole, and a list of so many events
 abbrev whole : ℕ → Lengths
-whole events = record { head = 8346; subs = 32; rows = 512; events = events }
+whole events = record { head = 8347; subs = 32; rows = 512; events = events }
 
 abbrev entry : ℕ → ℤ → Entry
 entry s ex = record { seq = s; expiration = ex; persistent = true; producer = 7; «match_word» = 0; redelivery = pos 0; size = 0 }
@@ -79,19 +79,19 @@ counters t = t .stats .enqueued ∷ t .stats .dequeued ∷ t .stats .expired ∷
 
 -- document 01, "The call file": the example
 abbrev example : Ran
-example = ran (enqueuing (entry 5 (pos 0)) 10 ∷ enqueuing (entry 3 (pos 20)) 10 ∷ joining (plain 9 (pos 1)) 30 ∷ asking (consumer 9) (acknowledge (acks 4 false none (some 5)) 31) ∷ []) (opened queue 0 100 0 0)
+example = ran (enqueuing (entry 5 (pos 0)) 10 ∷ enqueuing (entry 3 (pos 20)) 10 ∷ joining (plain 9 (pos 1)) 30 ∷ asking (consumer 9) (acknowledge (acks 4 false none (some 5)) 31) ∷ []) (opened queue 0 100 0 0 512)
 
 -- pulls at prefetch 0, with nothing waiting
 abbrev pulls : Ran
-pulls = ran (joining (plain 9 (pos 0)) 1 ∷ asking (consumer 9) (pulling (pos 5) 2) ∷ asking (consumer 9) (pulling (pos 5) 2) ∷ asking (consumer 9) (timedOut 1) ∷ asking (consumer 9) (timedOut 2) ∷ asking (consumer 9) (pulling (negsuc 0) 3) ∷ asking (consumer 9) (pulling (pos 0) 3) ∷ []) (opened queue 0 100 0 0)
+pulls = ran (joining (plain 9 (pos 0)) 1 ∷ asking (consumer 9) (pulling (pos 5) 2) ∷ asking (consumer 9) (pulling (pos 5) 2) ∷ asking (consumer 9) (timedOut 1) ∷ asking (consumer 9) (timedOut 2) ∷ asking (consumer 9) (pulling (negsuc 0) 3) ∷ asking (consumer 9) (pulling (pos 0) 3) ∷ []) (opened queue 0 100 0 0 512)
 
 -- topic limit 2, no credit, arrivals 5, 6, 4
 abbrev limited : Ran
-limited = ran (joining (plain 9 (pos 0)) 1 ∷ enqueuing (entry 5 (pos 0)) 1 ∷ enqueuing (entry 6 (pos 0)) 1 ∷ enqueuing (entry 4 (pos 0)) 1 ∷ asking (consumer 9) (prefetching (pos 7) 2) ∷ []) (opened topic 2 100 0 0)
+limited = ran (joining (plain 9 (pos 0)) 1 ∷ enqueuing (entry 5 (pos 0)) 1 ∷ enqueuing (entry 6 (pos 0)) 1 ∷ enqueuing (entry 4 (pos 0)) 1 ∷ asking (consumer 9) (prefetching (pos 7) 2) ∷ []) (opened topic 2 100 0 0 512)
 
 -- topic limit 2, no credit: 5 and 6 wait, and 4 comes at this clock; 6 and 4 have these expirations. What waits, and the counters
 abbrev surplus : ℕ → ℤ → ℤ → Ran
-surplus now six four = ran (joining (plain 9 (pos 0)) 1 ∷ enqueuing (entry 5 (pos 0)) 1 ∷ enqueuing (entry 6 six) 1 ∷ enqueuing (entry 4 four) now ∷ []) (opened topic 2 100 0 0)
+surplus now six four = ran (joining (plain 9 (pos 0)) 1 ∷ enqueuing (entry 5 (pos 0)) 1 ∷ enqueuing (entry 6 six) 1 ∷ enqueuing (entry 4 four) now ∷ []) (opened topic 2 100 0 0 512)
 
 abbrev stillWait : Ran → List ℕ
 stillWait r = map (λ s. length (Sub.tpending s)) (r .dest .subs) ++ (r .dest .stats .expired ∷ r .dest .stats .discarded ∷ [])
@@ -102,7 +102,7 @@ markOf none = 0
 markOf (some k) = k
 
 abbrev slow : Dest
-slow = ran (enqueuing (entry 1 (pos 20)) 1 ∷ []) (opened queue 0 100 0 10) .dest
+slow = ran (enqueuing (entry 1 (pos 20)) 1 ∷ []) (opened queue 0 100 0 10 512) .dest
 
 abbrev slowly : Call → List ℕ
 slowly c = let r = ran (c ∷ []) slow in r .seen ++ r .dest .stats .expired ∷ []
@@ -118,12 +118,12 @@ counts es = map (λ e. small (e .redelivery)) es
 -- a full run: three in flight, the last in a transaction; the consumer leaves
 abbrev left : ℤ → Ran
 left last = ran (joining (plain 9 (pos 3)) 1 ∷ enqueuing (entry 10 (pos 0)) 1 ∷ enqueuing (entry 20 (pos 0)) 1 ∷ enqueuing (entry 30 (pos 0)) 1
-    ∷ asking (consumer 9) (acknowledge (acks 4 true (some 30) (some 30)) 2) ∷ leaving (consumer 9) last 3 ∷ []) (opened queue 0 100 0 0)
+    ∷ asking (consumer 9) (acknowledge (acks 4 true (some 30) (some 30)) 2) ∷ leaving (consumer 9) last 3 ∷ []) (opened queue 0 100 0 0 512)
 
 -- three in flight, all acknowledged in a transaction; the consumer leaves, and they stay reserved
 abbrev kept : Ran
 kept = ran (joining (plain 9 (pos 3)) 1 ∷ enqueuing (entry 10 (pos 0)) 1 ∷ enqueuing (entry 20 (pos 0)) 1 ∷ enqueuing (entry 30 (pos 0)) 1
-    ∷ asking (consumer 9) (acknowledge (acks 2 true none (some 30)) 2) ∷ leaving (consumer 9) (negsuc 0) 3 ∷ []) (opened queue 0 100 0 0)
+    ∷ asking (consumer 9) (acknowledge (acks 2 true none (some 30)) 2) ∷ leaving (consumer 9) (negsuc 0) 3 ∷ []) (opened queue 0 100 0 0 512)
 
 -- then a STANDARD with last -1, or a POISON with first and last -1
 abbrev afterwards : ℕ → Option ℕ → Ran
@@ -132,7 +132,7 @@ afterwards type first = ran (asking (consumer 9) (acknowledge (acks type false f
 -- two marked in a transaction, and a release of the present consumer, by halves
 abbrev rolled : List Call → List ℕ
 rolled cs = map (λ s. length (keep (λ i. i .tx) (Sub.inflight s))) (ran (joining (plain 9 (pos 3)) 1 ∷ enqueuing (entry 10 (pos 0)) 1 ∷ enqueuing (entry 20 (pos 0)) 1
-    ∷ asking (consumer 9) (acknowledge (acks 2 true none (some 20)) 2) ∷ cs) (opened queue 0 100 0 0) .dest .subs)
+    ∷ asking (consumer 9) (acknowledge (acks 2 true none (some 20)) 2) ∷ cs) (opened queue 0 100 0 0 512) .dest .subs)
 
 abbrev acked : List ℕ → List Call
 acked [] = []
@@ -141,7 +141,7 @@ acked (k ∷ ks) = asking (consumer 1) (acknowledge (acks 2 false none (some k))
 -- three consumers, the turn moved by messages, and one leaves
 abbrev turned : List ℕ → ℕ → ℕ
 turned sent gone = ran (joining (plain 1 (pos 9)) 1 ∷ joining (plain 2 (pos 9)) 1 ∷ joining (plain 3 (pos 9)) 1 ∷ (map (λ k. enqueuing (entry k (pos 0)) 1) sent
-    ++ (acked sent ++ leaving (consumer gone) (negsuc 0) 2 ∷ []))) (opened queue 0 100 0 0) .dest .rr
+    ++ (acked sent ++ leaving (consumer gone) (negsuc 0) 2 ∷ []))) (opened queue 0 100 0 0 512) .dest .rr
 
 -- an audit's numbers after 0 to 1,023
 abbrev window : List ℕ
@@ -162,7 +162,7 @@ minus n = 18446744073709551616 - n
 
 -- the state before any open
 abbrev zeros : Dest
-zeros = opened queue 0 0 0 0
+zeros = opened queue 0 0 0 0 512
 
 abbrev wordsRan : List (ℕ × List ℕ) → Dest → Ran
 wordsRan [] t = record { seen = []; dest = t }
@@ -204,11 +204,11 @@ sent l = map (λ k. enqueuing (entry k (pos 0)) 1) l
 
 -- three in flight with these redelivery counters, and the consumer leaves
 abbrev leftWith : ℤ → ℤ → List Entry
-leftWith r last = ran (joining (plain 9 (pos 3)) 1 ∷ (map (λ k. enqueuing (returned k r) 1) (10 ∷ 20 ∷ 30 ∷ []) ++ leaving (consumer 9) last 3 ∷ [])) (opened queue 0 100 0 0) .dest .pending
+leftWith r last = ran (joining (plain 9 (pos 3)) 1 ∷ (map (λ k. enqueuing (returned k r) 1) (10 ∷ 20 ∷ 30 ∷ []) ++ leaving (consumer 9) last 3 ∷ [])) (opened queue 0 100 0 0 512) .dest .pending
 
 -- 10, 20 and 30 wait; the browser 9 and the consumer 8 have 10 in flight each; then a clear
 abbrev emptied : Ran
-emptied = ran (sent (10 ∷ 20 ∷ 30 ∷ []) ++ (joining (browsing 9 (pos 1)) 2 ∷ joining (plain 8 (pos 1)) 2 ∷ clearing ∷ [])) (opened queue 0 100 0 0)
+emptied = ran (sent (10 ∷ 20 ∷ 30 ∷ []) ++ (joining (browsing 9 (pos 1)) 2 ∷ joining (plain 8 (pos 1)) 2 ∷ clearing ∷ [])) (opened queue 0 100 0 0 512)
 
 -- and what one more call gets
 abbrev then : Call → List ℕ
@@ -216,24 +216,24 @@ then c = ran (c ∷ []) (emptied .dest) .seen
 
 abbrev onTopic : Ran
 onTopic = ran (joining (browsing 9 (pos 5)) 1 ∷ (sent (10 ∷ 20 ∷ 30 ∷ []) ++ (asking (consumer 9) (acknowledge (acks 2 false none (some 10)) 2) ∷ asking (consumer 9) (acknowledge (acks 6 false none (some 20)) 2)
-    ∷ asking (consumer 9) (acknowledge (acks 1 false none (some 30)) 2) ∷ []))) (opened topic 0 100 0 0)
+    ∷ asking (consumer 9) (acknowledge (acks 1 false none (some 30)) 2) ∷ []))) (opened topic 0 100 0 0 512)
 
 -- 20 expires first, then 10
 abbrev sweeps : Ran
 sweeps = ran (enqueuing (entry 10 (pos 50)) 1 ∷ enqueuing (entry 20 (pos 40)) 1 ∷ enqueuing (entry 30 (pos 0)) 1 ∷ enqueuing (entry 40 (pos 60)) 1
-    ∷ sweeping 55 1 ∷ sweeping 55 512 ∷ sweeping 55 512 ∷ []) (opened queue 0 100 0 0)
+    ∷ sweeping 55 1 ∷ sweeping 55 512 ∷ sweeping 55 512 ∷ []) (opened queue 0 100 0 0 512)
 
 -- a producer's audit of 0 to 1,023, and what three tests answer
 abbrev audited : Ran
-audited = ran (testing (consumer 7) 1024 ∷ testing (consumer 7) 1024 ∷ testing (consumer 7) 0 ∷ []) (withAudits (record { producer = consumer 7; order = window } ∷ []) (opened queue 0 100 0 0))
+audited = ran (testing (consumer 7) 1024 ∷ testing (consumer 7) 1024 ∷ testing (consumer 7) 0 ∷ []) (withAudits (record { producer = consumer 7; order = window } ∷ []) (opened queue 0 100 0 0 512))
 
 -- two consumers of prefetch 0, nothing waiting
 abbrev bothPull : Ran
-bothPull = ran (joining (plain 8 (pos 0)) 1 ∷ joining (plain 9 (pos 0)) 1 ∷ asking (consumer 8) (pulling (pos 5) 2) ∷ asking (consumer 9) (pulling (pos 5) 2) ∷ []) (opened queue 0 100 0 0)
+bothPull = ran (joining (plain 8 (pos 0)) 1 ∷ joining (plain 9 (pos 0)) 1 ∷ asking (consumer 8) (pulling (pos 5) 2) ∷ asking (consumer 9) (pulling (pos 5) 2) ∷ []) (opened queue 0 100 0 0 512)
 
 -- a browser of an empty queue, and one more dispatch
 abbrev browsed : Ran
-browsed = ran (joining (browsing 9 (pos 1)) 1 ∷ asking (consumer 5) (prefetching (pos 1) 2) ∷ []) (opened queue 0 100 0 0)
+browsed = ran (joining (browsing 9 (pos 1)) 1 ∷ asking (consumer 5) (prefetching (pos 1) 2) ∷ []) (opened queue 0 100 0 0 512)
 
 abbrev seqsOf : List Entry → List ℕ
 seqsOf es = map (λ e. e .seq) es
@@ -241,24 +241,39 @@ seqsOf es = map (λ e. e .seq) es
 -- ---- refusals of one call, on tables that are nearly full
 
 abbrev filled : ℕ → Dest
-filled k = withPending (map (λ n. entry n (pos 0)) (upFrom 1 k)) (opened queue 0 100 0 0)
+filled k = withPending (map (λ n. entry n (pos 0)) (upFrom 1 k)) (opened queue 0 100 0 0 512)
 
 abbrev crowd : ℕ → Dest
-crowd k = withSubs (map (λ n. newSub (plain n (pos 1)) none) (upFrom 1 k)) (opened topic 0 100 0 0)
+crowd k = withSubs (map (λ n. newSub (plain n (pos 1)) none) (upFrom 1 k)) (opened topic 0 100 0 0 512)
 
 abbrev known : ℕ → Dest
-known k = withProducers (map consumer (upFrom 1 k)) (opened queue 0 100 0 0)
+known k = withProducers (map consumer (upFrom 1 k)) (opened queue 0 100 0 0 512)
 
 abbrev windows : ℕ → Dest
-windows k = withAudits (map (λ n. record { producer = consumer n; order = [] }) (upFrom 1 k)) (opened queue 0 100 0 0)
+windows k = withAudits (map (λ n. record { producer = consumer n; order = [] }) (upFrom 1 k)) (opened queue 0 100 0 0 512)
 
 abbrev refusing : ℕ → Dest → Call → Bool
 refusing n t c = eqb (ownRefusal t c) n
 
+-- a topic with a share, a browser and a consumer: an entry has two copies
+abbrev sharing : ℕ → Dest
+sharing share = ran (joining (browsing 9 (pos 9)) 1 ∷ joining (plain 8 (pos 0)) 1 ∷ []) (opened topic 0 100 0 0 share) .dest
+
+abbrev fromConn : ℕ → ℕ → Entry
+fromConn s c = record { seq = s; expiration = pos 0; persistent = true; producer = c; «match_word» = 0; redelivery = pos 0; size = 0 }
+
+-- what an enqueue of connection 7 and one of connection 0 get after these calls
+abbrev shares : List Call → Dest → List ℕ
+shares cs t = map (λ c. ownRefusal (ran cs t .dest) (enqueuing (fromConn 9 c) 1)) (7 ∷ 0 ∷ [])
+
+-- two of connection 7, one of connection 0
+abbrev sevenTwice : List Call
+sevenTwice = enqueuing (fromConn 1 7) 1 ∷ enqueuing (fromConn 2 7) 1 ∷ enqueuing (fromConn 3 0) 1 ∷ []
+
 -- ---- queries
 
 abbrev waiting : Dest
-waiting = ran (sent (10 ∷ 20 ∷ 30 ∷ [])) (opened queue 0 100 0 0) .dest
+waiting = ran (sent (10 ∷ 20 ∷ 30 ∷ [])) (opened queue 0 100 0 0 512) .dest
 
 abbrev answers : ℕ → ℕ → Asked → Bool
 answers refusal answer a = eqb (a .refusal) refusal && eqb (a .answer) answer
@@ -271,14 +286,14 @@ abbrev sized : ℕ → ℕ → Entry
 sized s n = record { seq = s; expiration = pos 0; persistent = true; producer = 7; «match_word» = 0; redelivery = pos 0; size = n }
 
 abbrev copied : List Call → Dest
-copied cs = ran (enqueuing (sized 10 300) 1 ∷ enqueuing (sized 20 400) 1 ∷ enqueuing (sized 30 500) 1 ∷ joining (browsing 9 (pos 1)) 2 ∷ joining (plain 8 (pos 1)) 2 ∷ cs) (opened queue 0 100 0 0) .dest
+copied cs = ran (enqueuing (sized 10 300) 1 ∷ enqueuing (sized 20 400) 1 ∷ enqueuing (sized 30 500) 1 ∷ joining (browsing 9 (pos 1)) 2 ∷ joining (plain 8 (pos 1)) 2 ∷ cs) (opened queue 0 100 0 0 512) .dest
 
 abbrev eightAcks : Call
 eightAcks = asking (consumer 8) (acknowledge (acks 2 false none (some 10)) 3)
 
 -- a topic with two consumers, and one entry
 abbrev shared : List Call → Dest
-shared cs = ran (joining (plain 8 (pos 1)) 1 ∷ joining (plain 9 (pos 1)) 1 ∷ enqueuing (sized 10 300) 1 ∷ cs) (opened topic 0 100 0 0) .dest
+shared cs = ran (joining (plain 8 (pos 1)) 1 ∷ joining (plain 9 (pos 1)) 1 ∷ enqueuing (sized 10 300) 1 ∷ cs) (opened topic 0 100 0 0 512) .dest
 
 -- ---- buffers
 
@@ -287,7 +302,7 @@ zeroes n = map (λ k. 0) (upFrom 0 n)
 
 -- a queue with one consumer, which has 5 in flight; 6 waits, with redelivery -1
 abbrev lentHead : ℕ → List ℕ
-lentHead waits = 0 ∷ 0 ∷ 100 ∷ 3 ∷ 0 ∷ 0 ∷ 0 ∷ 2 ∷ 0 ∷ 0 ∷ 0 ∷ 1 ∷ 1 ∷ 0 ∷ 0 ∷ 0 ∷ waits ∷ zeroes 8329
+lentHead waits = 0 ∷ 0 ∷ 100 ∷ 3 ∷ 0 ∷ 0 ∷ 0 ∷ 2 ∷ 0 ∷ 0 ∷ 0 ∷ 1 ∷ 1 ∷ 0 ∷ 0 ∷ 0 ∷ waits ∷ (zeroes 8329 ++ 512 ∷ [])
 
 abbrev lentSub : List ℕ
 lentSub = 9 ∷ 1 ∷ 1 ∷ 1 ∷ 64 ∷ 0 ∷ 0 ∷ 0 ∷ 2 ∷ 5 ∷ 0 ∷ 0 ∷ 0 ∷ 0 ∷ 1 ∷ 0 ∷ []
@@ -358,8 +373,15 @@ words =
     -- open's fifth argument is at most 86,400,000
     ∷ sameNumbers (got 0 (0 ∷ 0 ∷ 1 ∷ 0 ∷ 86400000 ∷ 0 ∷ 0 ∷ 0 ∷ []) zeros) (0 ∷ 0 ∷ [])
     ∷ sameNumbers (got 0 (0 ∷ 0 ∷ 1 ∷ 0 ∷ 86400001 ∷ 0 ∷ 0 ∷ 0 ∷ []) zeros) (3 ∷ 0 ∷ [])
-    ∷ sameNumbers (got 0 (0 ∷ 0 ∷ 1 ∷ 0 ∷ 0 ∷ 1 ∷ 0 ∷ 0 ∷ []) zeros) (3 ∷ 0 ∷ [])
-    ∷ not (sound (opened queue 0 1 0 86400001))
+    -- its sixth at most 512, and 0 stands for 512
+    ∷ sameNumbers (got 0 (0 ∷ 0 ∷ 1 ∷ 0 ∷ 0 ∷ 512 ∷ 0 ∷ 0 ∷ []) zeros) (0 ∷ 0 ∷ [])
+    ∷ sameNumbers (got 0 (0 ∷ 0 ∷ 1 ∷ 0 ∷ 0 ∷ 513 ∷ 0 ∷ 0 ∷ []) zeros) (3 ∷ 0 ∷ [])
+    ∷ sameNumbers (got 0 (0 ∷ 0 ∷ 1 ∷ 0 ∷ 0 ∷ 0 ∷ 1 ∷ 0 ∷ []) zeros) (3 ∷ 0 ∷ [])
+    ∷ eqb (step (whole 545) 0 (0 ∷ 0 ∷ 1 ∷ 0 ∷ 0 ∷ 0 ∷ 0 ∷ 0 ∷ []) zeros .dest .share) 512
+    ∷ eqb (step (whole 545) 0 (0 ∷ 0 ∷ 1 ∷ 0 ∷ 0 ∷ 7 ∷ 0 ∷ 0 ∷ []) zeros .dest .share) 7
+    ∷ not (sound (opened queue 0 1 0 0 0))
+    ∷ not (sound (opened queue 0 1 0 0 513))
+    ∷ not (sound (opened queue 0 1 0 86400001 512))
     ∷ gets 3 16 (0 ∷ 0 ∷ 0 ∷ 0 ∷ 0 ∷ 0 ∷ 0 ∷ 0 ∷ [])
     ∷ gets 3 10 (0 ∷ 0 ∷ 0 ∷ 0 ∷ 0 ∷ 0 ∷ 0 ∷ 1 ∷ [])
     ∷ gets 3 1 (5 ∷ 0 ∷ 2 ∷ 7 ∷ 0 ∷ 0 ∷ 10 ∷ 0 ∷ [])
@@ -478,7 +500,7 @@ corners =
     -- all that have expired go, the new copy too, even below the limit
     ∷ sameNumbers (stillWait (surplus 20 (pos 20) (pos 20))) (1 ∷ 2 ∷ 0 ∷ [])
     -- a list within the limit keeps an expired copy
-    ∷ sameNumbers (stillWait (ran (joining (plain 9 (pos 0)) 1 ∷ enqueuing (entry 5 (pos 2)) 1 ∷ enqueuing (entry 6 (pos 0)) 9 ∷ []) (opened topic 2 100 0 0))) (2 ∷ 0 ∷ 0 ∷ [])
+    ∷ sameNumbers (stillWait (ran (joining (plain 9 (pos 0)) 1 ∷ enqueuing (entry 5 (pos 2)) 1 ∷ enqueuing (entry 6 (pos 0)) 9 ∷ []) (opened topic 2 100 0 0 512))) (2 ∷ 0 ∷ 0 ∷ [])
     -- allowance 10, expiration 20: not expired at 29, expired at 30 (document 02 §4)
     ∷ sameNumbers (slowly (joining (plain 9 (pos 1)) 29)) (0 ∷ 0 ∷ 1 ∷ 9 ∷ 1 ∷ 0 ∷ [])
     ∷ sameNumbers (slowly (joining (plain 9 (pos 1)) 30)) (0 ∷ 0 ∷ 1 ∷ [])
@@ -497,7 +519,7 @@ corners =
     ∷ not (seen 1024 window)
     ∷ eqb (firstOf (recorded 1024 window)) 1
     -- a duplicate test for connection 0 answers 0 and records nothing
-    ∷ sameNumbers (ran (testing (consumer 0) 5 ∷ testing (consumer 0) 5 ∷ []) (opened queue 0 100 0 0) .seen) (0 ∷ 0 ∷ 0 ∷ 0 ∷ [])
+    ∷ sameNumbers (ran (testing (consumer 0) 5 ∷ testing (consumer 0) 5 ∷ []) (opened queue 0 100 0 0 512) .seen) (0 ∷ 0 ∷ 0 ∷ 0 ∷ [])
     -- A clear empties browser snapshots without counting them, counts browser entries in flight, and dispatches nothing
     ∷ sameNumbers (emptied .seen) (0 ∷ 0 ∷ 0 ∷ 0 ∷ 0 ∷ 0 ∷ 0 ∷ 0 ∷ 1 ∷ 9 ∷ 10 ∷ 0 ∷ 0 ∷ 1 ∷ 8 ∷ 10 ∷ 0 ∷ 4 ∷ [])
     -- An unfinished browser gets its closing null at a later dispatch; a prefetch change of an absent consumer dispatches
@@ -545,8 +567,20 @@ refusals =
     ∷ refusing 8 (windows 8) (testing (consumer 99) 5)
     ∷ refusing 0 (windows 8) (testing (consumer 8) 5)
     ∷ refusing 0 (windows 8) (testing (consumer 0) 5)
+    -- 14: more than the share, after 4 and before 5; connection 0 is one of them (document 02 §11)
+    ∷ sameNumbers (shares sevenTwice (opened queue 0 100 0 0 2)) (14 ∷ 0 ∷ [])
+    ∷ sameNumbers (shares sevenTwice (opened queue 0 100 0 0 1)) (14 ∷ 14 ∷ [])
+    ∷ sameNumbers (shares sevenTwice (opened queue 0 100 0 0 3)) (0 ∷ 0 ∷ [])
+    ∷ refusing 4 (ran sevenTwice (opened queue 0 100 0 0 2) .dest) (enqueuing (fromConn 1 7) 1)
+    ∷ refusing 5 (filled 512) (enqueuing (fromConn 600 7) 1)
+    -- the copies of a queue's browser belong to no one, those of a topic's browser count
+    ∷ sameNumbers (shares (sevenTwice ++ joining (browsing 6 (pos 9)) 2 ∷ []) (opened queue 0 100 0 0 3)) (0 ∷ 0 ∷ [])
+    ∷ sameNumbers (shares (enqueuing (fromConn 1 7) 1 ∷ []) (sharing 4)) (0 ∷ 0 ∷ [])
+    ∷ sameNumbers (shares (enqueuing (fromConn 1 7) 1 ∷ []) (sharing 3)) (14 ∷ 0 ∷ [])
+    ∷ not (sound (withPending (fromConn 1 7 ∷ fromConn 2 7 ∷ []) (opened queue 0 100 0 0 1)))
+    ∷ sound (withPending (fromConn 1 7 ∷ fromConn 2 0 ∷ []) (opened queue 0 100 0 0 1))
     -- 9: calls used equals the call limit
-    ∷ sameNumbers (ran (discarding ∷ missing ∷ []) (opened queue 0 1 0 0) .seen) (0 ∷ 0 ∷ 9 ∷ 0 ∷ [])
+    ∷ sameNumbers (ran (discarding ∷ missing ∷ []) (opened queue 0 1 0 0 512) .seen) (0 ∷ 0 ∷ 9 ∷ 0 ∷ [])
     ∷ []
 
 abbrev queries : List Bool
@@ -565,20 +599,20 @@ queries =
     ∷ answers 0 300 (query (whole 0) bytes (shared []))
     ∷ answers 0 300 (query (whole 0) bytes (shared (eightAcks ∷ [])))
     ∷ answers 0 0 (query (whole 0) bytes (shared (clearing ∷ [])))
-    ∷ answers 2 0 (query (whole 0) bytes (withPending (sized 10 300 ∷ sized 20 4294967296 ∷ []) (opened queue 0 100 0 0)))
+    ∷ answers 2 0 (query (whole 0) bytes (withPending (sized 10 300 ∷ sized 20 4294967296 ∷ []) (opened queue 0 100 0 0 512)))
     -- two copies of two sizes are not sound
     ∷ not (sound (withPending (map (λ e. sized (e .seq) 5) (copied [] .pending)) (copied [])))
     -- seq_at is the entry there
     ∷ answers 0 30 (query (whole 0) (sequence 2) waiting)
     ∷ answers 0 0 (query (whole 0) (sequence 3) waiting)
     -- idle time is the clock less the mark, in whole seconds, 0 if the clock went back
-    ∷ answers 0 1 (query (whole 0) (idle 6000 5) (opened queue 0 1 1000 0))
-    ∷ answers 0 0 (query (whole 0) (idle 5999 5) (opened queue 0 1 1000 0))
-    ∷ answers 0 1 (query (whole 0) (idle 0 0) (opened queue 0 1 1000 0))
+    ∷ answers 0 1 (query (whole 0) (idle 6000 5) (opened queue 0 1 1000 0 512))
+    ∷ answers 0 0 (query (whole 0) (idle 5999 5) (opened queue 0 1 1000 0 512))
+    ∷ answers 0 1 (query (whole 0) (idle 0 0) (opened queue 0 1 1000 0 512))
     ∷ answers 0 0 (query (whole 0) (idle 6000 0) waiting)
     ∷ answers 3 0 (query (whole 0) (idle 4611686018427387905 0) waiting)
     ∷ answers 2 0 (query (whole 0) messages zeros)
-    ∷ answers 1 0 (query (record { head = 8345; subs = 32; rows = 512; events = 0 }) messages waiting)
+    ∷ answers 1 0 (query (record { head = 8346; subs = 32; rows = 512; events = 0 }) messages waiting)
     ∷ pages 0 3 (20 ∷ 30 ∷ []) (page (whole 0) 50 1 60 waiting)
     ∷ pages 0 3 (10 ∷ []) (page (whole 0) 50 0 1 waiting)
     ∷ pages 0 3 [] (page (whole 0) 50 3 50 waiting)

@@ -1,17 +1,17 @@
 -- What is claimed of the state and of the sends that accepted calls make; `Orders` has the claim on orders, `Refusals` that on refusals. Assumes nothing.
 use Prim.Native.Nat.{ℕ, _+_, _-_, _*_, _≤_}
 use mathlib.Core.Path.{_≡_}
-use mathlib.Core.Bool.{Bool, true}
+use mathlib.Core.Bool.{Bool, true, false, not, _||_}
 use mathlib.Core.Logic.{_↔_}
-use mathlib.Core.List.{List, [], _++_}
+use mathlib.Core.List.{List, [], _∷_, _++_, map}
 use lib.IntN.{pos}
 use lib.ListN.{length, drop}
-use Rattle.definition.specs.Types.{Id, Entry, Dest, withCallsUsed}
-use Rattle.definition.specs.Consumer.{zeroStats, addDiscarded, expired}
-use Rattle.definition.specs.Base.{tally}
+use Rattle.definition.specs.Types.{Kind, queue, topic, Id, Entry, Dest, withCallsUsed}
+use Rattle.definition.specs.Consumer.{zeroStats, addDiscarded, expired, isBrowser}
+use Rattle.definition.specs.Base.{if_then_else_, tally, all, empty, member}
 use Rattle.definition.specs.Destination.{due, Trimmed, trim, releaseReserved}
-use Rattle.definition.specs.Calls.{Lengths, Call, sizesAgree, sound, Result, call}
-use Rattle.definition.specs.Words.{at, idOf, step}
+use Rattle.definition.specs.Calls.{Lengths, Call, rowsOf, sizesAgree, ownRows, rowsFrom, rowsFor, overShare, sound, Result, call}
+use Rattle.definition.specs.Words.{at, idOf, entryOf, step}
 use Rattle.definition.specs.Queries.{bytesOf, bytesHeld}
 use Rattle.definition.specs.Orders.{Reached}
 
@@ -73,3 +73,30 @@ BytesFit = (t : Dest) → sound t ≡ true → bytesHeld t ≤ 512 * 4294967295
 
 abbrev pub BytesAnyOrder : Type 0
 BytesAnyOrder = (l m : List Entry) → sizesAgree (l ++ m) ≡ true → bytesOf (l ++ m) ≡ bytesOf (m ++ l)
+
+-- document 02 §11: how many connections these are
+abbrev pub connections : List ℕ → ℕ
+connections [] = 0
+connections (c ∷ cs) = (if member c cs then 0 else 1) + connections cs
+
+-- those that hold rows
+abbrev pub holders : Dest → List ℕ
+holders t = map (λ e. e .producer) (ownRows t (t .kind))
+
+-- a queue's browsers hold no copies
+abbrev pub browsersEmpty : Dest → Kind → Bool
+browsersEmpty t queue = all (λ s. not (isBrowser s) || empty (rowsOf s)) (t .subs)
+browsersEmpty t topic = true
+
+-- "While a queue's browsers hold no copies, and share times the number of connections holding rows or asking is at most 512, an enqueue within its
+-- connection's share never gets 5, whatever the others send"
+abbrev pub SharesSuffice : Type 0
+SharesSuffice = (lent : Lengths) (words : List ℕ) (t : Dest) →
+    browsersEmpty t (t .kind) ≡ true →
+    t .share * connections (at 3 words ∷ holders t) ≤ 512 →
+    rowsFrom (at 3 words) (ownRows t (t .kind)) + rowsFor (entryOf words) t (t .kind) ≤ t .share →
+    step lent 1 words t .refusal ≡ 5 → ⊥
+
+-- a share of 512 refuses nothing
+abbrev pub FullShare : Type 0
+FullShare = (e : Entry) (t : Dest) → t .share ≡ 512 → overShare e t ≡ false

@@ -130,6 +130,7 @@ view b = let h = b .head in record {
   topicLimit = at 1 h;
   callLimit = at 2 h;
   allowance = at 8345 h;
+  share = at 8346 h;
   callsUsed = at 3 h;
   pending = map entryOf (take (at 16 h) (drop (at 15 h) (otherRows b)));
   subs = subsAt (kindOf (at 0 h)) (usedSubs b) (b .rows);

@@ -10,7 +10,7 @@ use Rattle.definition.specs.Base.{if_then_else_, all, find, member, is-s
 use Rattle.definition.specs.Types.{Dest}
 use Rattle.definition.specs.Consumer.{zeroStats}
 use Rattle.definition.specs.Destination.{subOf, isProducer, auditOf}
-use Rattle.definition.specs.Calls.{Lengths, stateShort, short, sound, seqs, allRows, freeRows, rowsFor, snapshotRows, discarding, missing, Result, call}
+use Rattle.definition.specs.Calls.{Lengths, stateShort, short, sound, seqs, allRows, freeRows, rowsFor, overShare, snapshotRows, discarding, missing, Result, call}
 use Rattle.definition.specs.Words.{at, idOf, entryOf, specOf, openWords, decode, step}
 use Rattle.definition.specs.Queries.{Query, queryOk, query, counters, page}
 use Rattle.definition.specs.Layout.{Buffers, view, soundBuffers, lengthsOf, bufferStep, bufferCall, bufferQuery, bufferCounters, bufferPage}
@@ -41,6 +41,8 @@ table isShort isSound code ws t =
     ∷ 9 when (not (eqb code 0) && eqb (t .callsUsed) (t .callLimit))
     -- enqueue: the sequence number is held in any row
     ∷ 4 when (eqb code 1 && member (at 0 ws) (seqs (allRows t)))
+    -- enqueue: more rows than a share below 512 (document 02 §11)
+    ∷ 14 when (eqb code 1 && overShare (entryOf ws) t)
     -- enqueue: too few free rows
     ∷ 5 when (eqb code 1 && ltb (freeRows t) (rowsFor (entryOf ws) t (t .kind)))
     -- join: that consumer is present

@@ -79,12 +79,13 @@ pub record Audit : Type 0 where
   pub producer : Id
   pub order : List ℕ  -- as words, oldest first; `seen` is the set of these
 
--- destination.rs, Dest and State; the limits are document 01's, the allowance document 02's
+-- destination.rs, Dest and State; the limits are document 01's, the allowance and the share document 02's
 pub record Dest : Type 0 where
   pub kind : Kind
   pub topicLimit : ℕ  -- 0: off
   pub callLimit : ℕ
   pub allowance : ℕ  -- for slow clocks, in ms
+  pub share : ℕ  -- of rows for each producer connection
   pub callsUsed : ℕ
   pub pending : List Entry  -- by rising seq
   pub subs : List Sub
@@ -96,31 +97,31 @@ pub record Dest : Type 0 where
   pub reserved : List Held
 
 abbrev pub withCallsUsed : ℕ → Dest → Dest
-withCallsUsed x d = record { kind = d .kind; topicLimit = d .topicLimit; callLimit = d .callLimit; allowance = d .allowance; callsUsed = x; pending = d .pending; subs = d .subs; rr = d .rr; producers = d .producers; audits = d .audits; stats = d .stats; idle = d .idle; reserved = d .reserved }
+withCallsUsed x d = record { kind = d .kind; topicLimit = d .topicLimit; callLimit = d .callLimit; allowance = d .allowance; share = d .share; callsUsed = x; pending = d .pending; subs = d .subs; rr = d .rr; producers = d .producers; audits = d .audits; stats = d .stats; idle = d .idle; reserved = d .reserved }
 
 abbrev pub withPending : (List Entry) → Dest → Dest
-withPending x d = record { kind = d .kind; topicLimit = d .topicLimit; callLimit = d .callLimit; allowance = d .allowance; callsUsed = d .callsUsed; pending = x; subs = d .subs; rr = d .rr; producers = d .producers; audits = d .audits; stats = d .stats; idle = d .idle; reserved = d .reserved }
+withPending x d = record { kind = d .kind; topicLimit = d .topicLimit; callLimit = d .callLimit; allowance = d .allowance; share = d .share; callsUsed = d .callsUsed; pending = x; subs = d .subs; rr = d .rr; producers = d .producers; audits = d .audits; stats = d .stats; idle = d .idle; reserved = d .reserved }
 
 abbrev pub withSubs : (List Sub) → Dest → Dest
-withSubs x d = record { kind = d .kind; topicLimit = d .topicLimit; callLimit = d .callLimit; allowance = d .allowance; callsUsed = d .callsUsed; pending = d .pending; subs = x; rr = d .rr; producers = d .producers; audits = d .audits; stats = d .stats; idle = d .idle; reserved = d .reserved }
+withSubs x d = record { kind = d .kind; topicLimit = d .topicLimit; callLimit = d .callLimit; allowance = d .allowance; share = d .share; callsUsed = d .callsUsed; pending = d .pending; subs = x; rr = d .rr; producers = d .producers; audits = d .audits; stats = d .stats; idle = d .idle; reserved = d .reserved }
 
 abbrev pub withRr : ℕ → Dest → Dest
-withRr x d = record { kind = d .kind; topicLimit = d .topicLimit; callLimit = d .callLimit; allowance = d .allowance; callsUsed = d .callsUsed; pending = d .pending; subs = d .subs; rr = x; producers = d .producers; audits = d .audits; stats = d .stats; idle = d .idle; reserved = d .reserved }
+withRr x d = record { kind = d .kind; topicLimit = d .topicLimit; callLimit = d .callLimit; allowance = d .allowance; share = d .share; callsUsed = d .callsUsed; pending = d .pending; subs = d .subs; rr = x; producers = d .producers; audits = d .audits; stats = d .stats; idle = d .idle; reserved = d .reserved }
 
 abbrev pub withProducers : (List Id) → Dest → Dest
-withProducers x d = record { kind = d .kind; topicLimit = d .topicLimit; callLimit = d .callLimit; allowance = d .allowance; callsUsed = d .callsUsed; pending = d .pending; subs = d .subs; rr = d .rr; producers = x; audits = d .audits; stats = d .stats; idle = d .idle; reserved = d .reserved }
+withProducers x d = record { kind = d .kind; topicLimit = d .topicLimit; callLimit = d .callLimit; allowance = d .allowance; share = d .share; callsUsed = d .callsUsed; pending = d .pending; subs = d .subs; rr = d .rr; producers = x; audits = d .audits; stats = d .stats; idle = d .idle; reserved = d .reserved }
 
 abbrev pub withAudits : (List Audit) → Dest → Dest
-withAudits x d = record { kind = d .kind; topicLimit = d .topicLimit; callLimit = d .callLimit; allowance = d .allowance; callsUsed = d .callsUsed; pending = d .pending; subs = d .subs; rr = d .rr; producers = d .producers; audits = x; stats = d .stats; idle = d .idle; reserved = d .reserved }
+withAudits x d = record { kind = d .kind; topicLimit = d .topicLimit; callLimit = d .callLimit; allowance = d .allowance; share = d .share; callsUsed = d .callsUsed; pending = d .pending; subs = d .subs; rr = d .rr; producers = d .producers; audits = x; stats = d .stats; idle = d .idle; reserved = d .reserved }
 
 abbrev pub withStats : Stats → Dest → Dest
-withStats x d = record { kind = d .kind; topicLimit = d .topicLimit; callLimit = d .callLimit; allowance = d .allowance; callsUsed = d .callsUsed; pending = d .pending; subs = d .subs; rr = d .rr; producers = d .producers; audits = d .audits; stats = x; idle = d .idle; reserved = d .reserved }
+withStats x d = record { kind = d .kind; topicLimit = d .topicLimit; callLimit = d .callLimit; allowance = d .allowance; share = d .share; callsUsed = d .callsUsed; pending = d .pending; subs = d .subs; rr = d .rr; producers = d .producers; audits = d .audits; stats = x; idle = d .idle; reserved = d .reserved }
 
 abbrev pub withIdle : (Option ℕ) → Dest → Dest
-withIdle x d = record { kind = d .kind; topicLimit = d .topicLimit; callLimit = d .callLimit; allowance = d .allowance; callsUsed = d .callsUsed; pending = d .pending; subs = d .subs; rr = d .rr; producers = d .producers; audits = d .audits; stats = d .stats; idle = x; reserved = d .reserved }
+withIdle x d = record { kind = d .kind; topicLimit = d .topicLimit; callLimit = d .callLimit; allowance = d .allowance; share = d .share; callsUsed = d .callsUsed; pending = d .pending; subs = d .subs; rr = d .rr; producers = d .producers; audits = d .audits; stats = d .stats; idle = x; reserved = d .reserved }
 
 abbrev pub withReserved : (List Held) → Dest → Dest
-withReserved x d = record { kind = d .kind; topicLimit = d .topicLimit; callLimit = d .callLimit; allowance = d .allowance; callsUsed = d .callsUsed; pending = d .pending; subs = d .subs; rr = d .rr; producers = d .producers; audits = d .audits; stats = d .stats; idle = d .idle; reserved = x }
+withReserved x d = record { kind = d .kind; topicLimit = d .topicLimit; callLimit = d .callLimit; allowance = d .allowance; share = d .share; callsUsed = d .callsUsed; pending = d .pending; subs = d .subs; rr = d .rr; producers = d .producers; audits = d .audits; stats = d .stats; idle = d .idle; reserved = x }
 
 -- what a call sends
 pub data Event : Type 0 where

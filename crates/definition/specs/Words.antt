@@ -81,11 +81,15 @@ kindBy false = topic
 abbrev pub kindOf : ℕ → Kind
 kindOf w = kindBy (eqb w 0)
 
+-- 0 stands for 512
+abbrev pub shareOf : ℕ → ℕ
+shareOf w = if eqb w 0 then 512 else w
+
 abbrev pub openWords : List ℕ → Bool
-openWords ws = leb (at 0 ws) 1 && (openOk (kindOf (at 0 ws)) (at 1 ws) (at 2 ws) (at 3 ws) (at 4 ws) && unusedFrom 5 ws)
+openWords ws = leb (at 0 ws) 1 && (openOk (kindOf (at 0 ws)) (at 1 ws) (at 2 ws) (at 3 ws) (at 4 ws) (shareOf (at 5 ws)) && unusedFrom 6 ws)
 
 abbrev pub openedBy : List ℕ → Dest
-openedBy ws = opened (kindOf (at 0 ws)) (at 1 ws) (at 2 ws) (at 3 ws) (at 4 ws)
+openedBy ws = opened (kindOf (at 0 ws)) (at 1 ws) (at 2 ws) (at 3 ws) (at 4 ws) (shareOf (at 5 ws))
 
 unfoldable pub openStep : Lengths → List ℕ → Dest → Result
 openStep lent ws t =

@@ -24,7 +24,7 @@ use state::Event;
 
 #[no_mangle]
 pub extern "C" fn destination_head_words() -> usize
-    ensures { λ r. ⌜ r ≡ 8346 ⌝ }
+    ensures { λ r. ⌜ r ≡ 8347 ⌝ }
 {
     state::HEAD_WORDS
 }

@@ -33,6 +33,7 @@ use Rattle.state.proofs.Leaves.{leaves-as, leaves-when}
 use Rattle.state.proofs.Ready.{Keeps, seen, ready-fits, ready-test}
 use Rattle.dispatch.specs.Dispatch.{Sent}
 use Rattle.storing.specs.Storing.{storedBy, kept, holds, rowsNeeded, refusalOf, stores, Room}
+use Rattle.storing.specs.Shares.{overOf}
 use Rattle.storing.proofs.Refusals.{choice, refusal-numbers, refusal-fit, refusal-own, stores-yes}
 use Rattle.joins.specs.declared.SubSpec.{SubSpec}
 use Rattle.joins.specs.Joins.{specOf, Refused, joins}
@@ -102,18 +103,19 @@ module _ (now : ℕ) (e : Entry) where
   enqueue-parts t = enqueue-at t (t .kind) refl
 
   kept-fine : (L U : ℕ) (k : Kind) (N : ℕ) (t : Dest) → Fine L U k N t → Kept.Stores k e t → Fine L U k (N + 1024) (storedBy (due now t) e t k)
-  kept-fine L U queue N t g y = fine-more L U queue (N + 1) (N + 1024) (stored e t) (omega arith) (stored-fine L U N e t g (y .ok) (y .fits) (y .new))
-  kept-fine L U topic N t g y = fanned-fine L U N (due now t) e t g (y .ok) (y .fits) (y .new)
+  kept-fine L U queue N t g y = fine-more L U queue (N + 1) (N + 1024) (stored e t) (omega arith) (stored-fine L U N e t g (y .ok) (y .fits) (y .new) (y .shared))
+  kept-fine L U topic N t g y = fanned-fine L U N (due now t) e t g (y .ok) (y .fits) (y .new) (y .shared)
 
   pub kept-keeps : (t : Dest) → argumentsOk (enqueuing e now) ≡ true → ownRefusal t (enqueuing e now) ≡ 0 → Keeps 1024 t (silent keptBy t)
   kept-keeps t ok own g =
       kept-fine (t .callLimit) (t .callsUsed) (t .kind) (bound (t .callsUsed)) t g
       (Kept.stores (t .callLimit) (t .callsUsed) (t .kind) (bound (t .callsUsed)) e now t g ok own)
 
-choice-none : (held few : Bool) → choice held few ≡ 0 → (held ≡ false) × (few ≡ false)
-choice-none true few z = absurd (omega (arith, z))
-choice-none false true z = absurd (omega (arith, z))
-choice-none false false z = (refl, refl)
+choice-none : (held over few : Bool) → choice held over few ≡ 0 → (held ≡ false) × (over ≡ false) × (few ≡ false)
+choice-none true over few z = absurd (omega (arith, z))
+choice-none false true few z = absurd (omega (arith, z))
+choice-none false false true z = absurd (omega (arith, z))
+choice-none false false false z = (refl, refl, refl)
 
 module _ (d : Head) (subs rows events : List Row) (a : Ready d subs rows events) (clock : ℕ) (late : clock ≤ 2 ^ 62)
     (e : Entry) (ok : argumentsOk (enqueuing e clock) ≡ true) (k : ℕ) (is : k ≡ refusalOf e d subs rows) (r : Answer)
@@ -138,8 +140,8 @@ module _ (d : Head) (subs rows events : List Row) (a : Ready d subs rows events)
           let f = ready-fits d subs rows events a in
           let t = ready-test d subs rows events a in
           let n : ℕ = rowsNeeded e d subs in
-          let b = choice-none (holds (e .seq) (take (d .used) rows)) (ltb (512 - d .used) n) (sym (refusal-numbers e d subs rows (length events) f) ∙ sym (refusal-fit e d subs rows (length events) t) ∙ sym is ∙ zero) in
-          stores-yes e d subs rows (length events) t (b .0) (le-leb (d .events + d .used + n) 512 (omega (arith, a .none-sent, f .used, ltb-false (512 - d .used) n (b .1))))
+          let b = choice-none (holds (e .seq) (take (d .used) rows)) (overOf e d subs rows) (ltb (512 - d .used) n) (sym (refusal-numbers e d subs rows (length events) f) ∙ sym (refusal-fit e d subs rows (length events) t) ∙ sym is ∙ zero) in
+          stores-yes e d subs rows (length events) t (b .0) (b .1) (le-leb (d .events + d .used + n) 512 (omega (arith, a .none-sent, f .used, ltb-false (512 - d .used) n (b .2))))
 
       -- the head's clock is the destination's
       as-due : (at : ℕ) → at ≡ dueBy clock d → (ps : List Id) (us : List Audit) → silent (kept at e) (headView d subs rows ps us) ≡ silent (keptBy clock e) (headView d subs rows ps us)

@@ -161,6 +161,7 @@ module _ (c : Call) (ok : argumentsOk c ≡ true) (free : (t : Dest) → ownRefu
         audits = refl;
         queue = refl;
         allowance = refl;
+        share = refl;
         consumers = ready .stands .consumers;
         used = ready .stands .used;
         rows-used = ready .stands .rows-used;

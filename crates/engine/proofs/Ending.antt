@@ -129,13 +129,17 @@ module _ (h : List ℕ) (subs rows events : List Row)
         unfolding headOf
         same-allowance = l .allowance ∙ ap (λ (x : Head). x .allowance) d-is
 
+        same-share : r .share ≡ at 8346 h
+        unfolding headOf
+        same-share = l .share ∙ ap (λ (x : Head). x .share) d-is
+
         -- what stands after the numbers is as it was
         after-same : settled last h ≡ drop 17 h
-        after-same = settled-same last h same-allowance
+        after-same = settled-same last h same-allowance same-share
 
         pub shows : view b′ ≡ used (f (view b) .dest)
         shows =
-            stored-view subs′ rows′ last h (long .head) same-allowance
+            stored-view subs′ rows′ last h (long .head) same-allowance same-share
             ∙ ap₂ (λ (n m : ℕ). headView last subs′ rows′ (idsAt n (drop 17 h)) (auditsAt m (drop 113 h))) same-producers same-audits
             ∙ used-view subs′ rows′ ids rings r few-calls
             ∙ ap used left

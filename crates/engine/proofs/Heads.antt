@@ -43,7 +43,7 @@ module _ (h : List ℕ) (subs rows events : List Row) (roomy : short (lengthsOf 
   unfolding headOf
   loaded-fit =
       ap (headFits (length h)) (Ending.d-is h subs rows events roomy s)
-      ∙ all-every (leb 8346 (length h) ∷ leb (at 13 h) 32 ∷ leb (at 14 h) 8 ∷ []) (le-leb _ _ (Ending.long h subs rows events roomy s .head), (le-leb _ _ (counted-numbers .1), (le-leb _ _ (counted-numbers .2), tt)))
+      ∙ all-every (leb 8347 (length h) ∷ leb (at 13 h) 32 ∷ leb (at 14 h) 8 ∷ []) (le-leb _ _ (Ending.long h subs rows events roomy s .head), (le-leb _ _ (counted-numbers .1), (le-leb _ _ (counted-numbers .2), tt)))
 
 module _ (h : List ℕ) (subs rows events : List Row) (code : ℕ) (ws : List ℕ) (roomy : short (lengthsOf (lent h subs rows) (length events)) ≡ false)
     (coded : eqb code 0 ≡ false) (s : soundBuffers (lent h subs rows) ≡ true) (c : Call) (decoded : decode code ws ≡ some c) (ok : argumentsOk c ≡ true)
@@ -62,7 +62,7 @@ module _ (h : List ℕ) (subs rows events : List Row) (code : ℕ) (ws : List �
     d-is : d ≡ headOf h (usedRows b)
     d-is = Ending.d-is h subs rows events roomy s
 
-    long : 8346 ≤ length h
+    long : 8347 ≤ length h
     long = Ending.long h subs rows events roomy s .head
 
     numbers : (at 12 h ≤ 32) × (at 13 h ≤ 32) × (at 14 h ≤ 8) × (usedRows b ≤ 512) × (ringsFormed (at 14 h) (drop 113 h) ≡ true)
@@ -104,7 +104,7 @@ module _ (h : List ℕ) (subs rows events : List Row) (code : ℕ) (ws : List �
       abbrev b′ : Buffers
       b′ = lent (stored last k) subs rows
 
-      long′ : 8346 ≤ length k
+      long′ : 8347 ≤ length k
       long′ = omega (arith, long, p .long)
 
       -- the other numbers are those that were loaded
@@ -119,6 +119,10 @@ module _ (h : List ℕ) (subs rows events : List Row) (code : ℕ) (ws : List �
       same-allowance : r .allowance ≡ at 8345 k
       unfolding headOf
       same-allowance = ap (λ (x : Head). x .allowance) (p .others) ∙ ap (λ (x : Head). x .allowance) d-is ∙ sym (getD-drop 8345 h 0 0) ∙ ap (at 0) (sym past) ∙ getD-drop 8345 k 0 0
+
+      same-share : r .share ≡ at 8346 k
+      unfolding headOf
+      same-share = ap (λ (x : Head). x .share) (p .others) ∙ ap (λ (x : Head). x .share) d-is ∙ sym (getD-drop 8345 h 1 0) ∙ ap (at 1) (sym past) ∙ getD-drop 8345 k 1 0
 
       same-strict : strictTables r subs rows ≡ strictTables d subs rows
       same-strict = ap (λ (x : Head). strictTables x subs rows) (p .others)
@@ -142,14 +146,14 @@ module _ (h : List ℕ) (subs rows events : List Row) (code : ℕ) (ws : List �
           omega (arith, leb-true (r .«calls_used» + 1) (r .«call_limit») (t .calls), leb-true (r .«call_limit») (2 ^ 40) (t .limit-high))
 
       shows : view b′ ≡ used (perform (view b) c .dest)
-      shows = stored-view subs rows last k long′ same-allowance ∙ used-view subs rows (idsAt (r .producers) (drop 17 k)) (auditsAt (r .audits) (drop 113 k)) r few-calls ∙ ap used left-dest
+      shows = stored-view subs rows last k long′ same-allowance same-share ∙ used-view subs rows (idsAt (r .producers) (drop 17 k)) (auditsAt (r .audits) (drop 113 k)) r few-calls ∙ ap used left-dest
 
       is-formed : formed b′ ≡ true
       is-formed =
           let f = counts (length k) r (p .fit e) in
           stored-formed subs rows last k long′
           ∙ all-every (leb (r .consumers) 32 ∷ leb (r .producers) 32 ∷ leb (r .audits) 8 ∷ leb (subRows (take (r .consumers) subs) + (r .reserved + r .waiting)) 512 ∷ ringsFormed (r .audits) (drop 96 (settled last k)) ∷ strictTables r subs rows ∷ [])
-          (le-leb (r .consumers) 32 (omega (arith, same-consumers, numbers .0)), (le-leb _ _ (f .producers), (le-leb _ _ (f .audits), (le-leb (subRows (take (r .consumers) subs) + (r .reserved + r .waiting)) 512 (omega (arith, same-rows, numbers .3)), (ap (ringsFormed (r .audits)) (ap (drop 96) (settled-same last k same-allowance) ∙ drop-drop 96 17 k) ∙ p .formed e rings, (same-strict ∙ Ending.strict-words h subs rows events roomy s, tt))))))
+          (le-leb (r .consumers) 32 (omega (arith, same-consumers, numbers .0)), (le-leb _ _ (f .producers), (le-leb _ _ (f .audits), (le-leb (subRows (take (r .consumers) subs) + (r .reserved + r .waiting)) 512 (omega (arith, same-rows, numbers .3)), (ap (ringsFormed (r .audits)) (ap (drop 96) (settled-same last k same-allowance same-share) ∙ drop-drop 96 17 k) ∙ p .formed e rings, (same-strict ∙ Ending.strict-words h subs rows events roomy s, tt))))))
 
       is-sound : soundBuffers b′ ≡ true
       unfolding soundBuffers
@@ -166,7 +170,7 @@ module _ (h : List ℕ) (subs rows events : List Row) (code : ℕ) (ws : List �
         leaves-sound = λ _. is-sound;
         kept = λ n. absurd (n refl);
         past = record {
-          head-past = stored-past last k long′ ∙ sym (drop-drop 1 8345 k) ∙ ap (drop 1) past ∙ drop-drop 1 8345 h;
+          head-past = stored-past last k long′ ∙ sym (drop-drop 2 8345 k) ∙ ap (drop 2) past ∙ drop-drop 2 8345 h;
           subs-past = refl;
           rows-past = refl;
           head-length = stored-length last k long′ ∙ p .long;

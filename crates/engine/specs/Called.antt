@@ -22,7 +22,7 @@ outcome refusal answer events = record { refusal = refusal; answer = answer; eve
 
 -- what is no part of the state is as it was
 pub record Past (b b′ : Buffers) (events events′ : List Row) : Type 0 where
-  pub head-past : drop 8346 (b′ .head) ≡ drop 8346 (b .head)
+  pub head-past : drop 8347 (b′ .head) ≡ drop 8347 (b .head)
   pub subs-past : drop 32 (b′ .subs) ≡ drop 32 (b .subs)
   pub rows-past : drop 512 (b′ .rows) ≡ drop 512 (b .rows)
   pub head-length : length (b′ .head) ≡ length (b .head)
@@ -69,7 +69,7 @@ abbrev pub PerformsBy : Option Call → Head → Answer → List Row → List Ro
 PerformsBy none d a subs rows events subs′ rows′ events′ = Unit {0}
 PerformsBy (some c) d a subs rows events subs′ rows′ events′ = Performs c d a subs rows events subs′ rows′ events′
 
--- a call in the head's words: it performs, the allowance and what is no part of the state are as they were, and it sends nothing
+-- a call in the head's words: it performs, the allowance, the share and what is no part of the state are as they were, and it sends nothing
 pub record InHead (c : Call) (d : Head) (h : List ℕ) (a : Answer) (k : List ℕ) : Type 0 where
   pub performs : Producers.Performs c d h a k
   pub past : drop 8345 k ≡ drop 8345 h

@@ -4,7 +4,7 @@ use mathlib.Core.List.{List}
 use Prim.Native.Nat.{ℕ}
 use lib.Dec.{eqb}
 use Rattle.definition.specs.Consumer.{zeroStats}
-use Rattle.definition.specs.Words.{at}
+use Rattle.definition.specs.Words.{at, shareOf}
 use Rattle.definition.specs.Base.{if_then_else_}
 use Rattle.stats.specs.Counted.{more}
 use Rattle.state.specs.declared.Head.{Head}
@@ -18,6 +18,7 @@ openedHead ws = record {
   «topic_limit» = at 1 ws;
   «call_limit» = at 2 ws;
   allowance = at 4 ws;
+  share = shareOf (at 5 ws);
   «calls_used» = 0;
   turn = 0;
   «idle_since» = at 3 ws;

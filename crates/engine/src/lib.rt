@@ -5,7 +5,7 @@ ghost use Prim.Native.Nat.{_<_};
 ghost use lib.Dec.{eqb};
 ghost use lib.ListN.{length};
 ghost use Rattle.definition.specs.Base.{if_then_else_};
-ghost use Rattle.definition.specs.Words.{openWords};
+ghost use Rattle.definition.specs.Words.{shareOf, openWords};
 ghost use Rattle.definition.specs.Base.{is-some};
 ghost use Rattle.definition.specs.Calls.{short};
 ghost use Rattle.definition.specs.Words.{decode};
@@ -56,6 +56,13 @@ impl Outcome {
     }
 }
 
+// The share that a word stands for: 0 for all rows.
+fn share_of(w: u64) -> u64
+    ensures { λ r. ⌜ r ≡ shareOf w ⌝ }
+{
+    if w == 0 { 512 } else { w }
+}
+
 // The numbers of a destination that is opened by these words.
 fn opened(words: [u64; 8]) -> Head
     ensures { λ r. ⌜ r ≡ openedHead words ⌝ }
@@ -71,6 +78,7 @@ fn opened(words: [u64; 8]) -> Head
         topic_limit: words[1],
         call_limit: words[2],
         allowance: words[4],
+        share: share_of(words[5]),
         calls_used: 0,
         turn: 0,
         idle_since: words[3],

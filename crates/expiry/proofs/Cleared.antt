@@ -86,6 +86,7 @@ module _ (d : Head) (subs rows events : List Row) (t : fits subs d (length rows)
     audits = refl;
     queue = refl;
     allowance = refl;
+    share = refl;
     consumers = facts .consumers;
     used = omega arith;
     rows-used = omega (arith, no-rows);

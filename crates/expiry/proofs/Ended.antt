@@ -86,6 +86,7 @@ leaves-counted d subs rows events s g h b = record {
   audits = refl;
   queue = refl;
   allowance = refl;
+  share = refl;
   consumers = s .consumers;
   used = s .used;
   rows-used = s .rows-used;
@@ -208,6 +209,7 @@ module _ (most clock now : ℕ) (d : Head) (is : now ≡ dueBy clock d) (subs ro
             topicLimit = d .«topic_limit»;
             callLimit = d .«call_limit»;
             allowance = d .allowance;
+            share = d .share;
             callsUsed = d .«calls_used»;
             pending = list j;
             subs = mine j;
@@ -229,6 +231,7 @@ module _ (most clock now : ℕ) (d : Head) (is : now ≡ dueBy clock d) (subs ro
       audits = refl;
       queue = refl;
       allowance = refl;
+      share = refl;
       consumers = f .consumers;
       used = able .used;
       rows-used = rows-left;

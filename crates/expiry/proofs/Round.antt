@@ -144,6 +144,7 @@ module _ (most now : ℕ) (subs₀ rows₀ : List Row) (d : Head) (before : ℕ)
             topicLimit = d .«topic_limit»;
             callLimit = d .«call_limit»;
             allowance = d .allowance;
+            share = d .share;
             callsUsed = d .«calls_used»;
             pending = map entryOf (waits j);
             subs = mine j;
@@ -167,6 +168,7 @@ module _ (most now : ℕ) (subs₀ rows₀ : List Row) (d : Head) (before : ℕ)
           audits = refl;
           queue = refl;
           allowance = refl;
+          share = refl;
           consumers = able .consumers;
           used = omega (arith, g .used, able .used);
           rows-used = omega (arith, base-is, none-left, g .fits);

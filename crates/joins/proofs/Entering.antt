@@ -44,6 +44,7 @@ partsOf d subs pending reserved ps qs = record {
   topicLimit = d .«topic_limit»;
   callLimit = d .«call_limit»;
   allowance = d .allowance;
+  share = d .share;
   callsUsed = d .«calls_used»;
   pending = pending;
   subs = subs;
@@ -264,6 +265,7 @@ module _ (now : ℕ) (p : SubSpec) (d : Head) (subs rows rows′ events : List R
       audits = refl;
       queue = refl;
       allowance = refl;
+      share = refl;
       consumers = omega arith;
       used = few;
       rows-used = ap (λ (m : ℕ). m + (d .reserved + v)) size ∙ eu;

@@ -116,7 +116,7 @@ module _ (i : Id) (d : Head) (h : List ℕ) where
           let c = counts (length h) d f in
           let g = few in
           let l = words-long in
-          all-every (leb 8346 (length words) ∷ leb (d .producers + 1) 32 ∷ leb (d .audits) 8 ∷ []) (le-leb 8346 (length words) (omega arith), (le-leb (d .producers + 1) 32 (omega arith), (le-leb (d .audits) 8 (c .audits), tt)))
+          all-every (leb 8347 (length words) ∷ leb (d .producers + 1) 32 ∷ leb (d .audits) 8 ∷ []) (le-leb 8347 (length words) (omega arith), (le-leb (d .producers + 1) 32 (omega arith), (le-leb (d .audits) 8 (c .audits), tt)))
 
       pub added-new : Promised (adding i) (added i d h) d h (doneAs 0 (notIdle (withProducers (d .producers + 1) d))) words
       unfolding added perform headView

@@ -20,7 +20,7 @@ use Rattle.producers.specs.Groups.{over}
 use Rattle.producers.specs.Producers.{left, checkedAt}
 use Rattle.producers.proofs.Words.{over-length, lent-over, over-join-before, two-stores}
 
-module _ (k q : ℕ) (d : Head) (h : List ℕ) (b : k < 8) (long : 8346 ≤ length h) (r : Checked.Checked) (v : List ℕ) where
+module _ (k q : ℕ) (d : Head) (h : List ℕ) (b : k < 8) (long : 8347 ≤ length h) (r : Checked.Checked) (v : List ℕ) where
   abbrev place : ℕ
   place = 113 + k * 1029
 

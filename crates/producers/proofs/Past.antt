@@ -55,7 +55,7 @@ module _ (d : Head) (h : List ℕ) (f : headFits (length h) d ≡ true) where
       packed-after (stays false (idOf conn 0 0)) 113 1029 (d .audits) h (omega (arith, c .long, c .audits)) 8345 (omega (arith, c .audits)))
 
 -- the audit at a place
-checked-past : (k q : ℕ) (d : Head) (h : List ℕ) → k < 8 → 8346 ≤ length h → drop 8345 (checkedAt k q d h .words) ≡ drop 8345 h
+checked-past : (k q : ℕ) (d : Head) (h : List ℕ) → k < 8 → 8347 ≤ length h → drop 8345 (checkedAt k q d h .words) ≡ drop 8345 h
 unfolding checkedAt
 checked-past k q d h b l =
     let at : ℕ = 113 + k * 1029 in

@@ -122,8 +122,8 @@ module _ (conn : ℕ) (d : Head) (h : List ℕ) where
         let c = counts (length h) d f in
         let e = packed-length stay 113 1029 n h rooms in
         let m = count-most stay 1029 n (drop 113 h) in
-        all-every (leb 8346 (length (packed stay 113 1029 n h)) ∷ leb (d .producers) 32 ∷ leb (keptCount stay 1029 n (drop 113 h)) 8 ∷ [])
-        (le-leb 8346 (length (packed stay 113 1029 n h)) (omega arith), (le-leb (d .producers) 32 (c .producers), (le-leb (keptCount stay 1029 n (drop 113 h)) 8 (omega arith), tt)))
+        all-every (leb 8347 (length (packed stay 113 1029 n h)) ∷ leb (d .producers) 32 ∷ leb (keptCount stay 1029 n (drop 113 h)) 8 ∷ [])
+        (le-leb 8347 (length (packed stay 113 1029 n h)) (omega arith), (le-leb (d .producers) 32 (c .producers), (le-leb (keptCount stay 1029 n (drop 113 h)) 8 (omega arith), tt)))
 
     pub released-done : Promised (forgetting conn) (released conn d h) d h (doneAs 0 d₁) (packed stay 113 1029 n h)
     unfolding released perform ownRefusal headView
@@ -217,7 +217,7 @@ module _ (now : ℕ) (i : Id) (d : Head) (h : List ℕ) where
         let p = less-producers in
         let a = less-audits in
         ap₂ (λ (x y : ℕ). headFits (length k₂) (withProducers x (withAudits y d))) marked-producers marked-audits
-        ∙ all-every (leb 8346 (length k₂) ∷ leb (d₂ .producers) 32 ∷ leb (d₂ .audits) 8 ∷ []) (le-leb 8346 (length k₂) (omega arith), (le-leb (d₂ .producers) 32 p, (le-leb (d₂ .audits) 8 a, tt)))
+        ∙ all-every (leb 8347 (length k₂) ∷ leb (d₂ .producers) 32 ∷ leb (d₂ .audits) 8 ∷ []) (le-leb 8347 (length k₂) (omega arith), (le-leb (d₂ .producers) 32 p, (le-leb (d₂ .audits) 8 a, tt)))
 
     removed-dest : ringsFormed (d .audits) (drop 113 h) ≡ true → (subs rows : List Row) → d .consumers ≤ length subs → subRows (take (d .consumers) subs) + (d .reserved + d .waiting) ≤ length rows
         → destOf (touched now d₂) k₂ subs rows ≡ perform (destOf d h subs rows) (removing i now) .dest

@@ -25,13 +25,13 @@ use Rattle.producers.proofs.Groups.{elems, oks}
 -- ---- the counts
 
 pub record Counts (words : ℕ) (d : Head) : Type 0 where
-  pub long : 8346 ≤ words
+  pub long : 8347 ≤ words
   pub producers : d .producers ≤ 32
   pub audits : d .audits ≤ 8
 
 pub counts : (words : ℕ) (d : Head) → headFits words d ≡ true → Counts words d
 counts words d h =
-    let f = every-all (leb 8346 words ∷ leb (d .producers) 32 ∷ leb (d .audits) 8 ∷ []) h in
+    let f = every-all (leb 8347 words ∷ leb (d .producers) 32 ∷ leb (d .audits) 8 ∷ []) h in
     record { long = leb-true _ _ (f .0); producers = leb-true _ _ (f .1 .0); audits = leb-true _ _ (f .1 .1 .0) }
 
 -- ---- a word of a front

@@ -85,7 +85,7 @@ module _ (i : Id) (q : ℕ) (d : Head) (h : List ℕ) where
         few : n ≤ 8
         few = counts (length h) d f .audits
 
-        long : 8346 ≤ length h
+        long : 8347 ≤ length h
         long = counts (length h) d f .long
 
         abbrev spot : List ℕ
@@ -214,7 +214,7 @@ module _ (i : Id) (q : ℕ) (d : Head) (h : List ℕ) where
           few₁ : n + 1 ≤ 8
           few₁ = let r = room in omega arith
 
-          long₁ : 8346 ≤ length h₁
+          long₁ : 8347 ≤ length h₁
           long₁ = let k = counts (length h) d f in let e = h₁-long in omega arith
 
           new-here : drop spot′ h₁ ≡ rest
@@ -284,7 +284,7 @@ module _ (i : Id) (q : ℕ) (d : Head) (h : List ℕ) where
           new-fits =
               let k = counts (length h) d f in
               let e = exit-long in
-              all-every (leb 8346 (length exit′) ∷ leb (d .producers) 32 ∷ leb (n + 1) 8 ∷ []) (le-leb 8346 (length exit′) (omega arith), (le-leb (d .producers) 32 (k .producers), (le-leb (n + 1) 8 few₁, tt)))
+              all-every (leb 8347 (length exit′) ∷ leb (d .producers) 32 ∷ leb (n + 1) 8 ∷ []) (le-leb 8347 (length exit′) (omega arith), (le-leb (d .producers) 32 (k .producers), (le-leb (n + 1) 8 few₁, tt)))
 
           fresh : Performs (testing i q) d h (doneAs (boolByte (step n (n + 1) q h₁ one few₁ long₁ .checked .duplicate)) d₁) exit′
           unfolding testAt headView

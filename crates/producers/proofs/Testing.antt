@@ -44,7 +44,7 @@ oks-at (suc k) (suc n) l h o =
 
 -- ---- the audit at a place
 
-module _ (k n q : ℕ) (h : List ℕ) (b : k < n) (few : n ≤ 8) (long : 8346 ≤ length h) where
+module _ (k n q : ℕ) (h : List ℕ) (b : k < n) (few : n ≤ 8) (long : 8347 ≤ length h) where
   abbrev pub place : ℕ
   place = 113 + k * 1029
 

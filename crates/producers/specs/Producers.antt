@@ -23,7 +23,7 @@ use Rattle.producers.specs.Groups.{hasId, stays, firstOf, keptCount, ove
 
 -- a head of so many words has them all, and the counts are within their tables
 abbrev pub headFits : ℕ → Head → Bool
-headFits words d = every (leb 8346 words ∷ leb (d .producers) 32 ∷ leb (d .audits) 8 ∷ [])
+headFits words d = every (leb 8347 words ∷ leb (d .producers) 32 ∷ leb (d .audits) 8 ∷ [])
 
 -- a result, and the head's words
 pub record Left : Type 0 where

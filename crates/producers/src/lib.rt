@@ -166,7 +166,7 @@ pub fn remove_producer(head: &mut [u64], mut d: Head, id: Id, clock: u64) -> Ans
 
 // `check_and_record` on the audit at a place.
 fn check_at(head: &mut [u64], d: Head, k: usize, number: u64) -> Answer
-    requires { ⌜ (k < 8) × (8346 ≤ length (now head)) ⌝ }
+    requires { ⌜ (k < 8) × (8347 ≤ length (now head)) ⌝ }
     ensures { λ r. ⌜ left r (now (head .exit)) ≡ checkedAt k number d (now (head .entry)) ⌝ }
 {
     let at = AUDIT_TABLE + k * AUDIT_WORDS;
@@ -188,7 +188,7 @@ fn check_at(head: &mut [u64], d: Head, k: usize, number: u64) -> Answer
 
 // A new audit at the end of the table.
 fn new_audit(head: &mut [u64], k: usize, id: Id)
-    requires { ⌜ (k < 8) × (8346 ≤ length (now head)) ⌝ }
+    requires { ⌜ (k < 8) × (8347 ≤ length (now head)) ⌝ }
     ensures { λ _. ⌜ now (head .exit) ≡ over (113 + k * 1029) (newWords id) (now (head .entry)) ⌝ }
 {
     let at = AUDIT_TABLE + k * AUDIT_WORDS;

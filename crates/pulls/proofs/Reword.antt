@@ -76,6 +76,7 @@ leaves-same f d subs rows events w says = record {
   audits = refl;
   queue = refl;
   allowance = refl;
+  share = refl;
   consumers = w .consumers;
   used = w .used;
   rows-used = w .rows-used;
@@ -170,6 +171,7 @@ module _ (d : Head) (subs rows : List Row) (id : Id) (i : ℕ) (long : d .consum
       topicLimit = d .«topic_limit»;
       callLimit = d .«call_limit»;
       allowance = d .allowance;
+      share = d .share;
       callsUsed = d .«calls_used»;
       pending = map entryOf (take (d .waiting) (drop (d .reserved) (drop (rows-same j) rows)));
       subs = subs-are j;
@@ -237,6 +239,7 @@ module _ (d : Head) (subs rows : List Row) (id : Id) (i : ℕ) (long : d .consum
           audits = refl;
           queue = refl;
           allowance = refl;
+          share = refl;
           consumers = w .consumers;
           used = w .used;
           rows-used = ap (λ (m : ℕ). m + (d .reserved + d .waiting)) rows-same ∙ w .rows-used;

@@ -8,7 +8,7 @@ use borrow.Author.Tests.{leb-true}
 use lib.Dec.{leb, eqb}
 use lib.ListN.{length, take, drop}
 use Rattle.entry.specs.Entry.{entryOf}
-use Rattle.definition.specs.Base.{all, distinct}
+use Rattle.definition.specs.Base.{every, all, distinct}
 use Rattle.definition.specs.Types.{Kind, Entry, Dest}
 use Rattle.definition.specs.Calls.{entryOk, bound, seqs, consumerRows, allRows, sizesAgree}
 use Rattle.definition.specs.Queries.{bytes, bytesOf, bytesHeld}
@@ -88,7 +88,7 @@ module _ (h : List ℕ) (subs rows : List Row) (z : barred (lent h subs rows) �
   lone : sharedBy (eqb (at 0 h) 0) us ≡ false → distinct (map (at 0) (take used rows)) ≡ true
   unfolding restOk tablesOk
   lone n =
-      let t = and-right (ringsFormed (at 14 h) (drop 113 h)) _ (and-right (leb (usedRows b) 512) _ rest) in
+      let t = and-left (every (tableTests k (bound (at 3 h)) (subRows us) (at 15 h) (at 16 h) us rows)) _ (and-right (ringsFormed (at 14 h) (drop 113 h)) _ (and-right (leb (usedRows b) 512) _ rest)) in
       let p = every-all (tableTests k (bound (at 3 h)) (subRows us) (at 15 h) (at 16 h) us rows) t in
       ap distinct (seqs-rows (take used rows) ∙ ap seqs used-are)
       ∙ distinct-turned waits kept taken (lone-distinct (bound (at 3 h)) (at 15 h) (at 16 h) us rows (eqb (at 0 h) 0) (p .0) (p .1 .0) (p .1 .1 .1 .1 .1 .0) n)

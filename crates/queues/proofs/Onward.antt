@@ -17,6 +17,7 @@ onward-same d subs rows events = record {
   reserved = refl;
   queue = refl;
   allowance = refl;
+  share = refl;
   waiting = omega arith;
   used = omega arith;
   more = omega arith;
@@ -47,6 +48,7 @@ onward-then d₀ d r subs₀ rows₀ events₀ subs rows events subs′ rows′ 
   reserved = p .reserved ∙ o .reserved;
   queue = p .queue ∙ o .queue;
   allowance = p .allowance ∙ o .allowance;
+  share = p .share ∙ o .share;
   waiting = omega arith;
   used = omega arith;
   more = omega arith;

@@ -201,6 +201,7 @@ module _ (now : ℕ) (subs₀ rows₀ events₀ : List Row) (d₀ : Head) (subs 
     audits = on .audits;
     queue = on .queue;
     allowance = on .allowance;
+    share = on .share;
     consumers = ok .consumers;
     used = ok .used;
     rows-used = ok .rows-used;

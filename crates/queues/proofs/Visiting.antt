@@ -269,6 +269,7 @@ module _ (now i : ℕ) (d : Head) (subs rows events : List Row) (ok : Scans subs
         reserved = refl;
         queue = refl;
         allowance = refl;
+        share = refl;
         waiting = f .waits;
         used = omega (arith, f .gone);
         more = f .more;

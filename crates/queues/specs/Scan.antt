@@ -87,6 +87,7 @@ pub record Onward (d r : Head) (subs rows events subs′ rows′ events′ : Lis
   pub reserved : r .reserved ≡ d .reserved
   pub queue : r .queue ≡ d .queue
   pub allowance : r .allowance ≡ d .allowance
+  pub share : r .share ≡ d .share
   pub waiting : r .waiting ≤ d .waiting
   pub used : r .used ≤ d .used
   pub more : d .events ≤ r .events

@@ -235,6 +235,7 @@ module _ (id : Id) (counts : AckCount) (p : Span) (d t r : Head) (gone : ℕ) (r
           topicLimit = d .«topic_limit»;
           callLimit = d .«call_limit»;
           allowance = d .allowance;
+          share = d .share;
           callsUsed = d .«calls_used»;
           pending = map entryOf (waits-are j);
           subs = mine j;
@@ -289,6 +290,7 @@ module _ (id : Id) (counts : AckCount) (p : Span) (d t r : Head) (gone : ℕ) (r
             audits = ap (λ (y : Head). y .audits) head-is;
             queue = ap (λ (y : Head). y .queue) head-is;
             allowance = ap (λ (y : Head). y .allowance) head-is;
+            share = ap (λ (y : Head). y .share) head-is;
             consumers = omega (arith, fits .consumers);
             used = omega (arith, fits .used);
             rows-used = omega arith;
@@ -349,6 +351,7 @@ module _ (id : Id) (a : Ack) (subs rows events : List Row) (d : Head) (fits : Fi
       audits = refl;
       queue = refl;
       allowance = refl;
+      share = refl;
       consumers = fits .consumers;
       used = fits .used;
       rows-used = fits .rows-used;

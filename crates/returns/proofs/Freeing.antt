@@ -232,7 +232,7 @@ module _ (now : ℕ) (id : Id) (d₀ : Head) (subs₀ rows₀ : List Row) where
     pub freeing-leaves : (events : List Row) → left ≤ 0 → Leaves (silent (freed now id)) d₀ d subs₀ rows₀ events subs rows events
     freeing-leaves events h =
         let a = g .gap in
-        gap-leaves (freed now id) i d₀ d₀ d subs₀ rows₀ events subs₀ rows₀ subs rows a (g .same) refl refl refl refl refl refl refl refl refl
+        gap-leaves (freed now id) i d₀ d₀ d subs₀ rows₀ events subs₀ rows₀ subs rows a (g .same) refl refl refl refl refl refl refl refl refl refl
         (λ p u _.
         no-gap d subs rows (omega (arith, a .sum)) (omega (arith, a .used, a .long)) p u i (omega (arith, a .low, a .sum))
         ∙ sym (freeing-end now id (i - base) (headView d subs rows p u) (omega (arith, reserved-length d subs rows base (i - base) own gap-there p u, g .to, g .from)))

@@ -174,11 +174,11 @@ module _ (d : Head) (subs rows : List Row) (sum : subRows (take (d .consumers) s
 
 -- a gap that has closed is a part of a call done
 pub gap-leaves : (f : Dest → Dest) (from : ℕ) (d b r : Head) (subs rows events subs₁ rows₁ subs′ rows′ : List Row) → Gap from 0 r subs′ rows′ → Same b r subs₁ rows₁ subs′ rows′
-    → b .events ≡ d .events → b .producers ≡ d .producers → b .audits ≡ d .audits → b .queue ≡ d .queue → b .allowance ≡ d .allowance → drop 32 subs₁ ≡ drop 32 subs → length subs₁ ≡ length subs → drop 512 rows₁ ≡ drop 512 rows → length rows₁ ≡ length rows
+    → b .events ≡ d .events → b .producers ≡ d .producers → b .audits ≡ d .audits → b .queue ≡ d .queue → b .allowance ≡ d .allowance → b .share ≡ d .share → drop 32 subs₁ ≡ drop 32 subs → length subs₁ ≡ length subs → drop 512 rows₁ ≡ drop 512 rows → length rows₁ ≡ length rows
     → ((p : List Id) (u : List Audit) → length p ≡ d .producers → around from 0 r subs′ rows′ p u ≡ f (headView d subs rows p u))
     → (strictTables d subs rows ≡ true → StrictAround from 0 r subs′ rows′)
     → Leaves (silent f) d r subs rows events subs′ rows′ events
-gap-leaves f from d b r subs rows events subs₁ rows₁ subs′ rows′ g s e p a q l h i j k v w =
+gap-leaves f from d b r subs rows events subs₁ rows₁ subs′ rows′ g s e p a q l o h i j k v w =
     let sum : subRows (take (r .consumers) subs′) + (r .reserved + r .waiting) ≡ r .used = omega (arith, g .sum) in
     let fits : r .used ≤ length rows′ = omega (arith, g .used, g .long) in
     let low : from ≤ firstWaiting r = omega (arith, g .low, g .sum) in
@@ -192,6 +192,7 @@ gap-leaves f from d b r subs rows events subs₁ rows₁ subs′ rows′ g s e p
       audits = ap (λ (x : Head). x .audits) (s .head) ∙ a;
       queue = ap (λ (x : Head). x .queue) (s .head) ∙ q;
       allowance = ap (λ (x : Head). x .allowance) (s .head) ∙ l;
+      share = ap (λ (x : Head). x .share) (s .head) ∙ o;
       consumers = g .consumers;
       used = g .used;
       rows-used = sum;

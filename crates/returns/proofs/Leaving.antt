@@ -224,7 +224,7 @@ module _ (i : ℕ) (d : Head) (subs rows : List Row) (f : Fits subs d (length ro
         rw (p, at0)
         (gap-leaves (left now id last) base d b (withUsed (d .used - own) b) subs rows events subs′ rows subs′ (closeGap (base + 0) own (d .used) rows)
         (rw e at (forgets-gap base 0 own own b subs′ rows leaving-gap less)) (forgets-same base 0 own own b subs′ rows leaving-gap less)
-        refl refl refl refl refl (removed-past i (d .consumers) subs low many 32 (f .consumers)) (removed-length i (d .consumers) subs low many) refl refl
+        refl refl refl refl refl refl (removed-past i (d .consumers) subs low many 32 (f .consumers)) (removed-length i (d .consumers) subs low many) refl refl
         (λ u v _.
         ap (λ (n : ℕ). around base n (withUsed (d .used - own) b) subs′ (closeGap (base + 0) own (d .used) rows) u v) (sym e)
         ∙ forgets base 0 own own b subs′ rows leaving-gap less u v
@@ -251,7 +251,7 @@ module _ (i : ℕ) (d : Head) (subs rows : List Row) (f : Fits subs d (length ro
         let flew : slice base (base + m) c ≡ flyingIn ws rows i =
         ap (drop base) (close-before (base + m) k (d .used) rows (base + m) (omega arith)) ∙ slice-take base (base + m) rows (omega arith) ∙ ap (λ (y : ℕ). take y (drop base rows)) n in
         gap-leaves (left now id last) base d b r subs rows events subs′ rows subs″ rows′ (o .gap) (same-both (forgets-same base m k own b subs′ rows leaving-gap less) (o .same))
-        refl refl refl refl refl (removed-past i (d .consumers) subs low many 32 (f .consumers)) (removed-length i (d .consumers) subs low many) refl refl
+        refl refl refl refl refl refl (removed-past i (d .consumers) subs low many 32 (f .consumers)) (removed-length i (d .consumers) subs low many) refl refl
         (λ u v _.
         o .view u v
         ∙ ap₂ (λ (l : List Row) (y : ℕ). givesAll now last (idOf (at 0 w) (at 1 w) (at 2 w)) (map inflightAt l) (around base y h subs′ c u v)) flew (sym e)

@@ -270,6 +270,7 @@ module _ (id : Id) (d : Head) (subs rows₀ : List Row) (a : Fits subs d (length
         audits = refl;
         queue = refl;
         allowance = refl;
+        share = refl;
         consumers = a .consumers;
         used = a .used;
         rows-used = a .rows-used;

@@ -171,7 +171,7 @@ fn text() -> [u8; 489216]
 
 // The whole run, from a state of zeros.
 fn run(fd: i32) {
-    let mut head = [0u64; 8346];
+    let mut head = [0u64; 8347];
     let mut subs = [[0u64; 16]; 32];
     let mut rows = [[0u64; 10]; 512];
     let mut events = [[0u64; 6]; 545];

@@ -169,8 +169,8 @@ module _ (L U : ℕ) (k : Kind) where
 
 enqueues : (L U : ℕ) (k : Kind) (N now : ℕ) (e : Entry) (t : Dest) → Fine L U k N t → Stores k e t → Fits (enqueueBy now e t k .events)
 unfolding enqueueBy dispatchBy
-enqueues L U queue N now e t g y = fine-fits L U queue (N + 1) queue _ (stored e t) (stored-fine L U N e t g (y .ok) (y .fits) (y .new))
-enqueues L U topic N now e t g y = fine-fits L U topic (N + 1024) topic _ (fannedOut (due now t) e t) (fanned-fine L U N (due now t) e t g (y .ok) (y .fits) (y .new))
+enqueues L U queue N now e t g y = fine-fits L U queue (N + 1) queue _ (stored e t) (stored-fine L U N e t g (y .ok) (y .fits) (y .new) (y .shared))
+enqueues L U topic N now e t g y = fine-fits L U topic (N + 1024) topic _ (fannedOut (due now t) e t) (fanned-fine L U N (due now t) e t g (y .ok) (y .fits) (y .new) (y .shared))
 
 sweeps : (now most : ℕ) (t : Dest) → Fits (sweepExpired now most t .events)
 unfolding sweepExpired

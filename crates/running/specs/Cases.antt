@@ -48,10 +48,10 @@ block = body ++ bytes 4 (checkFrom 0 body)
 
 -- a state that no call has opened, and lent buffers that are long enough
 start : Lent
-start = record { formed = false; dest = opened queue 0 1 0 0; events = [] }
+start = record { formed = false; dest = opened queue 0 1 0 0 512; events = [] }
 
 lengths : Lengths
-lengths = record { head = 8346; subs = 32; rows = 512; events = 545 }
+lengths = record { head = 8347; subs = 32; rows = 512; events = 545 }
 
 ran : ℕ → ℕ → Run
 ran places got = runBlock lengths places block got 0 0 start

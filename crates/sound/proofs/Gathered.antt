@@ -39,7 +39,7 @@ gather-turn rows was out from start i h k e =
     ∙ append-assoc (take start was) (seqsAt (take i (drop from rows))) (v ∷ [])
     ∙ ap (λ (l : List ℕ). take start was ++ l) (sym more)
 
-browses : (k : Bool) (l : List Entry) → is-some (browserAt queue k l) ≡ k
+pub browses : (k : Bool) (l : List Entry) → is-some (browserAt queue k l) ≡ k
 browses true l = refl
 browses false l = refl
 

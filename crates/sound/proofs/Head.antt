@@ -26,12 +26,12 @@ head-rest h e = sym (ap (λ (b : Bool). b && (countsOk h && (marksOk h && counte
 
 pub limits-used : (h : List ℕ) → limitsOk h ≡ true → at 3 h ≤ 2 ^ 40
 limits-used h e =
-    let p = and-right (leb 1 (at 2 h)) (leb (at 2 h) (2 ^ 40) && (leb (at 3 h) (at 2 h) && (leb (at 1 h) 512 && leb (at 8345 h) 86400000))) e in
-    let q = and-right (leb (at 2 h) (2 ^ 40)) (leb (at 3 h) (at 2 h) && (leb (at 1 h) 512 && leb (at 8345 h) 86400000)) p in
+    let p = and-right (leb 1 (at 2 h)) (leb (at 2 h) (2 ^ 40) && (leb (at 3 h) (at 2 h) && (leb (at 1 h) 512 && (leb (at 8345 h) 86400000 && (leb 1 (at 8346 h) && leb (at 8346 h) 512))))) e in
+    let q = and-right (leb (at 2 h) (2 ^ 40)) (leb (at 3 h) (at 2 h) && (leb (at 1 h) 512 && (leb (at 8345 h) 86400000 && (leb 1 (at 8346 h) && leb (at 8346 h) 512)))) p in
     omega (
       arith,
-      leb-true (at 2 h) (2 ^ 40) (and-left (leb (at 2 h) (2 ^ 40)) (leb (at 3 h) (at 2 h) && (leb (at 1 h) 512 && leb (at 8345 h) 86400000)) p),
-      leb-true (at 3 h) (at 2 h) (and-left (leb (at 3 h) (at 2 h)) (leb (at 1 h) 512 && leb (at 8345 h) 86400000) q),
+      leb-true (at 2 h) (2 ^ 40) (and-left (leb (at 2 h) (2 ^ 40)) (leb (at 3 h) (at 2 h) && (leb (at 1 h) 512 && (leb (at 8345 h) 86400000 && (leb 1 (at 8346 h) && leb (at 8346 h) 512)))) p),
+      leb-true (at 3 h) (at 2 h) (and-left (leb (at 3 h) (at 2 h)) (leb (at 1 h) 512 && (leb (at 8345 h) 86400000 && (leb 1 (at 8346 h) && leb (at 8346 h) 512))) q),
     )
 
 -- ---- rings

@@ -5,6 +5,7 @@ pub mod Head
 pub mod Subs
 pub mod Gathered
 pub mod Sizes
+pub mod Connected
 pub mod Tables
 pub mod Meaning
 pub mod Lone

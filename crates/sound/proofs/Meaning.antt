@@ -18,18 +18,19 @@ use Rattle.entry.specs.Entry.{entryOf}
 use Rattle.definition.specs.Base.{all, every, empty, is-some, distinct, ascending}
 use Rattle.definition.specs.Types.{Kind, queue, topic, Entry, Sub, Dest}
 use Rattle.definition.specs.Consumer.{shown, isBrowser}
-use Rattle.definition.specs.Calls.{word, idOk, entryOk, clockOk, bound, seqs, flying, rowsOf, subTests, subSound, consumerRows, taken, held, allRows, placed, auditOk, sizesAgree, soundTests, sound}
+use Rattle.definition.specs.Calls.{word, idOk, entryOk, clockOk, bound, seqs, flying, rowsOf, subTests, subSound, consumerRows, taken, held, allRows, placed, auditOk, sizesAgree, ownRows, withinShare, soundTests, sound}
 use Rattle.definition.specs.Words.{at, kindOf}
 use Rattle.definition.specs.Layout.{Row, Buffers, idAt, heldAt, subAt, eachSub, subsAt, subRows, idsAt, ringAt, auditsAt, view, usedRows, ringsFormed, isMark, entryStrict, subStrict, subsStrict, tablesStrict, strict, formed, soundBuffers}
 use mathlib.Core.List.{append-nil}
 use Rattle.definition.proofs.Tests.{and-left, and-right, and-both}
 use Rattle.definition.proofs.Thin.{every-all, all-every, map-append}
 use Rattle.distinct.proofs.Laws.{iff, distinct-left, distinct-right}
-use Rattle.sound.specs.Sound.{limitsOk, countsOk, marksOk, headOk, rowOk, holderOk, ownTests, ownSound, ownOk, eachOk, kindBy, seqsAt, apartBy, emptyBy, reservedAt, waitingAt, queueApart, sizesAt, tableTests, tablesOk, lent, restOk}
+use Rattle.sound.specs.Sound.{limitsOk, countsOk, marksOk, headOk, rowOk, holderOk, ownTests, ownSound, ownOk, eachOk, kindBy, seqsAt, apartBy, emptyBy, reservedAt, waitingAt, queueApart, sizesAt, tableTests, tablesOk, sharesAt, lent, restOk}
 use Rattle.sound.proofs.Tests.{swap-inner, empty-take, all-map}
 use Rattle.sound.proofs.Rows.{id-fits}
 use Rattle.sound.proofs.Subs.{seqs-rows, rows-ok, sorted-means, all-append, rows-of-sub, optional-test, ids-means}
 use Rattle.sound.proofs.Sizes.{agree-turned, used-parts}
+use Rattle.sound.proofs.Connected.{own-queue, own-topic}
 
 -- ---- lists
 
@@ -373,6 +374,20 @@ module _ (h : List ℕ) (subs rows : List Row) (ls : 32 ≤ length subs) (lr : 5
       ∙ agree-turned (map entryOf waiting-rows) (map entryOf kept-rows) (consumerRows (subsAt k us rows))
       ∙ sym (ap sizesAgree (used-parts (at 15 h) (at 16 h) us rows k))
 
+  shares-by : (f : usedRows b ≤ 512) (q : Bool) → eqb (at 0 h) 0 ≡ q
+      → withinShare (at 8346 h) (ownRows (view b) (kindBy q)) ≡ sharesAt (at 8346 h) q (subRows us) (at 15 h + at 16 h) us rows
+  shares-by f true e =
+      let s = stands f in
+      let w = map entryOf waiting-rows in
+      ap (λ (l : List Entry). withinShare (at 8346 h) (l ++ (held (view b) ++ taken (view b .subs)))) (s .waits)
+      ∙ ap₂ (λ (l : List Entry) (m : List Sub). withinShare (at 8346 h) (w ++ (l ++ taken m))) (held-means (subRows us) (at 15 h) (at 16 h) us rows (in-table f) k (view b) s) (s .consumers ∙ ap (λ (x : Bool). subsAt (kindBy x) us rows) e)
+      ∙ sym (own-queue (at 8346 h) (at 15 h) (at 16 h) us rows)
+  shares-by f false e = ap (withinShare (at 8346 h)) (all-rows f) ∙ sym (own-topic (at 8346 h) (at 15 h) (at 16 h) us rows k)
+
+  shares-same : (f : usedRows b ≤ 512) → withinShare (view b .share) (ownRows (view b) (view b .kind)) ≡ sharesAt (at 8346 h) (eqb (at 0 h) 0) (subRows us) (at 15 h + at 16 h) us rows
+  unfolding view
+  shares-same f = shares-by f (eqb (at 0 h) 0) refl
+
   sound-head : formed b ≡ true → sound (view b) ≡ true → headOk h ≡ true
   unfolding formed strict sound view headOk
   sound-head e g =
@@ -381,7 +396,7 @@ module _ (h : List ℕ) (subs rows : List Row) (ls : 32 ≤ length subs) (lr : 5
       let p = every-all (soundTests (view b)) g in
       let n = leb-true (at 12 h) 32 (f .0) in
       and-both (limitsOk h) _
-      (and-both (leb 1 (at 2 h)) _ (p .0) (and-both (leb (at 2 h) (2 ^ 40)) _ (p .1 .0) (and-both (leb (at 3 h) (at 2 h)) _ (p .1 .1 .0) (and-both (leb (at 1 h) 512) _ (p .1 .1 .1 .0) (p .1 .1 .1 .1 .1 .1 .1 .1 .1 .1 .1 .1 .1 .1 .1 .1 .1 .1 .1 .0)))))
+      (and-both (leb 1 (at 2 h)) _ (p .0) (and-both (leb (at 2 h) (2 ^ 40)) _ (p .1 .0) (and-both (leb (at 3 h) (at 2 h)) _ (p .1 .1 .0) (and-both (leb (at 1 h) 512) _ (p .1 .1 .1 .0) (and-both (leb (at 8345 h) 86400000) _ (p .1 .1 .1 .1 .1 .1 .1 .1 .1 .1 .1 .1 .1 .1 .1 .1 .1 .1 .1 .0) (and-both (leb 1 (at 8346 h)) _ (p .1 .1 .1 .1 .1 .1 .1 .1 .1 .1 .1 .1 .1 .1 .1 .1 .1 .1 .1 .1 .1 .0) (p .1 .1 .1 .1 .1 .1 .1 .1 .1 .1 .1 .1 .1 .1 .1 .1 .1 .1 .1 .1 .1 .1 .0)))))))
       (and-both (countsOk h) _
       (and-both (leb (at 12 h) 32) _ (f .0) (and-both (leb (at 13 h) 32) _ (f .1 .0) (and-both (leb (at 14 h) 8) _ (f .1 .1 .0) (sym (turn-same n) ∙ p .1 .1 .1 .1 .1 .1 .1 .1 .1 .1 .1 .1 .1 .1 .0))))
       (and-both (marksOk h) _ (and-both (isMark (at 0 h)) _ (s .0) (and-both (isMark (at 5 h)) _ (s .1 .0) (sym (optional-test clockOk (at 5 h) (at 6 h)) ∙ p .1 .1 .1 .1 .1 .1 .1 .1 .1 .1 .1 .1 .1 .1 .1 .1 .0)))
@@ -404,7 +419,7 @@ module _ (h : List ℕ) (subs rows : List Row) (ls : 32 ≤ length subs) (lr : 5
       let risen = sym (ap (λ (l : List Entry). ascending (seqs l)) (stands u .waits)) ∙ p .1 .1 .1 .1 .1 .1 .1 .1 .1 .1 .0 in
       and-both (leb (usedRows b) 512) _ (f .1 .1 .1 .0)
       (and-both (ringsFormed (at 14 h) (drop 113 h)) _ (f .1 .1 .1 .1 .0)
-      (same-kind
+      (and-both (tablesOk (kindBy (eqb (at 0 h) 0)) (bound (at 3 h)) (subRows us) (at 15 h) (at 16 h) us rows) _ (same-kind
       ∙ all-every tests (
         and-left (emptyBy k (at 15 h + at 16 h)) (queueApart k (subRows us) (at 15 h) (at 16 h) us rows) place,
         (
@@ -425,7 +440,7 @@ module _ (h : List ℕ) (subs rows : List Row) (ls : 32 ≤ length subs) (lr : 5
             ),
           ),
         ),
-      )))
+      )) (sym (shares-same u) ∙ p .1 .1 .1 .1 .1 .1 .1 .1 .1 .1 .1 .1 .1 .1 .1 .1 .1 .1 .1 .1 .1 .1 .1 .0)))
 
   few-rows : usedRows b ≤ 512 → length (allRows (view b)) ≤ 512
   unfolding view
@@ -446,6 +461,8 @@ module _ (h : List ℕ) (subs rows : List Row) (ls : 32 ≤ length subs) (lr : 5
       let l2 = and-right (leb 1 (at 2 h)) _ limits in
       let l3 = and-right (leb (at 2 h) (2 ^ 40)) _ l2 in
       let l4 = and-right (leb (at 3 h) (at 2 h)) _ l3 in
+      let l5 = and-right (leb (at 1 h) 512) _ l4 in
+      let l6 = and-right (leb (at 8345 h) 86400000) _ l5 in
       let others = and-right (limitsOk h) _ e in
       let counts = and-left (countsOk h) _ others in
       let c2 = and-right (leb (at 12 h) 32) _ counts in
@@ -457,7 +474,9 @@ module _ (h : List ℕ) (subs rows : List Row) (ls : 32 ≤ length subs) (lr : 5
       let f4 = and-left (leb (usedRows b) 512) _ g in
       let g2 = and-right (leb (usedRows b) 512) _ g in
       let f5 = and-left (ringsFormed (at 14 h) (drop 113 h)) _ g2 in
-      let p = every-all tests (sym same-kind ∙ and-right (ringsFormed (at 14 h) (drop 113 h)) _ g2) in
+      let g3 = and-right (ringsFormed (at 14 h) (drop 113 h)) _ g2 in
+      let p = every-all tests (sym same-kind ∙ and-left (tablesOk (kindBy (eqb (at 0 h) 0)) (bound (at 3 h)) (subRows us) (at 15 h) (at 16 h) us rows) _ g3) in
+      let shared = and-right (tablesOk (kindBy (eqb (at 0 h) 0)) (bound (at 3 h)) (subRows us) (at 15 h) (at 16 h) us rows) _ g3 in
       let u = leb-true (usedRows b) 512 f4 in
       let n = leb-true (at 12 h) 32 f1 in
       let o = subRows us in
@@ -511,7 +530,7 @@ module _ (h : List ℕ) (subs rows : List Row) (ls : 32 ≤ length subs) (lr : 5
                                           optional-test clockOk (at 5 h) (at 6 h) ∙ and-right (isMark (at 5 h)) _ m2,
                                           (
                                             le-leb (length (auditsAt (at 14 h) (drop 113 h))) 8 (omega (arith, audits-count (at 14 h) (drop 113 h), leb-true (at 14 h) 8 f3)),
-                                            (audits-fit (at 14 h) (drop 113 h) (words-drop 113 h words) f5, (and-right (leb (at 1 h) 512) _ l4, (sizes-same u ∙ p .1 .1 .1 .1 .1 .1 .0, tt))),
+                                            (audits-fit (at 14 h) (drop 113 h) (words-drop 113 h words) f5, (and-left (leb (at 8345 h) 86400000) _ l5, (sizes-same u ∙ p .1 .1 .1 .1 .1 .1 .0, (and-left (leb 1 (at 8346 h)) _ l6, (and-right (leb 1 (at 8346 h)) _ l6, (shares-same u ∙ shared, tt)))))),
                                           ),
                                         ),
                                       ),

@@ -15,7 +15,7 @@ use Rattle.definition.specs.Calls.{bound, countersOk, stateShort}
 use Rattle.definition.specs.Words.{at}
 use Rattle.definition.specs.Layout.{Row, Buffers, statsAt, subsAt, subRows, usedSubs, usedRows, ringsFormed, lengthsOf}
 use Rattle.definition.proofs.Tests.{and-left, and-right}
-use Rattle.sound.specs.Sound.{limitsOk, countsOk, marksOk, headOk, rowOk, holderOk, sortedOk, eachOk, kindBy, idsApart, apartBy, rowsUpTo, emptyBy, reservedAt, waitingAt, queueSeqs, queueApart, sizesAt, tablesOk, restOk}
+use Rattle.sound.specs.Sound.{limitsOk, countsOk, marksOk, headOk, rowOk, holderOk, sortedOk, eachOk, kindBy, idsApart, apartBy, rowsUpTo, emptyBy, reservedAt, waitingAt, queueSeqs, queueApart, sizesAt, tablesOk, sharesAt, restOk}
 use Rattle.sound.proofs.Tests.{part-of}
 use Rattle.sound.proofs.Head.{limits-used}
 use Rattle.sound.proofs.Subs.{rows-in, rows-over}
@@ -141,24 +141,40 @@ module _ (q : Bool) (most others reserved waiting : ℕ) (subs rows : List Row) 
 
 -- ---- the rest
 
-pub rest-over : (b : Buffers) → 512 < usedRows b → false ≡ restOk b
-unfolding restOk
-rest-over b h =
-    sym (ap (λ (t : Bool). t
-    && (ringsFormed (at 14 (b .head)) (drop 113 (b .head))
-    && tablesOk (kindBy (eqb (at 0 (b .head)) 0)) (bound (at 3 (b .head))) (subRows (usedSubs b)) (at 15 (b .head)) (at 16 (b .head)) (usedSubs b) (b .rows)))
-    (lt-leb (usedRows b) 512 h))
+module _ (b : Buffers) where
+  abbrev pub rings : Bool
+  rings = ringsFormed (at 14 (b .head)) (drop 113 (b .head))
 
-pub rest-tests : (b : Buffers) → usedRows b ≤ 512
-    → (ringsFormed (at 14 (b .head)) (drop 113 (b .head))
-    && tablesOk (kindBy (eqb (at 0 (b .head)) 0)) (bound (at 3 (b .head))) (subRows (usedSubs b)) (at 15 (b .head)) (at 16 (b .head)) (usedSubs b) (b .rows))
-    ≡ restOk b
-unfolding restOk
-rest-tests b h =
-    sym (ap (λ (t : Bool). t
-    && (ringsFormed (at 14 (b .head)) (drop 113 (b .head))
-    && tablesOk (kindBy (eqb (at 0 (b .head)) 0)) (bound (at 3 (b .head))) (subRows (usedSubs b)) (at 15 (b .head)) (at 16 (b .head)) (usedSubs b) (b .rows)))
-    (le-leb (usedRows b) 512 h))
+  abbrev pub tables : Bool
+  tables = tablesOk (kindBy (eqb (at 0 (b .head)) 0)) (bound (at 3 (b .head))) (subRows (usedSubs b)) (at 15 (b .head)) (at 16 (b .head)) (usedSubs b) (b .rows)
+
+  abbrev shares : Bool
+  shares = sharesAt (at 8346 (b .head)) (eqb (at 0 (b .head)) 0) (subRows (usedSubs b)) (at 15 (b .head) + at 16 (b .head)) (usedSubs b) (b .rows)
+
+  pub rest-over : 512 < usedRows b → false ≡ restOk b
+  unfolding restOk
+  rest-over h = sym (ap (λ (t : Bool). t && (rings && (tables && shares))) (lt-leb (usedRows b) 512 h))
+
+  rest-tests : usedRows b ≤ 512 → (rings && (tables && shares)) ≡ restOk b
+  unfolding restOk
+  rest-tests h = sym (ap (λ (t : Bool). t && (rings && (tables && shares))) (le-leb (usedRows b) 512 h))
+
+  -- where all but the shares is tested
+  pub rest-stop : usedRows b ≤ 512 → (rings && tables) ≡ false → false ≡ restOk b
+  rest-stop h e = stop rings tables shares e ∙ rest-tests h
+    where
+      stop : (x y z : Bool) → (x && y) ≡ false → false ≡ (x && (y && z))
+      stop true true z r = absurd (true≢false r)
+      stop true false z r = refl
+      stop false y z r = refl
+
+  pub rest-last : usedRows b ≤ 512 → (rings && tables) ≡ true → shares ≡ restOk b
+  rest-last h e = last rings tables shares e ∙ rest-tests h
+    where
+      last : (x y z : Bool) → (x && y) ≡ true → z ≡ (x && (y && z))
+      last true true z r = refl
+      last true false z r = absurd (true≢false (sym r))
+      last false y z r = absurd (true≢false (sym r))
 
 -- a count that stops at 513
 pub count-over : (m k : ℕ) → 512 < rowsUpTo m + k → 512 < m + k
@@ -189,11 +205,11 @@ head-counts h e =
       limits-used h (and-left (limitsOk h) (countsOk h && (marksOk h && countersOk (bound (at 3 h)) (statsAt h))) e),
     )
 
-pub long-enough : (b : Buffers) → not (stateShort (lengthsOf b 0)) ≡ true → (8346 ≤ length (b .head)) × (32 ≤ length (b .subs)) × (512 ≤ length (b .rows))
+pub long-enough : (b : Buffers) → not (stateShort (lengthsOf b 0)) ≡ true → (8347 ≤ length (b .head)) × (32 ≤ length (b .subs)) × (512 ≤ length (b .rows))
 unfolding stateShort
 long-enough b e =
-    let p = parts (ltb (length (b .head)) 8346) (ltb (length (b .subs)) 32) (ltb (length (b .rows)) 512) e in
-    (ltb-false (length (b .head)) 8346 (p .0), ltb-false (length (b .subs)) 32 (p .1), ltb-false (length (b .rows)) 512 (p .2))
+    let p = parts (ltb (length (b .head)) 8347) (ltb (length (b .subs)) 32) (ltb (length (b .rows)) 512) e in
+    (ltb-false (length (b .head)) 8347 (p .0), ltb-false (length (b .subs)) 32 (p .1), ltb-false (length (b .rows)) 512 (p .2))
   where
     parts : (x y z : Bool) → not (x || (y || z)) ≡ true → (x ≡ false) × (y ≡ false) × (z ≡ false)
     parts true y z e = absurd (true≢false (sym e))

@@ -15,13 +15,14 @@ use Rattle.definition.specs.Types.{Kind, queue, topic, Sub}
 use Rattle.definition.specs.Consumer.{isBrowser}
 use Rattle.definition.specs.Calls.{idOk, entryOk, optional, bound, seqs, rowsOf, subPlaced, taken, countersOk, sizesAgree}
 use Rattle.definition.specs.Words.{at}
+use Rattle.shares.specs.Shares.{withinEach, conns}
 pub use Rattle.definition.specs.Words.{kindBy}
 use Rattle.definition.specs.Layout.{Row, Buffers, flag, idAt, heldAt, subAt, eachSub, statsAt, subsAt, subRows, usedSubs, usedRows, ringsFormed, isMark, entryStrict, wordsStrict, subStrict}
 
 -- ---- the head
 
 abbrev pub limitsOk : List ℕ → Bool
-limitsOk h = leb 1 (at 2 h) && (leb (at 2 h) (2 ^ 40) && (leb (at 3 h) (at 2 h) && (leb (at 1 h) 512 && leb (at 8345 h) 86400000)))
+limitsOk h = leb 1 (at 2 h) && (leb (at 2 h) (2 ^ 40) && (leb (at 3 h) (at 2 h) && (leb (at 1 h) 512 && (leb (at 8345 h) 86400000 && (leb 1 (at 8346 h) && leb (at 8346 h) 512)))))
 
 abbrev pub countsOk : List ℕ → Bool
 countsOk h = leb (at 12 h) 32 && (leb (at 13 h) 32 && (leb (at 14 h) 8 && (ltb (at 4 h) (at 12 h) || eqb (at 4 h) 0)))
@@ -182,6 +183,19 @@ tableTests k most others reserved waiting subs rows =
 unfoldable pub tablesOk : Kind → ℕ → ℕ → ℕ → ℕ → List Row → List Row → Bool
 tablesOk k most others reserved waiting subs rows = every (tableTests k most others reserved waiting subs rows)
 
+-- ---- shares, for so many rows of consumers and besides
+
+abbrev pub connsAt : List Row → List ℕ
+connsAt l = map (at 3) l
+
+-- the connections of the rows that belong to any: on a queue no browser's
+abbrev pub ownConns : Bool → ℕ → ℕ → List Row → List Row → List ℕ
+ownConns true others rest subs rows = connsAt (take rest (drop others rows)) ++ conns (taken (subsAt queue subs rows))
+ownConns false others rest subs rows = connsAt (take (others + rest) rows)
+
+abbrev pub sharesAt : ℕ → Bool → ℕ → ℕ → List Row → List Row → Bool
+sharesAt share q others rest subs rows = withinEach share (ownConns q others rest subs rows)
+
 -- ---- all
 
 abbrev pub lent : List ℕ → List Row → List Row → Buffers
@@ -193,4 +207,5 @@ restOk b =
     let h = b .head in
     leb (usedRows b) 512
     && (ringsFormed (at 14 h) (drop 113 h)
-    && tablesOk (kindBy (eqb (at 0 h) 0)) (bound (at 3 h)) (subRows (usedSubs b)) (at 15 h) (at 16 h) (usedSubs b) (b .rows))
+    && (tablesOk (kindBy (eqb (at 0 h) 0)) (bound (at 3 h)) (subRows (usedSubs b)) (at 15 h) (at 16 h) (usedSubs b) (b .rows)
+    && sharesAt (at 8346 h) (eqb (at 0 h) 0) (subRows (usedSubs b)) (at 15 h + at 16 h) (usedSubs b) (b .rows)))

@@ -16,7 +16,8 @@ ghost use Rattle.definition.specs.Calls.{idOk, countersOk, seqs, taken, stateSh
 ghost use Rattle.definition.specs.Words.{at};
 ghost use Rattle.definition.specs.Layout.{flag, idAt, statsAt, eachSub, subsAt, subRows, ringsFormed, wordsStrict, soundBuffers, lengthsOf};
 ghost use Rattle.copies.specs.Copies.{sharedBy};
-ghost use Rattle.sound.specs.Sound.{limitsOk, countsOk, marksOk, headOk, rowFits, rowOk, flightOk, holderOk, flyingOk, sortedOk, wordTests, ownOk, eachOk, kindBy, idsApart, seqsAt, heldSeqs, heldRise, SameFrom, apartBy, rowsUpTo, queueSeqs, queueApart, sizesAt, tablesOk, lent, restOk};
+ghost use Rattle.shares.specs.Shares.{conns};
+ghost use Rattle.sound.specs.Sound.{limitsOk, countsOk, marksOk, headOk, rowFits, rowOk, flightOk, holderOk, flyingOk, sortedOk, wordTests, ownOk, eachOk, kindBy, idsApart, seqsAt, heldSeqs, heldRise, SameFrom, apartBy, rowsUpTo, queueSeqs, queueApart, sizesAt, tablesOk, connsAt, ownConns, sharesAt, lent, restOk};
 
 type SubRow = [u64; 16];
 
@@ -34,17 +35,20 @@ const PREFETCH_END: u64 = 2147483648;
 // ---- the head
 
 fn limits_ok(head: &[u64]) -> bool
-    requires { do ⌜ 8346 ≤ (← ⟦head.len()⟧) ⌝ }
+    requires { do ⌜ 8347 ≤ (← ⟦head.len()⟧) ⌝ }
     ensures { λ r. ⌜ r ≡ limitsOk (now (head .entry)) ⌝ }
 {
     let limit = head[2];
+    let share = head[8346];
     (1 <= limit)
         & ((limit <= CALLS_MOST)
-            & ((head[3] <= limit) & ((head[1] <= 512) & (head[8345] <= ALLOWANCE_MOST))))
+            & ((head[3] <= limit)
+                & ((head[1] <= 512)
+                    & ((head[8345] <= ALLOWANCE_MOST) & ((1 <= share) & (share <= 512))))))
 }
 
 fn counts_ok(head: &[u64]) -> bool
-    requires { do ⌜ 8346 ≤ (← ⟦head.len()⟧) ⌝ }
+    requires { do ⌜ 8347 ≤ (← ⟦head.len()⟧) ⌝ }
     ensures { λ r. ⌜ r ≡ countsOk (now (head .entry)) ⌝ }
 {
     let n = head[12];
@@ -54,7 +58,7 @@ fn counts_ok(head: &[u64]) -> bool
 
 // The kind and whether it is idle, and since when.
 fn marks_ok(head: &[u64]) -> bool
-    requires { do ⌜ 8346 ≤ (← ⟦head.len()⟧) ⌝ }
+    requires { do ⌜ 8347 ≤ (← ⟦head.len()⟧) ⌝ }
     ensures { λ r. ⌜ r ≡ marksOk (now (head .entry)) ⌝ }
 {
     let idle = head[5];
@@ -62,7 +66,7 @@ fn marks_ok(head: &[u64]) -> bool
 }
 
 fn counters_ok(head: &[u64], most: u64) -> bool
-    requires { do ⌜ 8346 ≤ (← ⟦head.len()⟧) ⌝ }
+    requires { do ⌜ 8347 ≤ (← ⟦head.len()⟧) ⌝ }
     ensures { λ r. ⌜ r ≡ countersOk most (statsAt (now (head .entry))) ⌝ }
 {
     (head[7] <= most)
@@ -71,7 +75,7 @@ fn counters_ok(head: &[u64], most: u64) -> bool
 }
 
 fn head_ok(head: &[u64]) -> bool
-    requires { do ⌜ 8346 ≤ (← ⟦head.len()⟧) ⌝ }
+    requires { do ⌜ 8347 ≤ (← ⟦head.len()⟧) ⌝ }
     ensures { λ r. ⌜ r ≡ headOk (now (head .entry)) ⌝ }
 {
     if !limits_ok(head) {
@@ -82,7 +86,7 @@ fn head_ok(head: &[u64]) -> bool
 
 // Each of n audits.
 fn rings_ok(head: &[u64], n: u64) -> bool
-    requires { do ⌜ 8346 ≤ (← ⟦head.len()⟧) ⌝ }
+    requires { do ⌜ 8347 ≤ (← ⟦head.len()⟧) ⌝ }
     requires { ⌜ n ≤ 8 ⌝ }
     ensures { λ r. ⌜ r ≡ ringsFormed n (drop 113 (now (head .entry))) ⌝ }
 {
@@ -625,6 +629,92 @@ fn sizes_ok(subs: &[SubRow], n: usize, rows: &[Row], used: usize, on_queue: bool
     copies::agree(rows, used)
 }
 
+// ---- shares
+
+// Copies the connections of n rows from place from into out, from place start.
+fn gather_conns(rows: &[Row], from: usize, n: usize, out: &mut [u64], start: usize)
+    requires { do ⌜ from + n ≤ (← ⟦rows.len()⟧) ⌝ }
+    requires { do ⌜ start + n ≤ (← ⟦out.len()⟧) ⌝ }
+    ensures { λ r. ⌜ take (start + n) (now (out .exit)) ≡ take start (now (out .entry)) ++ connsAt (take n (drop from (now (rows .entry)))) ⌝ }
+{
+    let mut i = 0;
+    while i < n {
+        let row = rows[from + i];
+        out[start + i] = row[3];
+        i += 1;
+    }
+}
+
+// Gathers those of a queue's entries in flight; returns where they end.
+fn taken_conns(subs: &[SubRow], n: usize, rows: &[Row], out: &mut [u64], start: usize) -> usize
+    requires { do ⌜ n ≤ (← ⟦subs.len()⟧) ⌝ }
+    requires { do ⌜ subRows (take n (now subs)) ≤ (← ⟦rows.len()⟧) ⌝ }
+    requires { do ⌜ start + subRows (take n (now subs)) ≤ (← ⟦out.len()⟧) ⌝ }
+    ensures { λ r. ⌜ take r (now (out .exit)) ≡ take start (now (out .entry)) ++ conns (taken (subsAt queue (take n (now (subs .entry))) (now (rows .entry)))) ⌝ }
+{
+    let mut end = start;
+    let mut base = 0;
+    let mut i = 0;
+    while i < n {
+        let w = subs[i];
+        let k = taken_of(w);
+        gather_conns(rows, base, k, out, end);
+        end += k;
+        base += w[14] as usize + w[15] as usize;
+        i += 1;
+    }
+    end
+}
+
+// Gathers those of all rows that belong to connections; returns how many.
+fn own_conns(
+    subs: &[SubRow],
+    n: usize,
+    rows: &[Row],
+    others: usize,
+    rest: usize,
+    on_queue: bool,
+    out: &mut [u64],
+) -> usize
+    requires { do ⌜ n ≤ (← ⟦subs.len()⟧) ⌝ }
+    requires { ⌜ others ≡ subRows (take n (now subs)) ⌝ }
+    requires { do ⌜ others + rest ≤ (← ⟦rows.len()⟧) ⌝ }
+    requires { do ⌜ others + rest ≤ (← ⟦out.len()⟧) ⌝ }
+    requires { ⌜ others + rest ≤ 512 ⌝ }
+    ensures { λ r. ⌜ take r (now (out .exit)) ≡ ownConns «on_queue» others rest (take n (now (subs .entry))) (now (rows .entry)) ⌝ }
+{
+    if !on_queue {
+        gather_conns(rows, 0, others + rest, out, 0);
+        return others + rest;
+    }
+    gather_conns(rows, others, rest, out, 0);
+    taken_conns(subs, n, rows, out, rest)
+}
+
+// Whether no connection has more rows than the share. Where no more are in use, none is looked at.
+fn shares_ok(
+    subs: &[SubRow],
+    n: usize,
+    rows: &[Row],
+    others: usize,
+    rest: usize,
+    share: u64,
+    on_queue: bool,
+) -> bool
+    requires { do ⌜ n ≤ (← ⟦subs.len()⟧) ⌝ }
+    requires { ⌜ others ≡ subRows (take n (now subs)) ⌝ }
+    requires { do ⌜ others + rest ≤ (← ⟦rows.len()⟧) ⌝ }
+    requires { ⌜ others + rest ≤ 512 ⌝ }
+    ensures { λ r. ⌜ r ≡ sharesAt share «on_queue» others rest (take n (now (subs .entry))) (now (rows .entry)) ⌝ }
+{
+    if (others + rest) as u64 <= share {
+        return true;
+    }
+    let mut out = [0u64; 512];
+    let end = own_conns(subs, n, rows, others, rest, on_queue, &mut out);
+    shares::within(&out, end, share)
+}
+
 // ---- all
 
 // The consumers and the rows, whose counts fit.
@@ -663,7 +753,7 @@ fn tables_ok(
 
 // What follows the head's own numbers.
 fn rest_ok(head: &[u64], subs: &[SubRow], rows: &[Row]) -> bool
-    requires { do ⌜ 8346 ≤ (← ⟦head.len()⟧) ⌝ }
+    requires { do ⌜ 8347 ≤ (← ⟦head.len()⟧) ⌝ }
     requires { do ⌜ 32 ≤ (← ⟦subs.len()⟧) ⌝ }
     requires { do ⌜ 512 ≤ (← ⟦rows.len()⟧) ⌝ }
     requires { ⌜ headOk (now head) ≡ true ⌝ }
@@ -684,14 +774,18 @@ fn rest_ok(head: &[u64], subs: &[SubRow], rows: &[Row]) -> bool
     }
     let rings = rings_ok(head, head[14]);
     let most = 65536 * head[3] + 1;
-    rings & tables_ok(subs, n, rows, others, reserved, waiting, most, head[0] == 0)
+    let on_queue = head[0] == 0;
+    if !(rings & tables_ok(subs, n, rows, others, reserved, waiting, most, on_queue)) {
+        return false;
+    }
+    shares_ok(subs, n, rows, others, reserved + waiting, head[8346], on_queue)
 }
 
 // Whether the buffers are long enough.
 pub fn whole(head: &[u64], subs: &[SubRow], rows: &[Row]) -> bool
     ensures { λ r. ⌜ r ≡ not (stateShort (lengthsOf (lent (now (head .entry)) (now (subs .entry)) (now (rows .entry))) 0)) ⌝ }
 {
-    !((head.len() < 8346) | ((subs.len() < 32) | (rows.len() < 512)))
+    !((head.len() < 8347) | ((subs.len() < 32) | (rows.len() < 512)))
 }
 
 // Whether they are long enough and the layout of a sound state.

@@ -143,7 +143,7 @@ module _ (d : Head) (subs rows : List Row) (producers : List Id) (audits : List 
 
 -- buffers that are long enough
 pub record Long (b : Buffers) (room : ℕ) : Type 0 where
-  pub head : 8346 ≤ length (b .head)
+  pub head : 8347 ≤ length (b .head)
   pub subs : 32 ≤ length (b .subs)
   pub rows : 512 ≤ length (b .rows)
   pub events : 545 ≤ room
@@ -153,16 +153,16 @@ unfolding short stateShort
 not-short b events h =
     let l = lengthsOf b events in
     let s = or-no-left (stateShort l) (ltb (l .events) 545) h in
-    let t = or-no-right (ltb (l .head) 8346) (ltb (l .subs) 32 || ltb (l .rows) 512) s in
+    let t = or-no-right (ltb (l .head) 8347) (ltb (l .subs) 32 || ltb (l .rows) 512) s in
     record {
-      head = ltb-false _ _ (or-no-left (ltb (l .head) 8346) (ltb (l .subs) 32 || ltb (l .rows) 512) s);
+      head = ltb-false _ _ (or-no-left (ltb (l .head) 8347) (ltb (l .subs) 32 || ltb (l .rows) 512) s);
       subs = ltb-false _ _ (or-no-left (ltb (l .subs) 32) (ltb (l .rows) 512) t);
       rows = ltb-false _ _ (or-no-right (ltb (l .subs) 32) (ltb (l .rows) 512) t);
       events = ltb-false _ _ (or-no-right (stateShort l) (ltb (l .events) 545) h);
     }
 
 -- the rows in use, where there are no more than the table has
-pub loaded-used : (h : List ℕ) (subs : List Row) → 8346 ≤ length h → subRows (take (at 12 h) subs) + (at 15 h + at 16 h) ≤ 512
+pub loaded-used : (h : List ℕ) (subs : List Row) → 8347 ≤ length h → subRows (take (at 12 h) subs) + (at 15 h + at 16 h) ≤ 512
     → loaded h subs ≡ headOf h (subRows (take (at 12 h) subs) + (at 15 h + at 16 h))
 loaded-used h subs l u = loaded-long h subs l ∙ ap (headOf h) (omega arith)
 

@@ -35,6 +35,7 @@ leaves-as f g d r subs rows events subs′ rows′ events′ h a = record {
   audits = a .audits;
   queue = a .queue;
   allowance = a .allowance;
+  share = a .share;
   consumers = a .consumers;
   used = a .used;
   rows-used = a .rows-used;
@@ -84,6 +85,7 @@ module _ (f g : Dest → Out) (d r q : Head) (subs rows events subs′ rows′ e
       audits = b .audits ∙ a .audits;
       queue = b .queue ∙ a .queue;
       allowance = b .allowance ∙ a .allowance;
+      share = b .share ∙ a .share;
       consumers = b .consumers;
       used = b .used;
       rows-used = b .rows-used;
@@ -98,9 +100,9 @@ module _ (f g : Dest → Out) (d r q : Head) (subs rows events subs′ rows′ e
 module _ (d : Head) (subs rows events : List Row) (s : Stands d subs) where
   -- the tables as they are, with a head that has the same counts
   quiet : (f : Dest → Dest) (r : Head) → ((producers : List Id) (audits : List Audit) → length producers ≡ d .producers → headView r subs rows producers audits ≡ f (headView d subs rows producers audits))
-      → r .events ≡ d .events → r .producers ≡ d .producers → r .audits ≡ d .audits → r .queue ≡ d .queue → r .allowance ≡ d .allowance → Stands r subs
+      → r .events ≡ d .events → r .producers ≡ d .producers → r .audits ≡ d .audits → r .queue ≡ d .queue → r .allowance ≡ d .allowance → r .share ≡ d .share → Stands r subs
       → strictTables r subs rows ≡ strictTables d subs rows → Leaves (silent f) d r subs rows events subs rows events
-  quiet f r v e p a q l t w = record {
+  quiet f r v e p a q l k t w = record {
     view = v;
     sent = λ producers audits h. ap (λ (n : ℕ). take n events) e ∙ sym (append-nil (take (d .events) events));
     later = refl;
@@ -109,6 +111,7 @@ module _ (d : Head) (subs rows events : List Row) (s : Stands d subs) where
     audits = a;
     queue = q;
     allowance = l;
+    share = k;
     consumers = t .consumers;
     used = t .used;
     rows-used = t .rows-used;
@@ -122,7 +125,7 @@ module _ (d : Head) (subs rows events : List Row) (s : Stands d subs) where
 
   -- nothing
   pub leaves-rest : Leaves (silent (λ t. t)) d d subs rows events subs rows events
-  leaves-rest = quiet (λ t. t) d (λ producers audits h. refl) refl refl refl refl refl s refl
+  leaves-rest = quiet (λ t. t) d (λ producers audits h. refl) refl refl refl refl refl refl s refl
 
   -- `touch_idle`
   pub leaves-touch : (now : ℕ) → 32 ≤ length subs → 512 ≤ length rows → Leaves (silent (touchIdle now)) d (touched now d) subs rows events subs rows events
@@ -130,6 +133,6 @@ module _ (d : Head) (subs rows events : List Row) (s : Stands d subs) where
       let m = touched-mark now d in
       quiet (touchIdle now) (touched now d)
       (λ producers audits h. touch-view subs rows producers audits now d (omega (arith, s .consumers)) (omega (arith, s .rows-used, s .used)) h)
-      (ap (λ (x : Head). x .events) m) (ap (λ (x : Head). x .producers) m) (ap (λ (x : Head). x .audits) m) (ap (λ (x : Head). x .queue) m) (ap (λ (x : Head). x .allowance) m)
+      (ap (λ (x : Head). x .events) m) (ap (λ (x : Head). x .producers) m) (ap (λ (x : Head). x .audits) m) (ap (λ (x : Head). x .queue) m) (ap (λ (x : Head). x .allowance) m) (ap (λ (x : Head). x .share) m)
       (rw m (record { consumers = s .consumers; used = s .used; rows-used = s .rows-used }))
       (ap (λ (x : Head). strictTables x subs rows) m)

@@ -9,7 +9,7 @@ use native.Mathlib.Omega.{arith}
 use borrow.Author.Tests.{lt-ltb, le-ltb}
 use lib.Dec.{eqb, leb, eqb·suc-zero}
 use lib.ListN.{length, take, drop, set, length-drop, length-set}
-use lib.Seq.{drop-drop, drop-set-lt, getD-drop, getD-set-same, set-getD}
+use lib.Seq.{drop-drop, drop-set-lt, getD-drop, getD-set-same, getD-set-other, set-getD}
 use Rattle.words.proofs.Words.{flag-of-word}
 use Rattle.definition.specs.Base.{if_then_else_, every, empty}
 use Rattle.definition.proofs.Tests.{by-if}
@@ -37,34 +37,36 @@ pub kind-word : (b : Bool) → kindOf (kindWord b) ≡ kindBy b
 kind-word true = refl
 kind-word false = refl
 
-pub loaded-long : (h : List ℕ) (subs : List Row) → 8346 ≤ length h → loaded h subs ≡ headOf h (usedOf h subs)
+pub loaded-long : (h : List ℕ) (subs : List Row) → 8347 ≤ length h → loaded h subs ≡ headOf h (usedOf h subs)
 unfolding loaded
-loaded-long h subs l = rw (le-ltb (length h) 8346 l)
+loaded-long h subs l = rw (le-ltb (length h) 8347 l)
 
--- what is left after the words at the front, with the allowance in its place
+-- what is left after the words at the front, with the allowance and the share in their places
 abbrev pub settled : Head → List ℕ → List ℕ
-settled d h = set (drop 17 h) 8328 (d .allowance)
+settled d h = set (set (drop 17 h) 8328 (d .allowance)) 8329 (d .share)
 
-pub stored-long : (d : Head) (h : List ℕ) → 8346 ≤ length h → stored d h ≡ headWords d ++ settled d h
+pub stored-long : (d : Head) (h : List ℕ) → 8347 ≤ length h → stored d h ≡ headWords d ++ settled d h
 unfolding stored headWords
-stored-long d h l = rw (le-ltb (length h) 8346 l)
+stored-long d h l = rw (le-ltb (length h) 8347 l)
 
-pub stored-short : (d : Head) (h : List ℕ) → length h ≤ 8345 → stored d h ≡ h
+pub stored-short : (d : Head) (h : List ℕ) → length h ≤ 8346 → stored d h ≡ h
 unfolding stored
-stored-short d h l = rw (lt-ltb (length h) 8346 (omega arith))
+stored-short d h l = rw (lt-ltb (length h) 8347 (omega arith))
 
-pub stored-length : (d : Head) (h : List ℕ) → 8346 ≤ length h → length (stored d h) ≡ length h
+pub stored-length : (d : Head) (h : List ℕ) → 8347 ≤ length h → length (stored d h) ≡ length h
 unfolding headWords
-stored-length d h l = rw (stored-long d h l) (omega (arith, length-set (drop 17 h) 8328 (d .allowance), length-drop 17 h))
+stored-length d h l = rw (stored-long d h l) (omega (arith, length-set (set (drop 17 h) 8328 (d .allowance)) 8329 (d .share), length-set (drop 17 h) 8328 (d .allowance), length-drop 17 h))
 
 -- what stands after all the words stays
-pub stored-past : (d : Head) (h : List ℕ) → 8346 ≤ length h → drop 8346 (stored d h) ≡ drop 8346 h
+pub stored-past : (d : Head) (h : List ℕ) → 8347 ≤ length h → drop 8347 (stored d h) ≡ drop 8347 h
 unfolding headWords
-stored-past d h l = rw (stored-long d h l) (drop-set-lt 8329 (drop 17 h) 8328 (d .allowance) (omega arith) ∙ drop-drop 8329 17 h)
+stored-past d h l = rw (stored-long d h l) (drop-set-lt 8330 (set (drop 17 h) 8328 (d .allowance)) 8329 (d .share) (omega arith) ∙ drop-set-lt 8330 (drop 17 h) 8328 (d .allowance) (omega arith) ∙ drop-drop 8330 17 h)
 
--- with the allowance that was there, so do the producers and audits
-pub settled-same : (d : Head) (h : List ℕ) → d .allowance ≡ at 8345 h → settled d h ≡ drop 17 h
-settled-same d h a = ap (set (drop 17 h) 8328) (a ∙ sym (getD-drop 17 h 8328 0)) ∙ set-getD (drop 17 h) 8328 0
+-- with the allowance and the share that were there, so do the producers and audits
+pub settled-same : (d : Head) (h : List ℕ) → d .allowance ≡ at 8345 h → d .share ≡ at 8346 h → settled d h ≡ drop 17 h
+settled-same d h a b =
+    ap (λ (l : List ℕ). set l 8329 (d .share)) (ap (set (drop 17 h) 8328) (a ∙ sym (getD-drop 17 h 8328 0)) ∙ set-getD (drop 17 h) 8328 0)
+    ∙ ap (set (drop 17 h) 8329) (b ∙ sym (getD-drop 17 h 8329 0)) ∙ set-getD (drop 17 h) 8329 0
 
 module _ (subs rows : List Row) where
   -- the view of the buffers is that of the numbers that are loaded
@@ -74,20 +76,21 @@ module _ (subs rows : List Row) where
   loaded-view h used = refl
 
   -- stored numbers are viewed as they are, with the producers and audits that the head then has
-  pub stored-any : (d : Head) (h : List ℕ) → 8346 ≤ length h
+  pub stored-any : (d : Head) (h : List ℕ) → 8347 ≤ length h
       → view (record { head = stored d h; subs = subs; rows = rows }) ≡ headView d subs rows (idsAt (d .producers) (settled d h)) (auditsAt (d .audits) (drop 96 (settled d h)))
   unfolding headView headWords view
   stored-any d h l =
-      let a : at 8328 (settled d h) ≡ d .allowance = getD-set-same (drop 17 h) 8328 (d .allowance) 0 (omega (arith, length-drop 17 h)) in
-      rw (stored-long d h l, a, kind-word (d .queue), flag-of-word (d .idle))
+      let a : at 8328 (settled d h) ≡ d .allowance = getD-set-other (set (drop 17 h) 8328 (d .allowance)) 8329 8328 (d .share) 0 (λ e. absurd (omega (arith, e))) ∙ getD-set-same (drop 17 h) 8328 (d .allowance) 0 (omega (arith, length-drop 17 h)) in
+      let b : at 8329 (settled d h) ≡ d .share = getD-set-same (set (drop 17 h) 8328 (d .allowance)) 8329 (d .share) 0 (omega (arith, length-set (drop 17 h) 8328 (d .allowance), length-drop 17 h)) in
+      rw (stored-long d h l, a, b, kind-word (d .queue), flag-of-word (d .idle))
 
-  -- with those of the head, where the allowance is that of the head
-  pub stored-view : (d : Head) (h : List ℕ) → 8346 ≤ length h → d .allowance ≡ at 8345 h
+  -- with those of the head, where the allowance and the share are those of the head
+  pub stored-view : (d : Head) (h : List ℕ) → 8347 ≤ length h → d .allowance ≡ at 8345 h → d .share ≡ at 8346 h
       → view (record { head = stored d h; subs = subs; rows = rows }) ≡ headView d subs rows (idsAt (d .producers) (drop 17 h)) (auditsAt (d .audits) (drop 113 h))
-  stored-view d h l a = stored-any d h l
-      ∙ ap₂ (λ (x y : List ℕ). headView d subs rows (idsAt (d .producers) x) (auditsAt (d .audits) y)) (settled-same d h a) (ap (drop 96) (settled-same d h a) ∙ drop-drop 96 17 h)
+  stored-view d h l a b = stored-any d h l
+      ∙ ap₂ (λ (x y : List ℕ). headView d subs rows (idsAt (d .producers) x) (auditsAt (d .audits) y)) (settled-same d h a b) (ap (drop 96) (settled-same d h a b) ∙ drop-drop 96 17 h)
 
-  pub stored-strict : (d : Head) (h : List ℕ) → 8346 ≤ length h → strict (record { head = stored d h; subs = subs; rows = rows }) ≡ strictTables d subs rows
+  pub stored-strict : (d : Head) (h : List ℕ) → 8347 ≤ length h → strict (record { head = stored d h; subs = subs; rows = rows }) ≡ strictTables d subs rows
   unfolding headWords strict
   stored-strict d h l = rw (stored-long d h l, kind-mark (d .queue), mark-byte (d .idle), and-true)
 
@@ -95,7 +98,7 @@ module _ (subs rows : List Row) where
   unfolding headOf strict
   loaded-strict h used s = every-all (isMark (at 0 h) ∷ isMark (at 5 h) ∷ strictTables (headOf h used) subs rows ∷ []) s .1 .1 .0
 
-  pub stored-formed : (d : Head) (h : List ℕ) → 8346 ≤ length h
+  pub stored-formed : (d : Head) (h : List ℕ) → 8347 ≤ length h
       → formed (record { head = stored d h; subs = subs; rows = rows })
       ≡ every (leb (d .consumers) 32 ∷ leb (d .producers) 32 ∷ leb (d .audits) 8 ∷ leb (subRows (take (d .consumers) subs) + (d .reserved + d .waiting)) 512 ∷ ringsFormed (d .audits) (drop 96 (settled d h)) ∷ strictTables d subs rows ∷ [])
   unfolding headWords formed

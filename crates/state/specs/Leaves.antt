@@ -30,6 +30,7 @@ pub record Leaves (f : Dest → Out) (d r : Head) (subs rows events subs′ rows
   pub audits : r .audits ≡ d .audits
   pub queue : r .queue ≡ d .queue
   pub allowance : r .allowance ≡ d .allowance
+  pub share : r .share ≡ d .share
   pub consumers : r .consumers ≤ 32
   pub used : r .used ≤ 512
   pub rows-used : subRows (take (r .consumers) subs′) + (r .reserved + r .waiting) ≡ r .used

@@ -17,12 +17,13 @@ use Rattle.stats.specs.declared.Stats.{Stats}
 use Rattle.state.specs.declared.Head.{Head}
 use Rattle.state.specs.declared.Answer.{Answer}
 
--- the head's first 17 words and its last, by value, with so many rows in use
+-- the head's first 17 words and its last two, by value, with so many rows in use
 unfoldable pub headOf : List ℕ → ℕ → Head
 headOf h used = record {
   «topic_limit» = at 1 h;
   «call_limit» = at 2 h;
   allowance = at 8345 h;
+  share = at 8346 h;
   «calls_used» = at 3 h;
   turn = at 4 h;
   «idle_since» = at 6 h;
@@ -48,6 +49,7 @@ noHead = record {
   «topic_limit» = 0;
   «call_limit» = 0;
   allowance = 0;
+  share = 0;
   «calls_used» = 0;
   turn = 0;
   «idle_since» = 0;
@@ -65,7 +67,7 @@ noHead = record {
 
 -- the numbers of a head and a table of consumers
 unfoldable pub loaded : List ℕ → List Row → Head
-loaded h subs = if ltb (length h) 8346 then noHead else headOf h (usedOf h subs)
+loaded h subs = if ltb (length h) 8347 then noHead else headOf h (usedOf h subs)
 
 -- the kind's word: 0 for a queue, 1 for a topic
 abbrev pub kindWord : Bool → ℕ
@@ -89,6 +91,7 @@ headView d subs rows producers audits =
       topicLimit = d .«topic_limit»;
       callLimit = d .«call_limit»;
       allowance = d .allowance;
+      share = d .share;
       callsUsed = d .«calls_used»;
       pending = map entryOf (take (d .waiting) (drop (d .reserved) others));
       subs = subsAt (kindBy (d .queue)) used rows;
@@ -107,38 +110,38 @@ strictTables d subs rows = tablesStrict (d .reserved + d .waiting) (take (d .con
 -- ---- the numbers, one changed
 
 abbrev pub withCallsUsed : ℕ → Head → Head
-withCallsUsed x d = record { «topic_limit» = d .«topic_limit»; «call_limit» = d .«call_limit»; allowance = d .allowance; «calls_used» = x; turn = d .turn; «idle_since» = d .«idle_since»; stats = d .stats; consumers = d .consumers; producers = d .producers; audits = d .audits; reserved = d .reserved; waiting = d .waiting; used = d .used; events = d .events; queue = d .queue; idle = d .idle }
+withCallsUsed x d = record { «topic_limit» = d .«topic_limit»; «call_limit» = d .«call_limit»; allowance = d .allowance; share = d .share; «calls_used» = x; turn = d .turn; «idle_since» = d .«idle_since»; stats = d .stats; consumers = d .consumers; producers = d .producers; audits = d .audits; reserved = d .reserved; waiting = d .waiting; used = d .used; events = d .events; queue = d .queue; idle = d .idle }
 
 abbrev pub withStats : Stats → Head → Head
-withStats x d = record { «topic_limit» = d .«topic_limit»; «call_limit» = d .«call_limit»; allowance = d .allowance; «calls_used» = d .«calls_used»; turn = d .turn; «idle_since» = d .«idle_since»; stats = x; consumers = d .consumers; producers = d .producers; audits = d .audits; reserved = d .reserved; waiting = d .waiting; used = d .used; events = d .events; queue = d .queue; idle = d .idle }
+withStats x d = record { «topic_limit» = d .«topic_limit»; «call_limit» = d .«call_limit»; allowance = d .allowance; share = d .share; «calls_used» = d .«calls_used»; turn = d .turn; «idle_since» = d .«idle_since»; stats = x; consumers = d .consumers; producers = d .producers; audits = d .audits; reserved = d .reserved; waiting = d .waiting; used = d .used; events = d .events; queue = d .queue; idle = d .idle }
 
 abbrev pub withTurn : ℕ → Head → Head
-withTurn x d = record { «topic_limit» = d .«topic_limit»; «call_limit» = d .«call_limit»; allowance = d .allowance; «calls_used» = d .«calls_used»; turn = x; «idle_since» = d .«idle_since»; stats = d .stats; consumers = d .consumers; producers = d .producers; audits = d .audits; reserved = d .reserved; waiting = d .waiting; used = d .used; events = d .events; queue = d .queue; idle = d .idle }
+withTurn x d = record { «topic_limit» = d .«topic_limit»; «call_limit» = d .«call_limit»; allowance = d .allowance; share = d .share; «calls_used» = d .«calls_used»; turn = x; «idle_since» = d .«idle_since»; stats = d .stats; consumers = d .consumers; producers = d .producers; audits = d .audits; reserved = d .reserved; waiting = d .waiting; used = d .used; events = d .events; queue = d .queue; idle = d .idle }
 
 abbrev pub withConsumers : ℕ → Head → Head
-withConsumers x d = record { «topic_limit» = d .«topic_limit»; «call_limit» = d .«call_limit»; allowance = d .allowance; «calls_used» = d .«calls_used»; turn = d .turn; «idle_since» = d .«idle_since»; stats = d .stats; consumers = x; producers = d .producers; audits = d .audits; reserved = d .reserved; waiting = d .waiting; used = d .used; events = d .events; queue = d .queue; idle = d .idle }
+withConsumers x d = record { «topic_limit» = d .«topic_limit»; «call_limit» = d .«call_limit»; allowance = d .allowance; share = d .share; «calls_used» = d .«calls_used»; turn = d .turn; «idle_since» = d .«idle_since»; stats = d .stats; consumers = x; producers = d .producers; audits = d .audits; reserved = d .reserved; waiting = d .waiting; used = d .used; events = d .events; queue = d .queue; idle = d .idle }
 
 abbrev pub withProducers : ℕ → Head → Head
-withProducers x d = record { «topic_limit» = d .«topic_limit»; «call_limit» = d .«call_limit»; allowance = d .allowance; «calls_used» = d .«calls_used»; turn = d .turn; «idle_since» = d .«idle_since»; stats = d .stats; consumers = d .consumers; producers = x; audits = d .audits; reserved = d .reserved; waiting = d .waiting; used = d .used; events = d .events; queue = d .queue; idle = d .idle }
+withProducers x d = record { «topic_limit» = d .«topic_limit»; «call_limit» = d .«call_limit»; allowance = d .allowance; share = d .share; «calls_used» = d .«calls_used»; turn = d .turn; «idle_since» = d .«idle_since»; stats = d .stats; consumers = d .consumers; producers = x; audits = d .audits; reserved = d .reserved; waiting = d .waiting; used = d .used; events = d .events; queue = d .queue; idle = d .idle }
 
 abbrev pub withAudits : ℕ → Head → Head
-withAudits x d = record { «topic_limit» = d .«topic_limit»; «call_limit» = d .«call_limit»; allowance = d .allowance; «calls_used» = d .«calls_used»; turn = d .turn; «idle_since» = d .«idle_since»; stats = d .stats; consumers = d .consumers; producers = d .producers; audits = x; reserved = d .reserved; waiting = d .waiting; used = d .used; events = d .events; queue = d .queue; idle = d .idle }
+withAudits x d = record { «topic_limit» = d .«topic_limit»; «call_limit» = d .«call_limit»; allowance = d .allowance; share = d .share; «calls_used» = d .«calls_used»; turn = d .turn; «idle_since» = d .«idle_since»; stats = d .stats; consumers = d .consumers; producers = d .producers; audits = x; reserved = d .reserved; waiting = d .waiting; used = d .used; events = d .events; queue = d .queue; idle = d .idle }
 
 abbrev pub withReserved : ℕ → Head → Head
-withReserved x d = record { «topic_limit» = d .«topic_limit»; «call_limit» = d .«call_limit»; allowance = d .allowance; «calls_used» = d .«calls_used»; turn = d .turn; «idle_since» = d .«idle_since»; stats = d .stats; consumers = d .consumers; producers = d .producers; audits = d .audits; reserved = x; waiting = d .waiting; used = d .used; events = d .events; queue = d .queue; idle = d .idle }
+withReserved x d = record { «topic_limit» = d .«topic_limit»; «call_limit» = d .«call_limit»; allowance = d .allowance; share = d .share; «calls_used» = d .«calls_used»; turn = d .turn; «idle_since» = d .«idle_since»; stats = d .stats; consumers = d .consumers; producers = d .producers; audits = d .audits; reserved = x; waiting = d .waiting; used = d .used; events = d .events; queue = d .queue; idle = d .idle }
 
 abbrev pub withWaiting : ℕ → Head → Head
-withWaiting x d = record { «topic_limit» = d .«topic_limit»; «call_limit» = d .«call_limit»; allowance = d .allowance; «calls_used» = d .«calls_used»; turn = d .turn; «idle_since» = d .«idle_since»; stats = d .stats; consumers = d .consumers; producers = d .producers; audits = d .audits; reserved = d .reserved; waiting = x; used = d .used; events = d .events; queue = d .queue; idle = d .idle }
+withWaiting x d = record { «topic_limit» = d .«topic_limit»; «call_limit» = d .«call_limit»; allowance = d .allowance; share = d .share; «calls_used» = d .«calls_used»; turn = d .turn; «idle_since» = d .«idle_since»; stats = d .stats; consumers = d .consumers; producers = d .producers; audits = d .audits; reserved = d .reserved; waiting = x; used = d .used; events = d .events; queue = d .queue; idle = d .idle }
 
 abbrev pub withUsed : ℕ → Head → Head
-withUsed x d = record { «topic_limit» = d .«topic_limit»; «call_limit» = d .«call_limit»; allowance = d .allowance; «calls_used» = d .«calls_used»; turn = d .turn; «idle_since» = d .«idle_since»; stats = d .stats; consumers = d .consumers; producers = d .producers; audits = d .audits; reserved = d .reserved; waiting = d .waiting; used = x; events = d .events; queue = d .queue; idle = d .idle }
+withUsed x d = record { «topic_limit» = d .«topic_limit»; «call_limit» = d .«call_limit»; allowance = d .allowance; share = d .share; «calls_used» = d .«calls_used»; turn = d .turn; «idle_since» = d .«idle_since»; stats = d .stats; consumers = d .consumers; producers = d .producers; audits = d .audits; reserved = d .reserved; waiting = d .waiting; used = x; events = d .events; queue = d .queue; idle = d .idle }
 
 abbrev pub withEvents : ℕ → Head → Head
-withEvents x d = record { «topic_limit» = d .«topic_limit»; «call_limit» = d .«call_limit»; allowance = d .allowance; «calls_used» = d .«calls_used»; turn = d .turn; «idle_since» = d .«idle_since»; stats = d .stats; consumers = d .consumers; producers = d .producers; audits = d .audits; reserved = d .reserved; waiting = d .waiting; used = d .used; events = x; queue = d .queue; idle = d .idle }
+withEvents x d = record { «topic_limit» = d .«topic_limit»; «call_limit» = d .«call_limit»; allowance = d .allowance; share = d .share; «calls_used» = d .«calls_used»; turn = d .turn; «idle_since» = d .«idle_since»; stats = d .stats; consumers = d .consumers; producers = d .producers; audits = d .audits; reserved = d .reserved; waiting = d .waiting; used = d .used; events = x; queue = d .queue; idle = d .idle }
 
 -- the idle mark, and its clock
 abbrev pub withIdle : Bool → ℕ → Head → Head
-withIdle b x d = record { «topic_limit» = d .«topic_limit»; «call_limit» = d .«call_limit»; allowance = d .allowance; «calls_used» = d .«calls_used»; turn = d .turn; «idle_since» = x; stats = d .stats; consumers = d .consumers; producers = d .producers; audits = d .audits; reserved = d .reserved; waiting = d .waiting; used = d .used; events = d .events; queue = d .queue; idle = b }
+withIdle b x d = record { «topic_limit» = d .«topic_limit»; «call_limit» = d .«call_limit»; allowance = d .allowance; share = d .share; «calls_used» = d .«calls_used»; turn = d .turn; «idle_since» = x; stats = d .stats; consumers = d .consumers; producers = d .producers; audits = d .audits; reserved = d .reserved; waiting = d .waiting; used = d .used; events = d .events; queue = d .queue; idle = b }
 
 -- `idle_since = None`
 abbrev pub notIdle : Head → Head
@@ -176,9 +179,9 @@ freeRows d = 512 - d .used
 
 -- ---- what is written
 
--- to a head of full size the first 17 words, and the last
+-- to a head of full size the first 17 words, and the last two
 unfoldable pub stored : Head → List ℕ → List ℕ
-stored d h = if ltb (length h) 8346 then h else set (headWords d ++ drop 17 h) 8345 (d .allowance)
+stored d h = if ltb (length h) 8347 then h else set (set (headWords d ++ drop 17 h) 8345 (d .allowance)) 8346 (d .share)
 
 -- an event is appended, where there is room
 unfoldable pub pushed : Head → ℕ → Head

@@ -12,10 +12,12 @@ use consumers::SubRow;
 use stats::Stats;
 
 // The head's words.
-pub const HEAD_WORDS: usize = 8346;
+pub const HEAD_WORDS: usize = 8347;
 
-// The last of them: the allowance for slow clocks.
+// The last two of them: the allowance for slow clocks, and the share of each producer connection.
 const ALLOWANCE: usize = 8345;
+
+const SHARE: usize = 8346;
 
 // The tables: consumers, rows, events.
 pub const CONSUMERS: usize = 32;
@@ -36,11 +38,12 @@ const MESSAGE: u64 = 2;
 
 const NULL: u64 = 3;
 
-// What a call carries: the head's first words and its last, the rows in use, and the events sent so far.
+// What a call carries: the head's first words and its last two, the rows in use, and the events sent so far.
 pub struct Head {
     pub topic_limit: u64,
     pub call_limit: u64,
     pub allowance: u64,
+    pub share: u64,
     pub calls_used: u64,
     pub turn: usize,
     pub idle_since: u64,
@@ -247,6 +250,7 @@ fn no_head() -> Head
         topic_limit: 0,
         call_limit: 0,
         allowance: 0,
+        share: 0,
         calls_used: 0,
         turn: 0,
         idle_since: 0,
@@ -284,6 +288,7 @@ pub fn load(head: &[u64], subs: &[SubRow]) -> Head
         topic_limit: head[1],
         call_limit: head[2],
         allowance: head[ALLOWANCE],
+        share: head[SHARE],
         calls_used: head[3],
         turn: head[4] as usize,
         idle_since: head[6],
@@ -325,6 +330,7 @@ pub fn store(head: &mut [u64], d: Head)
     head[15] = d.reserved as u64;
     head[16] = d.waiting as u64;
     head[ALLOWANCE] = d.allowance;
+    head[SHARE] = d.share;
 }
 
 // ---- events

@@ -26,6 +26,7 @@ leaves-counted f g s d r subs rows events subs′ rows′ events′ same l = rec
   audits = l .audits;
   queue = l .queue;
   allowance = l .allowance;
+  share = l .share;
   consumers = l .consumers;
   used = l .used;
   rows-used = l .rows-used;

@@ -1,5 +1,6 @@
 pub mod Insert
 pub mod Used
+pub mod Shares
 pub mod Refusals
 pub mod Parts
 pub mod Leave

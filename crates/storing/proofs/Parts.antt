@@ -86,6 +86,7 @@ made d subs reserved waiting producers audits = record {
   topicLimit = d .«topic_limit»;
   callLimit = d .«call_limit»;
   allowance = d .allowance;
+  share = d .share;
   callsUsed = d .«calls_used»;
   pending = map entryOf waiting;
   subs = subs;

@@ -164,6 +164,7 @@ module _ (e : Entry) (d : Head) (subs rows : List Row) (a : Arrives e d subs row
       audits = refl;
       queue = refl;
       allowance = refl;
+      share = refl;
       consumers = a .consumers;
       used = omega (arith, needs-one);
       rows-used = omega (arith, own-rows, a .rows-used);

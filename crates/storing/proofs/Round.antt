@@ -420,6 +420,7 @@ module _ (now : ℕ) (e : Entry) (subs₀ rows₀ : List Row) (d₀ : Head) (a :
             topicLimit = limit;
             callLimit = d₀ .«call_limit»;
             allowance = d₀ .allowance;
+            share = d₀ .share;
             callsUsed = d₀ .«calls_used»;
             pending = map entryOf (g .waiting j);
             subs = mine j;
@@ -452,6 +453,7 @@ module _ (now : ℕ) (e : Entry) (subs₀ rows₀ : List Row) (d₀ : Head) (a :
           audits = refl;
           queue = refl;
           allowance = refl;
+          share = refl;
           consumers = a .consumers;
           used = omega (arith, g .room);
           rows-used = g .uses;

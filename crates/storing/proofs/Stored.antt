@@ -22,6 +22,7 @@ use Rattle.state.proofs.Fitting.{fits-facts}
 use Rattle.state.proofs.Leaves.{when-leaves}
 use Rattle.state.proofs.Answers.{leaves-no}
 use Rattle.storing.specs.Storing.{holds, rowsNeeded, roomFor, stores, queuedHead, kept, waits, spread, Room}
+use Rattle.storing.specs.Shares.{overOf}
 use Rattle.storing.specs.Arrivals.{Arrives, Arrived}
 use Rattle.storing.proofs.Refusals.{stores-yes}
 use Rattle.storing.proofs.Leave.{leaves-counted, counted-queue, counted-topic}
@@ -42,7 +43,7 @@ module _ (now : ℕ) (e : Entry) (d : Head) (subs rows events : List Row) where
   unstored h = leaves-no _ (Room d d) (silent (kept now e)) d subs rows events (ap (λ (b : Bool). leb now (2 ^ 62) && b) h ∙ and-false (leb now (2 ^ 62)))
 
 module _ (now : ℕ) (e : Entry) (d : Head) (subs rows events : List Row) (row : entryOf (rowOf e 0 0 0) ≡ e) (fit : fits subs d (length rows) (length events) ≡ true)
-    (free : holds (e .seq) (take (d .used) rows) ≡ false) (room : roomFor e d subs ≡ true) (soon : leb now (2 ^ 62) ≡ true)
+    (free : holds (e .seq) (take (d .used) rows) ≡ false) (within : overOf e d subs rows ≡ false) (room : roomFor e d subs ≡ true) (soon : leb now (2 ^ 62) ≡ true)
   where
     abbrev f : Fits subs d (length rows) (length events)
     f = fits-facts subs d (length rows) (length events) fit
@@ -70,7 +71,7 @@ module _ (now : ℕ) (e : Entry) (d : Head) (subs rows events : List Row) (row :
       by : (f : Dest → Dest) → ((producers : List Id) (audits : List Audit) → f (headView (counted d) subs rows producers audits) ≡ kept now e (headView d subs rows producers audits))
           → Arrived f (counted d) r subs rows subs′ rows′ → Stored
       by f same x =
-          when-leaves (leb now (2 ^ 62) && stores e d subs rows (length events)) (Room d r) (silent (kept now e)) d r subs rows events subs′ rows′ events (and-both (leb now (2 ^ 62)) _ soon (stores-yes e d subs rows (length events) fit free room))
+          when-leaves (leb now (2 ^ 62) && stores e d subs rows (length events)) (Room d r) (silent (kept now e)) d r subs rows events subs′ rows′ events (and-both (leb now (2 ^ 62)) _ soon (stores-yes e d subs rows (length events) fit free within room))
           (leaves-counted f (kept now e) (withEnqueued (d .stats)) d r subs rows events subs′ rows′ events same (x events .0), x events .1)
 
       pub stored-topic : (h : Head) → h ≡ counted d → d .queue ≡ false → Arrived (spread now e) h r subs rows subs′ rows′ → Stored

@@ -40,7 +40,7 @@ held-used n q rows h = has-in 0 n q rows (omega arith) h ∙ sym (holds-numbers 
 
 -- ---- the rows in use, in parts
 
-held-entries : (l : List Row) → map (λ (h : Held). h .entry) (map heldAt l) ≡ map entryOf l
+pub held-entries : (l : List Row) → map (λ (h : Held). h .entry) (map heldAt l) ≡ map entryOf l
 held-entries [] = refl
 held-entries (r ∷ l) = ap (λ (x : List Entry). entryOf r ∷ x) (held-entries l)
 

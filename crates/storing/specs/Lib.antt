@@ -1,3 +1,4 @@
 pub mod Storing
+pub mod Shares
 pub mod Copies
 pub mod Arrivals

@@ -4,12 +4,16 @@ ghost use mathlib.Core.Bool.{true, false, _&&_};
 ghost use Prim.Native.Nat.{_+_, _≤_, _<_, _^_};
 ghost use lib.Dec.{leb};
 ghost use lib.ListN.{length, take};
+ghost use lib.Seq.{slice};
+ghost use Rattle.definition.specs.Base.{tally};
 ghost use Rattle.entry.specs.Entry.{rowOf};
 ghost use Rattle.consumers.specs.Table.{onFirst, heldBackRow};
 ghost use Rattle.state.specs.State.{firstWaiting};
+ghost use Rattle.state.specs.Fits.{fits};
 ghost use Rattle.state.specs.Leaves.{silent, LeavesIf};
 ghost use Rattle.table.specs.Table.{placeOf, insertRow};
 ghost use Rattle.storing.specs.Storing.{holds, rowsNeeded, refusalOf, roomFor, stores, Room, queuedHead, kept, spread};
+ghost use Rattle.storing.specs.Shares.{cameFrom, ownOf, takenFrom, heldFrom, overOf};
 ghost use Rattle.storing.specs.Copies.{overLimit, goneOf, trimmed, copied, copiedRows};
 ghost use Rattle.storing.specs.Arrivals.{Arrives, Arrived};
 use consumers::Sub;
@@ -18,6 +22,66 @@ use entry::Entry;
 use entry::Row;
 use state::Event;
 use state::Head;
+
+// The producer connection's word in a row.
+const PRODUCER: usize = 3;
+
+// ---- a producer connection's rows
+
+// How many of rows[from..to] came from a connection.
+fn count_from(rows: &[Row], from: usize, to: usize, conn: u64) -> usize
+    requires { ⌜ (from ≤ to) × (to ≤ length (now rows)) ⌝ }
+    ensures { λ r. ⌜ r ≡ tally (cameFrom conn) (slice from to (now (rows .entry))) ⌝ }
+{
+    let mut count = 0;
+    let mut i = from;
+    while i < to {
+        if conn == rows[i][PRODUCER] {
+            count += 1;
+        }
+        i += 1;
+    }
+    count
+}
+
+// How many of a consumer's rows, from its first on, belong to connections: copies of a queue's browsers belong to none.
+fn own_of(s: Sub, queue: bool) -> usize
+    requires { ⌜ s .inflight + s .held ≤ 512 ⌝ }
+    ensures { λ r. ⌜ r ≡ ownOf queue s ⌝ }
+{
+    if !queue {
+        return s.inflight + s.held;
+    }
+    if s.browser { 0 } else { s.inflight }
+}
+
+// How many of the consumers' rows are a connection's.
+fn taken_from(subs: &[SubRow], rows: &[Row], d: Head, conn: u64) -> usize
+    requires { ⌜ fits (now subs) d (length (now rows)) 545 ≡ true ⌝ }
+    ensures { λ r. ⌜ r ≡ takenFrom (d .queue) conn 0 (take (d .consumers) (now (subs .entry))) (now (rows .entry)) ⌝ }
+{
+    let n = d.consumers;
+    let queue = d.queue;
+    let mut count = 0;
+    let mut base = 0;
+    let mut i = 0;
+    while i < n {
+        let s = consumers::load(subs, i);
+        count += count_from(rows, base, base + own_of(s, queue), conn);
+        base += s.inflight + s.held;
+        i += 1;
+    }
+    count
+}
+
+// How many rows a connection holds.
+fn rows_from(subs: &[SubRow], rows: &[Row], d: Head, conn: u64) -> usize
+    requires { ⌜ fits (now subs) d (length (now rows)) 545 ≡ true ⌝ }
+    ensures { λ r. ⌜ r ≡ heldFrom conn d (now (subs .entry)) (now (rows .entry)) ⌝ }
+    ensures { λ r. ⌜ r ≤ 512 ⌝ }
+{
+    taken_from(subs, rows, d, conn) + count_from(rows, d.first_reserved(), d.used, conn)
+}
 
 // ---- refusals
 
@@ -39,8 +103,19 @@ fn rows_for(subs: &[SubRow], d: Head, e: Entry) -> usize
     consumers::accepting(subs, d.consumers, e)
 }
 
-// The refusal that is an entry's own: 4 where its number is held, 5 where too few rows are free, else 0. Where the numbers do not
-// fit the tables, 2.
+// Whether an entry's rows, with those that its connection holds, are more than the share; one of 512 or more is not looked at.
+fn over_share(subs: &[SubRow], rows: &[Row], d: Head, e: Entry) -> bool
+    requires { ⌜ fits (now subs) d (length (now rows)) 545 ≡ true ⌝ }
+    ensures { λ r. ⌜ r ≡ overOf e d (now (subs .entry)) (now (rows .entry)) ⌝ }
+{
+    if 512 <= d.share {
+        return false;
+    }
+    d.share < (rows_from(subs, rows, d, e.producer) + rows_for(subs, d, e)) as u64
+}
+
+// The refusal that is an entry's own: 4 where its number is held, 14 where it goes over its connection's share, 5 where too few rows
+// are free, else 0. Where the numbers do not fit the tables, 2.
 pub fn refusal(subs: &[SubRow], rows: &[Row], d: Head, e: Entry) -> u64
     ensures { λ r. ⌜ r ≡ refusalOf e d (now (subs .entry)) (now (rows .entry)) ⌝ }
 {
@@ -49,6 +124,9 @@ pub fn refusal(subs: &[SubRow], rows: &[Row], d: Head, e: Entry) -> u64
     }
     if is_held(rows, d.used, e.seq) {
         return 4;
+    }
+    if over_share(subs, rows, d, e) {
+        return 14;
     }
     if d.free_rows() < rows_for(subs, d, e) {
         return 5;
@@ -213,6 +291,9 @@ pub fn store(
         return d;
     }
     if is_held(rows, d.used, e.seq) {
+        return d;
+    }
+    if over_share(subs, rows, d, e) {
         return d;
     }
     if !has_room(subs, d, e) {

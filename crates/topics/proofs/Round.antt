@@ -253,6 +253,7 @@ module _ (now : ℕ) (subs₀ rows₀ events₀ : List Row) (d₀ : Head) (fits 
             topicLimit = d₀ .«topic_limit»;
             callLimit = d₀ .«call_limit»;
             allowance = d₀ .allowance;
+            share = d₀ .share;
             callsUsed = d₀ .«calls_used»;
             pending = map entryOf (waits j);
             subs = mine j;
@@ -289,6 +290,7 @@ module _ (now : ℕ) (subs₀ rows₀ events₀ : List Row) (d₀ : Head) (fits 
               audits = same (λ (x : Head). x .audits);
               queue = same (λ (x : Head). x .queue);
               allowance = same (λ (x : Head). x .allowance);
+              share = same (λ (x : Head). x .share);
               consumers = omega (arith, n, fits .consumers);
               used = omega (arith, r .used, fits .used);
               rows-used = rw m (omega arith);

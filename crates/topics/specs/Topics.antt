@@ -97,6 +97,7 @@ moved d r = record {
   «topic_limit» = d .«topic_limit»;
   «call_limit» = d .«call_limit»;
   allowance = d .allowance;
+  share = d .share;
   «calls_used» = d .«calls_used»;
   turn = d .turn;
   «idle_since» = d .«idle_since»;

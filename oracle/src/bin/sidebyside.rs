@@ -42,7 +42,8 @@ fn main() -> ExitCode {
         files: 0,
         different: 0,
         codes: [[0; 2]; 17],
-        refusals: [0; 10],
+        refusals: [0; 15],
+        suffices: 0,
         halves: [0; 3],
         surplus: [0; 6],
         texts: 0,
@@ -65,7 +66,9 @@ struct Run {
     different: u64,
     /// By code, 16 being any other: accepted, refused.
     codes: [[u64; 2]; 17],
-    refusals: [u64; 10],
+    refusals: [u64; 15],
+    /// Enqueues below share 512 that never get 5, as shares suffice.
+    suffices: u64,
     /// Releases in two halves by the broker's one call, and marks that the harness cleared or put back.
     halves: [u64; 3],
     /// Enqueues that bring a topic's list over its limit, by what has expired.
@@ -154,6 +157,7 @@ impl Run {
         }
         let mut sides = Sides::default();
         for (index, call) in calls.iter().enumerate() {
+            self.suffices += u64::from(call.code == code::ENQUEUE && sides.suffices(call));
             let both = sides.call(call);
             let mut what = both.difference(both.outcome, both.bytes, &sides.lent);
             if what.is_none() {
@@ -207,7 +211,8 @@ impl Run {
             }
         }
         let refusals: Vec<String> = self.refusals.iter().map(u64::to_string).collect();
-        println!("refusals 0 to 9: {}", refusals.join(" "));
+        println!("refusals 0 to 9: {}; 14: {}", refusals[..10].join(" "), refusals[14]);
+        println!("enqueues below share 512 for which shares suffice: {}", self.suffices);
         let [both, first, second] = self.halves;
         println!("releases, both halves: {both}");
         println!("halves alone, of a consumer with marks: {first} first, {second} second");
@@ -287,6 +292,7 @@ fn conditions(call: &Call, both: &Both) -> Vec<(&'static str, bool)> {
             accepted && single(call, whole).is_some_and(|more| more),
         ),
         ("calls with an allowance", accepted && whole.allowance > 0),
+        ("calls with a share below 512", accepted && whole.share < 512),
         (
             "states with entries, bytes held by the broker's figure",
             held.entries > 0 && held.small == 0,

@@ -48,6 +48,7 @@ fn ranges(call: &Call) -> Option<Vec<Range>> {
             Within(1, CALL_LIMIT_MAX),
             CLOCK,
             Within(0, ALLOWANCE_MAX),
+            Within(0, ROWS),
         ],
         code::ENQUEUE => vec![
             Within(1, SEQUENCE_MAX),

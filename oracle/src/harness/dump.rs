@@ -42,8 +42,8 @@ fn write_state(out: &mut String, whole: &Whole, audits: Audits) -> fmt::Result {
     let s = whole.stats;
     write!(
         out,
-        " {kind} limit={} allowance={}",
-        whole.topic_limit, whole.allowance
+        " {kind} limit={} allowance={} share={}",
+        whole.topic_limit, whole.allowance, whole.share
     )?;
     write!(out, " stats={},{},{},{},{}", s[0], s[1], s[2], s[3], s[4])?;
     write!(out, " bytes={} turn={}", whole.bytes(), whole.turn)?;

@@ -29,6 +29,7 @@ pub mod refusal {
     pub const CONSUMERS: u8 = 7;
     pub const PRODUCERS: u8 = 8;
     pub const CALL_LIMIT: u8 = 9;
+    pub const SHARE: u8 = 14;
 }
 
 const CONSUMERS_MAX: usize = 32;
@@ -107,6 +108,8 @@ pub struct Opened {
     pub calls_used: u64,
     /// The allowance for slow clocks (document 02 §4).
     pub allowance: u64,
+    /// Rows of each producer connection at most (document 02 §11).
+    pub share: u64,
     /// The broker's idle mark, and the clock of the call that set it.
     idle: Option<(Instant, u64)>,
     /// Whose marks are cleared, though the broker still has them: the first half of a release that waits for
@@ -124,6 +127,32 @@ impl Opened {
     /// it for expirations alone; its idle mark is its own.
     fn reduced(&self, clock: u64) -> i64 {
         clock.saturating_sub(self.allowance) as i64
+    }
+
+    /// Rows that an enqueue needs and that its connection holds, by the broker's own state.
+    fn rows_of(&self, entry: &Entry) -> (u64, u64) {
+        let needed = if self.dest.is_queue() {
+            1
+        } else {
+            probe::accepting(&self.dest, entry) as u64
+        };
+        let connection = host::entry_numbers(entry).connection;
+        let own = probe::owned(&self.dest);
+        let held = own.iter().filter(|e| host::entry_numbers(e).connection == connection);
+        (needed, held.count() as u64)
+    }
+
+    /// Whether document 02 §11 says that an enqueue of this connection never gets 5: a queue's browsers hold no copies, the share has room for the
+    /// entry, and share times the connections that hold rows or ask is at most 512.
+    pub fn suffices(&self, entry: &Entry) -> bool {
+        let own = probe::owned(&self.dest);
+        let mut connections: Vec<u64> = own.iter().map(|e| host::entry_numbers(e).connection).collect();
+        connections.push(host::entry_numbers(entry).connection);
+        connections.sort_unstable();
+        connections.dedup();
+        let (needed, held) = self.rows_of(entry);
+        let browsed = probe::rows_used(&self.dest) > own.len();
+        !browsed && needed + held <= self.share && self.share * connections.len() as u64 <= ROWS
     }
 
     /// The consumer whose marks count as cleared.
@@ -335,7 +364,7 @@ impl Engine {
     }
 
     fn open(&mut self, call: &Call) {
-        let [kind, topic_limit, call_limit, clock, allowance, ..] = call.args;
+        let [kind, topic_limit, call_limit, clock, allowance, share, ..] = call.args;
         let kind = if kind == 0 {
             DestKind::Queue
         } else {
@@ -349,6 +378,7 @@ impl Engine {
             call_limit,
             calls_used: 0,
             allowance,
+            share: if share == 0 { ROWS } else { share },
             idle,
             unmarked: None,
         });
@@ -375,7 +405,7 @@ impl Engine {
         }
         let dest = &opened.dest;
         match call.code {
-            code::ENQUEUE => self.refuse_enqueue(dest, call),
+            code::ENQUEUE => self.refuse_enqueue(opened, call),
             code::JOIN => self.refuse_join(opened, call),
             code::ADD_PRODUCER => {
                 let id = host::producer_id(id_of(call));
@@ -391,16 +421,24 @@ impl Engine {
         }
     }
 
-    fn refuse_enqueue(&self, dest: &Dest, call: &Call) -> u8 {
-        if probe::holds(dest, call.args[0]) {
+    fn refuse_enqueue(&self, opened: &Opened, call: &Call) -> u8 {
+        if probe::holds(&opened.dest, call.args[0]) {
             return refusal::SEQUENCE_HELD;
         }
-        let needed = if dest.is_queue() {
-            1
-        } else {
-            probe::accepting(dest, &host::entry(entry_of(call), &self.memory))
-        };
-        refuse_if(needed > free_rows(dest), refusal::NO_ROWS)
+        let entry = host::entry(entry_of(call), &self.memory);
+        let (needed, held) = opened.rows_of(&entry);
+        if opened.share < ROWS && needed + held > opened.share {
+            return refusal::SHARE;
+        }
+        let short = needed > free_rows(&opened.dest) as u64;
+        assert!(!short || !opened.suffices(&entry), "shares suffice");
+        refuse_if(short, refusal::NO_ROWS)
+    }
+
+    /// Whether shares suffice for an enqueue that comes next (document 02 §11).
+    pub fn suffices(&self, call: &Call) -> bool {
+        let opened = self.opened.as_ref().filter(|_| arguments::in_range(call));
+        opened.is_some_and(|o| o.suffices(&host::entry(entry_of(call), &self.memory)))
     }
 
     fn refuse_join(&self, opened: &Opened, call: &Call) -> u8 {

@@ -105,7 +105,7 @@ impl Maker {
         if self.profile.fill {
             let rows = self.rows_used();
             // Up to the last rows quickly; anything when a call has found too few.
-            let short = self.last_refusal == refusal::NO_ROWS;
+            let short = matches!(self.last_refusal, refusal::NO_ROWS | refusal::SHARE);
             if rows < 505 && !short && self.random.chance(9, 10) {
                 return self
                     .random

@@ -6,7 +6,7 @@ use super::engine::Event;
 use super::host::{EntryNumbers, Id};
 use super::whole::{InflightNumbers, SubNumbers, Whole};
 
-pub const HEAD: usize = 8346;
+pub const HEAD: usize = 8347;
 pub const CONSUMERS: usize = 32;
 pub const ROWS: usize = 512;
 pub const EVENTS: usize = 545;
@@ -16,6 +16,7 @@ pub const AUDITS_AT: usize = 113;
 pub const AUDIT: usize = 1029;
 pub const WINDOW: usize = 1024;
 pub const ALLOWANCE_AT: usize = 8345;
+pub const SHARE_AT: usize = 8346;
 
 /// The word of a row that holds the entry's size.
 pub const SIZE_AT: usize = 9;
@@ -439,6 +440,7 @@ impl Lent {
             call_limit: h[2],
             calls_used: h[3],
             allowance: h[ALLOWANCE_AT],
+            share: h[SHARE_AT],
             idle: (h[5] != 0).then_some(h[6]),
             stats: h[7..12].try_into().expect("five counters"),
             turn: h[4],

@@ -60,6 +60,11 @@ impl Sides {
         [both, first, second]
     }
 
+    /// Whether the share is below 512 and shares suffice for this enqueue.
+    pub fn suffices(&self, call: &Call) -> bool {
+        self.engine.opened().is_some_and(|o| o.share < 512) && self.engine.suffices(call)
+    }
+
     /// Enqueues that bring a topic's list over its limit, and those that the harness has read itself.
     pub fn surplus(&self) -> [u64; 6] {
         self.engine.surplus.numbers()

@@ -3,7 +3,7 @@
 
 use std::collections::BTreeMap;
 
-use super::library::{Asked, Lent, Outcome, ALLOWANCE_AT, AUDIT, AUDITS_AT, PRODUCERS_AT, SIZE_AT};
+use super::library::{Asked, Lent, Outcome, ALLOWANCE_AT, AUDIT, AUDITS_AT, PRODUCERS_AT, SHARE_AT, SIZE_AT};
 use super::random::Random;
 use super::sides::Both;
 
@@ -130,7 +130,7 @@ fn every_class() -> Vec<String> {
     let mut all = named("outcome", &["refusal", "answer", "events"]);
     all.extend(named("bytes held", &["answer"]));
     all.extend(named("head", &HEAD));
-    all.extend(named("head", &["allowance"]));
+    all.extend(named("head", &["allowance", "share"]));
     all.extend(named("consumer", &SUB));
     all.extend(named("in flight", &ENTRY));
     all.extend(named("in flight", &FLYING));
@@ -177,6 +177,7 @@ fn head_places(add: &mut impl FnMut(String, Place), lent: &Lent) {
         }
     }
     add("head: allowance".into(), Place::Head(ALLOWANCE_AT));
+    add("head: share".into(), Place::Head(SHARE_AT));
     for i in 0..h[13] as usize {
         for (k, name) in ID.iter().enumerate() {
             add(format!("producer: {name}"), Place::Head(PRODUCERS_AT + 3 * i + k));

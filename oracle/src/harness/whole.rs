@@ -15,6 +15,7 @@ pub struct Whole {
     pub call_limit: u64,
     pub calls_used: u64,
     pub allowance: u64,
+    pub share: u64,
     /// The clock of the idle mark.
     pub idle: Option<u64>,
     /// Enqueued, dequeued, expired, discarded, dispatched.
@@ -71,6 +72,7 @@ impl Whole {
             call_limit: opened.call_limit,
             calls_used: opened.calls_used,
             allowance: opened.allowance,
+            share: opened.share,
             idle: opened.idle_clock(),
             stats: [s.enqueued, s.dequeued, s.expired, s.discarded, s.dispatched],
             turn: view.turn as u64,

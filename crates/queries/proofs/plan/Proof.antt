@@ -47,7 +47,10 @@ first-waiting-requires : tie.Need-first-waiting-requires
 first-waiting-requires c κs = search needs
 
 add-from : tie.Need-add-from
-add-from c = search needs
+add-from c =
+    -- the rows in use are a word
+    let u = c .before .before .before .load .ok .1 .1 .1 .1 .1 .1 .1 .1 .1 .1 .1 .1 .1 .1 .1 .0 in
+    omega (arith, c .first-waiting .ensures, c .before .before .lines-of .ensures, c .before .if3 .left, u)
 
 returns-4 : tie.Need-returns-4
 returns-4 c =

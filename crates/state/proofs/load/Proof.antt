@@ -68,25 +68,28 @@ shared-slice-read-t28 c = search needs
 shared-slice-read-t30 : tie.Need-shared-slice-read-t30
 shared-slice-read-t30 c = search needs
 
-shared-slice-read-t33 : tie.Need-shared-slice-read-t33
-shared-slice-read-t33 c = search needs
+shared-slice-read-t32 : tie.Need-shared-slice-read-t32
+shared-slice-read-t32 c = search needs
 
-shared-slice-read-t36 : tie.Need-shared-slice-read-t36
-shared-slice-read-t36 c = search needs
+shared-slice-read-t35 : tie.Need-shared-slice-read-t35
+shared-slice-read-t35 c = search needs
 
-shared-slice-read-t39 : tie.Need-shared-slice-read-t39
-shared-slice-read-t39 c = search needs
+shared-slice-read-t38 : tie.Need-shared-slice-read-t38
+shared-slice-read-t38 c = search needs
 
-shared-slice-read-t42 : tie.Need-shared-slice-read-t42
-shared-slice-read-t42 c = search needs
+shared-slice-read-t41 : tie.Need-shared-slice-read-t41
+shared-slice-read-t41 c = search needs
 
 shared-slice-read-t44 : tie.Need-shared-slice-read-t44
 shared-slice-read-t44 c = search needs
 
+shared-slice-read-t46 : tie.Need-shared-slice-read-t46
+shared-slice-read-t46 c = search needs
+
 returns-2 : tie.Need-returns-2
 unfolding headOf loaded
 returns-2 c =
-    let u = c .before .before .before .before .before .before .before .before .before .before .before .before .before .before .before .before .before in
+    let u = c .before .before .before .before .before .before .before .before .before .before .before .before .before .before .before .before .before .before in
     let b = u .before .before .before in
     let a = b .before .before .before .before .args in
     let h : List ℕ = now (a .head) in
@@ -116,9 +119,10 @@ load-spec =
     shared-slice-read-t13-2
     shared-slice-read-t28
     shared-slice-read-t30
-    shared-slice-read-t33
-    shared-slice-read-t36
-    shared-slice-read-t39
-    shared-slice-read-t42
+    shared-slice-read-t32
+    shared-slice-read-t35
+    shared-slice-read-t38
+    shared-slice-read-t41
     shared-slice-read-t44
+    shared-slice-read-t46
     returns-2)

@@ -1,4 +1,4 @@
--- `state::store` meets its contract: seventeen stores in a row are the words at the front, and one is the last. Assumes nothing.
+-- `state::store` meets its contract: seventeen stores in a row are the words at the front, and two are the last. Assumes nothing.
 use mathlib.Core.Path.{ap}
 use mathlib.Core.List.{List}
 use Prim.Native.Nat.{ℕ}
@@ -76,6 +76,9 @@ slice-write-head-17 c = simp length-set (omega arith)
 slice-write-head-18 : tie.Need-slice-write-head-18
 slice-write-head-18 c = simp length-set (omega arith)
 
+slice-write-head-19 : tie.Need-slice-write-head-19
+slice-write-head-19 c = simp length-set (omega arith)
+
 same-length : tie.Need-same-length
 same-length c = simp length-set
 
@@ -84,7 +87,7 @@ unfolding stored headWords
 returns-2 c =
     let a = c .before .before .before .before .args in
     let h : List ℕ = now (a .head) in
-    rw (c .before .kind-word .ensures, le-ltb _ _ (c .before .before .if1 .left)) (ap (λ (l : List ℕ). set l 8345 (a .d .allowance)) (sets-eq (headWords (a .d)) h 0 (omega arith)))
+    rw (c .before .kind-word .ensures, le-ltb _ _ (c .before .before .if1 .left)) (ap (λ (l : List ℕ). set (set l 8345 (a .d .allowance)) 8346 (a .d .share)) (sets-eq (headWords (a .d)) h 0 (omega arith)))
 
 pub store-spec : {M : Type 1} → statement M
 store-spec =
@@ -111,5 +114,6 @@ store-spec =
     slice-write-head-16
     slice-write-head-17
     slice-write-head-18
+    slice-write-head-19
     same-length
     returns-2)

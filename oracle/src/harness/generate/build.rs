@@ -98,13 +98,17 @@ fn open(maker: &mut Maker) -> Call {
         [only] => *only,
         some => maker.random.pick(some),
     };
+    let share = match p.shares {
+        [only] => *only,
+        some => maker.random.pick(some),
+    };
     // Mostly the clock starts near the allowance.
     if allowance > 0 && maker.random.chance(4, 5) {
         maker.clock = (allowance + maker.random.below(120)).saturating_sub(60);
     }
     Call::new(
         code::OPEN,
-        &[kind, topic_limit, call_limit, maker.clock, allowance],
+        &[kind, topic_limit, call_limit, maker.clock, allowance, share],
     )
 }
 

@@ -11,6 +11,8 @@ pub struct Profile {
     pub call_limits: &'static [u64],
     /// Allowances for slow clocks.
     pub allowances: &'static [u64],
+    /// Shares of each producer connection; 0 stands for 512.
+    pub shares: &'static [u64],
     /// Codes with their weights. A first half of a release is followed by its second.
     pub weights: &'static [(u64, u64)],
     /// How many different consumers there are.
@@ -47,6 +49,7 @@ const MIXED: Profile = Profile {
     topic_limits: &[0, 0, 1, 2, 5, 512],
     call_limits: PLENTY,
     allowances: &[0],
+    shares: &[0],
     weights: &[
         (OPEN, 1),
         (ENQUEUE, 90),
@@ -249,6 +252,7 @@ const LIMITS: Profile = Profile {
     topic_limits: &[0, 1, 2, 511, 512],
     call_limits: &[1, 2, 3, 10, 20, 30, 60, 1 << 40],
     allowances: &[0, 0, 1, 20, ALLOWANCE_MAX - 1, ALLOWANCE_MAX],
+    shares: &[0, 1, 2, 5, 511, 512],
     weights: &[
         (OPEN, 6),
         (ENQUEUE, 20),
@@ -435,15 +439,55 @@ const SURPLUS: Profile = Profile {
     ..MIXED
 };
 
+const SHARES: Profile = Profile {
+    name: "shares",
+    kinds: &[0, 0, 1],
+    shares: &[1, 2, 3, 5, 10, 20, 100, 511, 512, 0],
+    weights: &[
+        (OPEN, 1),
+        (ENQUEUE, 120),
+        (JOIN, 16),
+        (LEAVE, 8),
+        (ACK, 40),
+        (PULL, 6),
+        (PREFETCH, 4),
+        (UNMARK, 6),
+        (SWEEP, 3),
+        (CLEAR, 1),
+    ],
+    prefetches: &[0, 0, 1, 2, 5, 100],
+    browsers: 3,
+    selectors: 2,
+    no_locals: 1,
+    transacted: 5,
+    wild: false,
+    bad_words: 0,
+    ..MIXED
+};
+
+const FULL_SHARES: Profile = Profile {
+    name: "fullshares",
+    shares: &[64, 85, 100, 102, 103, 128, 128, 200],
+    topic_limits: ROWS.topic_limits,
+    weights: ROWS.weights,
+    consumers: 12,
+    prefetches: ROWS.prefetches,
+    browsers: 1,
+    wild: false,
+    fill: true,
+    bad_words: 0,
+    ..MIXED
+};
+
 const DAMAGED: Profile = Profile {
     name: "damaged",
     damaged: true,
     ..MIXED
 };
 
-static PROFILES: [Profile; 20] = [
+static PROFILES: [Profile; 22] = [
     QUEUE, TOPIC, BROWSER, TX, PULLS, EXPIRY, ROWS, CONSUMERS, LIMITS, BADWORDS, AUDITS, SWEEP_MANY,
-    CLEAR_MANY, PRODUCERS, HALVES, ALLOWANCE, DRIFT, SURPLUS, DAMAGED, MIXED,
+    CLEAR_MANY, PRODUCERS, HALVES, ALLOWANCE, DRIFT, SURPLUS, SHARES, FULL_SHARES, DAMAGED, MIXED,
 ];
 
 impl Profile {
