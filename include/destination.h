@@ -53,6 +53,7 @@ extern "C" {
 #define DESTINATION_CONSUMERS 32    /* destination_consumers() */
 #define DESTINATION_ROWS 512        /* destination_rows() */
 #define DESTINATION_EVENTS 545      /* destination_events() */
+#define DESTINATION_OUTLOOK_LINES 512 /* destination_outlook_lines(): the fewest lines that the list of an outlook may have */
 #define DESTINATION_PAGE_LINES 50   /* destination_page_lines(): the most lines that a page has, and the fewest that its list may have */
 
 #define DESTINATION_SUB_WORDS 16
@@ -74,9 +75,11 @@ extern "C" {
 /* ---- refusals, in the order in which they are tested (a join tests 6, 7, 5) */
 
 #define DESTINATION_ACCEPTED 0
-#define DESTINATION_SHORT 1         /* a state array is short, the event list holds under 545, or a page list under 50 lines */
+#define DESTINATION_SHORT 1         /* a state array is short, the event list holds under 545, a page list under 50 lines, or an
+                                       outlook's under 512 */
 #define DESTINATION_NOT_SOUND 2     /* the state's numbers do not fit or are out of range, as before the first open; open does not ask */
 #define DESTINATION_ARGUMENTS 3     /* a number is outside its range, a code is unknown, or an unused word is not 0 */
+#define DESTINATION_READINGS_TURNED 17 /* an outlook: the earlier reading is above the later one */
 #define DESTINATION_CALLS_USED_UP 9 /* as many calls were accepted as the call limit says; open does not ask */
 #define DESTINATION_NUMBER_HELD 4   /* enqueue: the sequence number is held in a row, wherever it stands */
 #define DESTINATION_SHARE_USED_UP 14 /* enqueue: with its rows its producer's connection would hold more than the share; never with a share
@@ -229,6 +232,22 @@ struct destination_page_line {
     int32_t redelivery;
 };
 
+/* What an outlook asks: two readings of the clock (0 to 2^62) and two times, which are compared with expirations. 32 bytes. */
+struct destination_span {
+    uint64_t earlier, later; /* the true clock lies between them, ends included */
+    int64_t from, to;        /* any; from above to lists nothing */
+};
+
+/* What it answers. 48 bytes. Beside a refusal all else is 0. */
+struct destination_outlooked {
+    uint64_t refusal;
+    uint64_t sure;    /* of what waits on the queue: expired at the earlier reading */
+    uint64_t perhaps; /* expired only at the later one */
+    uint64_t alive;   /* expired at neither */
+    uint64_t next;    /* the sequence number of the next alive one to expire, the lowest on a tie; 0 for none */
+    size_t count;     /* lines written */
+};
+
 /* A consumer or a producer: the host's numbers for its texts, one to one. */
 struct destination_id {
     uint64_t connection;
@@ -273,6 +292,7 @@ size_t destination_consumers(void);
 size_t destination_rows(void);
 size_t destination_events(void);
 size_t destination_page_lines(void);
+size_t destination_outlook_lines(void);
 
 /* Does the call. */
 struct destination_outcome destination_call(uint64_t *head, size_t head_words,
@@ -354,6 +374,17 @@ struct destination_paged destination_page(const uint64_t *head, size_t head_word
                                           const uint64_t (*rows)[DESTINATION_ROW_WORDS], size_t rows_length,
                                           struct destination_page_line *lines, size_t lines_length,
                                           uint64_t offset, uint64_t limit);
+
+/* When the clock is only known to lie between two readings: how many of the entries that wait on the queue have surely expired, perhaps, or are
+ * alive, the allowance included, and which expires next. Lists those whose expiration is above 0 and from `from` to `to`, both included and
+ * without the allowance, by expiration and then sequence number; lines past them stay as they were. For any clock between the readings a sweep
+ * with maximum 512 that is accepted next removes, of these entries, the sure ones and none but sure and perhaps. On a topic all is 0.
+ * Refusals 1, 2; 3 for a reading above 2^62; then 17. */
+struct destination_outlooked destination_outlook(const uint64_t *head, size_t head_words,
+                                                 const uint64_t (*subs)[DESTINATION_SUB_WORDS], size_t subs_length,
+                                                 const uint64_t (*rows)[DESTINATION_ROW_WORDS], size_t rows_length,
+                                                 struct destination_page_line *lines, size_t lines_length,
+                                                 struct destination_span span);
 
 /* ---- requests: the words of each call, filled in */
 
@@ -653,6 +684,13 @@ static inline struct destination_paged destination_page_of(const struct destinat
 {
     return destination_page(d->head, DESTINATION_HEAD_WORDS, d->subs, DESTINATION_CONSUMERS, d->rows, DESTINATION_ROWS,
                             lines, lines_length, offset, limit);
+}
+
+static inline struct destination_outlooked destination_outlook_of(const struct destination *d, struct destination_page_line *lines,
+                                                                  size_t lines_length, struct destination_span span)
+{
+    return destination_outlook(d->head, DESTINATION_HEAD_WORDS, d->subs, DESTINATION_CONSUMERS, d->rows, DESTINATION_ROWS,
+                               lines, lines_length, span);
 }
 
 /* ---- reading an event: destination_event_..(d->events[i]) for i below the outcome's events */

@@ -588,7 +588,7 @@ static struct destination_outcome tried(struct lengths n, struct destination_req
 
 /* ---- a query on the same state: refusal and answer are the paper's, and nothing changes */
 
-static uint64_t asked[10];
+static uint64_t asked[18];
 
 static void wrong(const char *what, uint64_t query, uint64_t a, uint64_t b)
 {
@@ -665,11 +665,51 @@ static void ask_page(struct lent s, uint64_t barred)
     asked[refusal]++;
 }
 
+/* each line is one of those asked for, and each comes before the next, so that the count says that none is missing */
+static bool listed(struct lent s, const struct destination_page_line *l, size_t count, struct destination_span span)
+{
+    size_t used = paper_used(s), before = used;
+    for (size_t i = 0; i < count; i++) {
+        size_t at = used - s.head[16];
+        while (at < used && s.rows[at][0] != l[i].sequence)
+            at++;
+        if (at == used || !same_line(&l[i], s.rows[at]) || !paper_between(s, at, span) || (i > 0 && !paper_before(s.rows[before], s.rows[at])))
+            return false;
+        before = at;
+    }
+    return true;
+}
+
+static void ask_outlook(struct lent s, uint64_t barred)
+{
+    static struct destination_page_line lines[DESTINATION_OUTLOOK_LINES + 8], was[DESTINATION_OUTLOOK_LINES + 8];
+    size_t length = DESTINATION_OUTLOOK_LINES + 8 - (one_in(8) ? 9 : 0);
+    uint64_t now = world.clock + below(60), by = below(2) ? below(30) : odd_number();
+    struct destination_span span = {now, now + by, destination_signed(one_in(2) ? now - below(30) : odd_number()),
+                                    destination_signed(one_in(2) ? now + below(30) : odd_number())};
+    memset(lines, (int)below(256), sizeof lines);
+    memcpy(was, lines, sizeof lines);
+    struct destination_outlooked o = destination_outlook(LENT, lines, length, span);
+    bool far = span.earlier > DESTINATION_CLOCK_MOST || span.later > DESTINATION_CLOCK_MOST;
+    uint64_t refusal = length < DESTINATION_OUTLOOK_LINES ? 1 : barred != 0 ? barred : far ? 3 : span.earlier > span.later ? 17 : 0;
+    struct destination_outlooked wanted = {refusal, 0, 0, 0, 0, 0};
+    if (refusal == 0)
+        wanted = paper_outlook(s, span);
+    if (memcmp(&o, &wanted, sizeof o) != 0 || (refusal == 0 && !listed(s, lines, o.count, span)))
+        wrong("another outlook", 9, span.earlier, span.later);
+    if (memcmp(lines + o.count, was + o.count, (DESTINATION_OUTLOOK_LINES + 8 - o.count) * sizeof *lines) != 0)
+        wrong("a line past the outlook has changed", 9, span.earlier, span.later);
+    asked[refusal]++;
+}
+
 static void ask(struct lengths n)
 {
     struct lent s = lent(n);
     uint64_t barred = paper_barred(s);
-    switch (below(4)) {
+    switch (below(5)) {
+    case 4:
+        ask_outlook(s, barred);
+        break;
     case 0:
         ask_page(s, barred);
         break;
@@ -821,13 +861,13 @@ static int table(void)
             missing |= met[i] == 0;
         }
     printf("\nevents %" PRIu64 ", at most %" PRIu64 " in a call\n", sent, most_sent);
-    printf("queries: answered %" PRIu64 ", refused with 1 %" PRIu64 ", 2 %" PRIu64 ", 3 %" PRIu64 "\n", asked[0], asked[1], asked[2], asked[3]);
+    printf("queries: answered %" PRIu64 ", refused with 1 %" PRIu64 ", 2 %" PRIu64 ", 3 %" PRIu64 ", 17 %" PRIu64 "\n", asked[0], asked[1], asked[2], asked[3], asked[17]);
     printf("many calls at once %" PRIu64 " times, %" PRIu64 " calls\n", batches, batched);
     printf("one mark, kind or redelivery set: sound %" PRIu64 ", not sound %" PRIu64 "\n", marked[1], marked[0]);
     printf("another size of a row or of all its copies: sound %" PRIu64 ", not sound %" PRIu64 "\n", sized[1], sized[0]);
     printf("a share about what a connection holds: sound %" PRIu64 ", not sound %" PRIu64 "\n", shared_out[1], shared_out[0]);
     missing |= marked[0] == 0 || marked[1] == 0 || sized[0] == 0 || sized[1] == 0 || shared_out[0] == 0 || shared_out[1] == 0;
-    missing |= asked[0] == 0 || asked[1] == 0 || asked[2] == 0 || asked[3] == 0;
+    missing |= asked[0] == 0 || asked[1] == 0 || asked[2] == 0 || asked[3] == 0 || asked[17] == 0;
     if (missing)
         printf("not every refusal was met\n");
     return missing;

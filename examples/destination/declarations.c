@@ -42,6 +42,18 @@ ALWAYS(offsetof(struct destination_page_line, sequence) == 0);
 ALWAYS(offsetof(struct destination_page_line, expiration) == 8);
 ALWAYS(offsetof(struct destination_page_line, redelivery) == 16);
 ALWAYS(sizeof(((struct destination_page_line *)0)->redelivery) == 4);
+ALWAYS(sizeof(struct destination_span) == 32);
+ALWAYS(offsetof(struct destination_span, earlier) == 0);
+ALWAYS(offsetof(struct destination_span, later) == 8);
+ALWAYS(offsetof(struct destination_span, from) == 16);
+ALWAYS(offsetof(struct destination_span, to) == 24);
+ALWAYS(sizeof(struct destination_outlooked) == 48);
+ALWAYS(offsetof(struct destination_outlooked, refusal) == 0);
+ALWAYS(offsetof(struct destination_outlooked, sure) == 8);
+ALWAYS(offsetof(struct destination_outlooked, perhaps) == 16);
+ALWAYS(offsetof(struct destination_outlooked, alive) == 24);
+ALWAYS(offsetof(struct destination_outlooked, next) == 32);
+ALWAYS(offsetof(struct destination_outlooked, count) == 40);
 ALWAYS(sizeof(((struct destination *)0)->subs[0]) == 128);
 ALWAYS(sizeof(((struct destination *)0)->rows[0]) == 80);
 ALWAYS(sizeof(((struct destination *)0)->events[0]) == 48);
@@ -138,6 +150,7 @@ static void limits(void)
     CHECK(destination_rows() == DESTINATION_ROWS);
     CHECK(destination_events() == DESTINATION_EVENTS);
     CHECK(destination_page_lines() == DESTINATION_PAGE_LINES);
+    CHECK(destination_outlook_lines() == DESTINATION_OUTLOOK_LINES);
 
     /* each length alone, one short: so no two of them are exchanged */
     struct destination_request open = {0, {0, 0, 100, 0}};
@@ -287,6 +300,39 @@ static void lengths(void)
     CHECK(destination_page(STATE, page.lines, 49, 0, 1).refusal == 1);
 }
 
+static struct {
+    uint64_t g0[GUARD];
+    struct destination_page_line lines[DESTINATION_OUTLOOK_LINES];
+    uint64_t g1[GUARD];
+} view;
+
+static bool looked(struct destination_outlooked o, uint64_t sure, uint64_t perhaps, uint64_t alive, uint64_t next, size_t count)
+{
+    return o.refusal == 0 && o.sure == sure && o.perhaps == perhaps && o.alive == alive && o.next == next && o.count == count;
+}
+
+/* each number of an outlook apart, and its list */
+static void outlooks(void)
+{
+    static const int64_t expirations[7] = {10, 20, 21, 30, 31, 32, 0};
+    struct destination_span span = {10, 21, 20, 31};
+    CHECK(is(call((struct destination_request){0, {0, 0, 30, 4}}), 0, 0, 0));
+    for (uint64_t i = 0; i < 7; i++)
+        CHECK(is(call((struct destination_request){1, {7 - i, (uint64_t)expirations[i], 1, 0, 0, 8, 4}}), 0, 0, 0));
+    for (size_t i = 0; i < sizeof view / 8; i++)
+        ((uint64_t *)&view)[i] = GUARD_WORD;
+    CHECK(looked(destination_outlook(STATE, view.lines, 512, span), 1, 2, 4, 4, 4));
+    CHECK(view.lines[0].sequence == 6 && view.lines[0].expiration == 20 && view.lines[0].redelivery == 8);
+    CHECK(view.lines[1].sequence == 5 && view.lines[2].sequence == 4 && view.lines[3].sequence == 3 && view.lines[4].sequence == GUARD_WORD);
+    SHORT(destination_outlook, AND view.lines, 512, span);
+    CHECK(destination_outlook(STATE, view.lines, 511, span).refusal == DESTINATION_SHORT);
+    span.later = DESTINATION_CLOCK_MOST + 1;
+    CHECK(destination_outlook(STATE, view.lines, 512, span).refusal == DESTINATION_ARGUMENTS);
+    span.later = 9;
+    CHECK(destination_outlook(STATE, view.lines, 512, span).refusal == DESTINATION_READINGS_TURNED);
+    CHECK(guarded(view.g0) && guarded(view.g1) && all_guarded());
+}
+
 static void pages(void)
 {
     for (size_t i = 0; i < sizeof page / 8; i++)
@@ -416,6 +462,9 @@ static void on_struct(void)
     struct destination_paged p = destination_page_of(&one, lines, DESTINATION_PAGE_LINES, 1, 9);
     CHECK(p.refusal == 0 && p.total == 2 && p.count == 1 && lines[0].sequence == 7 && lines[0].redelivery == -8);
     CHECK(destination_page_of(&one, lines, DESTINATION_PAGE_LINES - 1, 1, 9).refusal == 1);
+    static struct destination_page_line wide[DESTINATION_OUTLOOK_LINES];
+    struct destination_span span = {0, 6, 0, 9};
+    CHECK(looked(destination_outlook_of(&one, wide, DESTINATION_OUTLOOK_LINES, span), 0, 1, 1, 0, 1) && wide[0].sequence == 5);
     CHECK(SAME(one, two));
 }
 
@@ -498,6 +547,8 @@ int main(void)
     places();
     counters();
     queries();
+    fill();
+    outlooks();
     inline_functions();
     on_struct();
     many_calls();

@@ -2,7 +2,7 @@
 //! the calls do. Each `unsafe` lends the library the vectors of one destination, with their true lengths.
 
 mod library {
-    use super::{Counters, Line, Request};
+    use super::{Counters, Line, Request, Span};
 
     #[repr(C)]
     #[derive(Clone, Copy, Default)]
@@ -41,6 +41,15 @@ mod library {
         pub count: usize,
     }
 
+    #[repr(C)]
+    #[derive(Clone, Copy)]
+    pub struct Outlooked {
+        pub refusal: u64,
+        pub outlook: super::Outlook,
+        pub count: usize,
+    }
+
+    const _: () = assert!(size_of::<Outlooked>() == 48 && size_of::<Span>() == 32);
     const _: () = assert!(size_of::<Request>() == 72 && size_of::<Outcome>() == 24 && size_of::<Asked>() == 16);
     const _: () = assert!(size_of::<Counted>() == 48 && size_of::<Paged>() == 24 && size_of::<Done>() == 16 && size_of::<Line>() == 24);
 
@@ -54,6 +63,7 @@ mod library {
         pub safe fn destination_rows() -> usize;
         pub safe fn destination_events() -> usize;
         pub safe fn destination_page_lines() -> usize;
+        pub safe fn destination_outlook_lines() -> usize;
         pub fn destination_call(
             head: *mut u64,
             head_words: usize,
@@ -119,6 +129,17 @@ mod library {
             offset: u64,
             limit: u64,
         ) -> Paged;
+        pub fn destination_outlook(
+            h: Head,
+            hn: usize,
+            s: Subs,
+            sn: usize,
+            r: Rows,
+            rn: usize,
+            lines: *mut Line,
+            lines_length: usize,
+            span: Span,
+        ) -> Outlooked;
     }
 }
 
@@ -310,10 +331,11 @@ pub enum Refusal {
     ProducersFull = 8,
     CallsUsedUp = 9,
     ShareUsedUp = 14,
+    ReadingsTurned = 17,
 }
 
 impl Refusal {
-    const ALL: [Refusal; 10] = [
+    const ALL: [Refusal; 11] = [
         Refusal::Short,
         Refusal::NotSound,
         Refusal::Arguments,
@@ -324,6 +346,7 @@ impl Refusal {
         Refusal::ProducersFull,
         Refusal::CallsUsedUp,
         Refusal::ShareUsedUp,
+        Refusal::ReadingsTurned,
     ];
 
     pub fn number(self) -> u64 {
@@ -355,6 +378,26 @@ pub struct Line {
     pub sequence: u64,
     pub expiration: i64,
     pub redelivery: i32,
+}
+
+/// Two readings of the clock, between which it lies, and two times that expirations are compared with.
+#[repr(C)]
+#[derive(Clone, Copy, Debug, PartialEq, Eq)]
+pub struct Span {
+    pub earlier: u64,
+    pub later: u64,
+    pub from: i64,
+    pub to: i64,
+}
+
+/// Of what waits: how many have surely expired, perhaps, or are alive, and which expires next, 0 for none.
+#[repr(C)]
+#[derive(Clone, Copy, Debug, PartialEq, Eq)]
+pub struct Outlook {
+    pub sure: u64,
+    pub perhaps: u64,
+    pub alive: u64,
+    pub next: u64,
 }
 
 #[repr(C)]
@@ -607,6 +650,15 @@ impl Destination {
         Refusal::of(c.refusal).map_or(Ok(c.counters), Err)
     }
 
+    /// What waits when the clock is only known to lie between two readings, and those that expire between two times.
+    pub fn outlook(&self, span: Span) -> Result<(Outlook, Vec<Line>), Refusal> {
+        let mut lines = vec![Line::default(); library::destination_outlook_lines()];
+        // Safety: as in `is_queue`, and a list with its own length.
+        let o = unsafe { query!(self, destination_outlook, lines.as_mut_ptr(), lines.len(), span) };
+        lines.truncate(o.count);
+        Refusal::of(o.refusal).map_or(Ok((o.outlook, lines)), Err)
+    }
+
     /// How many entries wait, and at most 50 of them from a place on.
     pub fn page(&self, offset: u64, limit: u64) -> Result<(u64, Vec<Line>), Refusal> {
         let mut lines = vec![Line::default(); library::destination_page_lines()];
@@ -745,6 +797,9 @@ mod tests {
         assert_eq!((d.seq_at(0), d.seq_at(2), d.seq_at(3)), (Ok(Some(11)), Ok(Some(13)), Ok(None)));
         let line = |sequence| Line { sequence, expiration: 9000, redelivery: -1 };
         assert_eq!(d.page(1, 60), Ok((3, vec![line(12), line(13)])));
+        let span = Span { earlier: 8999, later: 9000, from: 9000, to: 9000 };
+        assert_eq!(d.outlook(span), Ok((Outlook { sure: 0, perhaps: 3, alive: 0, next: 0 }, vec![line(11), line(12), line(13)])));
+        assert_eq!(d.outlook(Span { earlier: 9001, ..span }), Err(Refusal::ReadingsTurned));
         d.join(PULLER, 6000).expect("accepted");
         d.pull(ID, 0, 6000).expect("accepted");
         assert_eq!((d.message_count(), d.has_consumers(), d.bytes_held()), (Ok(3), Ok(true), Ok(300)));

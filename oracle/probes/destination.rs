@@ -61,9 +61,16 @@ pub fn owned(dest: &Dest) -> Vec<Entry> {
     let subs = st.subs.iter().filter(|s| !dest.is_queue() || s.browser.is_none());
     let held = subs.flat_map(|s| {
         let inflight = s.inflight.values().map(|i| &i.entry);
-        inflight.chain(s.tpending.values()).chain(s.browser.iter().flatten())
+        inflight
+            .chain(s.tpending.values())
+            .chain(s.browser.iter().flatten())
     });
-    st.pending.values().chain(st.reserved.values().flatten()).chain(held).cloned().collect()
+    st.pending
+        .values()
+        .chain(st.reserved.values().flatten())
+        .chain(held)
+        .cloned()
+        .collect()
 }
 
 /// True when a copy with this sequence number stands in any place.

@@ -66,7 +66,7 @@ pub struct PageLine {
 }
 
 // What a query meets first: 1 where a buffer is short, 2 where the state is not sound, else 0.
-fn barred(head: &[u64], subs: &[SubRow], rows: &[Row]) -> u64
+pub fn barred(head: &[u64], subs: &[SubRow], rows: &[Row]) -> u64
     ensures { λ r. ⌜ r ≡ barred (lent (now (head .entry)) (now (subs .entry)) (now (rows .entry))) ⌝ }
 {
     if !sound::whole(head, subs, rows) {

@@ -14,12 +14,12 @@ use std::io::{self, Read, Write};
 use std::process::ExitCode;
 
 use destination_oracle::harness::callfile::{self, Call, BLOCK};
+use destination_oracle::harness::corners;
 use destination_oracle::harness::engine::Engine;
 use destination_oracle::harness::generate::{self, Profile};
 use destination_oracle::harness::held::Held;
 use destination_oracle::harness::text::{self, Script};
 use destination_oracle::harness::whole::Whole;
-use destination_oracle::harness::corners;
 
 const USAGE: &str =
     "usage: gen SEED PROFILE CALLS | profiles | corner NAME | corners | expected NAME | bytes NAME | calls | show";
@@ -91,7 +91,9 @@ fn bytes(corner: &Script) -> Result<Vec<u8>, String> {
         while let Some((_, bytes)) = wanted.next_if(|(after, _)| *after == index + 1) {
             let held = engine.opened().map(|o| Held::of(o, &Whole::of(o)).bytes());
             if held != Some(*bytes) {
-                return Err(format!("after call {index}: {bytes} bytes by the text, {held:?} by the broker"));
+                return Err(format!(
+                    "after call {index}: {bytes} bytes by the text, {held:?} by the broker"
+                ));
             }
         }
     }

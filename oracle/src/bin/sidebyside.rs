@@ -47,6 +47,7 @@ fn main() -> ExitCode {
         halves: [0; 3],
         surplus: [0; 6],
         texts: 0,
+        outlooks: [0; 5],
         seen: Vec::new(),
     };
     match run.all(&arguments) {
@@ -75,6 +76,8 @@ struct Run {
     surplus: [u64; 6],
     /// Numbers of bytes held in the corners' texts.
     texts: u64,
+    /// Outlooks: asked, with sure ones, with perhaps, with several lines; sweeps tried.
+    outlooks: [u64; 5],
     /// Conditions, and after how many calls they held.
     seen: Vec<(&'static str, u64)>,
 }
@@ -115,7 +118,9 @@ impl Run {
                 self.texts += 1;
                 if (asked.refusal, asked.answer) != (0, *bytes) {
                     self.different += 1;
-                    println!("corner {name}, call {index}: {bytes} bytes by the text, {asked:?} by the library");
+                    println!(
+                        "corner {name}, call {index}: {bytes} bytes by the text, {asked:?} by the library"
+                    );
                 }
             }
         }
@@ -174,6 +179,11 @@ impl Run {
         for (sum, more) in self.halves.iter_mut().zip(sides.halves()) {
             *sum += more;
         }
+        let o = sides.outlooks;
+        let outlooks = [o.asked, o.sure, o.perhaps, o.listed, o.sweeps];
+        for (sum, more) in self.outlooks.iter_mut().zip(outlooks) {
+            *sum += more;
+        }
         for (sum, more) in self.surplus.iter_mut().zip(sides.surplus()) {
             *sum += more;
         }
@@ -211,8 +221,15 @@ impl Run {
             }
         }
         let refusals: Vec<String> = self.refusals.iter().map(u64::to_string).collect();
-        println!("refusals 0 to 9: {}; 14: {}", refusals[..10].join(" "), refusals[14]);
-        println!("enqueues below share 512 for which shares suffice: {}", self.suffices);
+        println!(
+            "refusals 0 to 9: {}; 14: {}",
+            refusals[..10].join(" "),
+            refusals[14]
+        );
+        println!(
+            "enqueues below share 512 for which shares suffice: {}",
+            self.suffices
+        );
         let [both, first, second] = self.halves;
         println!("releases, both halves: {both}");
         println!("halves alone, of a consumer with marks: {first} first, {second} second");
@@ -223,6 +240,8 @@ impl Run {
              beside lists within the limit: {others}, beside discards: {discards})"
         );
         println!("bytes held in texts: {}", self.texts);
+        let [asked, sure, perhaps, listed, sweeps] = self.outlooks;
+        println!("outlooks: {asked} (with sure ones: {sure}, with perhaps: {perhaps}, with several lines: {listed}; sweeps tried: {sweeps})");
         for (name, times) in &self.seen {
             println!("{name}: {times}");
         }
@@ -297,7 +316,10 @@ fn conditions(call: &Call, both: &Both) -> Vec<(&'static str, bool)> {
             "states with entries, bytes held by the broker's figure",
             held.entries > 0 && held.small == 0,
         ),
-        ("states with a size below 256, bytes held by the second reading", held.small > 0),
+        (
+            "states with a size below 256, bytes held by the second reading",
+            held.small > 0,
+        ),
         ("states with copies of one entry", whole.rows() > held.entries),
         ("states with 2^32 bytes or more", held.bytes() >> 32 > 0),
         (

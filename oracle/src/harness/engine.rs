@@ -125,7 +125,7 @@ impl Opened {
 
     /// The clock that the broker gets: the call's less the allowance, or 0 where that is below 0. The broker reads
     /// it for expirations alone; its idle mark is its own.
-    fn reduced(&self, clock: u64) -> i64 {
+    pub fn reduced(&self, clock: u64) -> i64 {
         clock.saturating_sub(self.allowance) as i64
     }
 
@@ -138,7 +138,9 @@ impl Opened {
         };
         let connection = host::entry_numbers(entry).connection;
         let own = probe::owned(&self.dest);
-        let held = own.iter().filter(|e| host::entry_numbers(e).connection == connection);
+        let held = own
+            .iter()
+            .filter(|e| host::entry_numbers(e).connection == connection);
         (needed, held.count() as u64)
     }
 

@@ -158,7 +158,11 @@ pub fn entry_numbers(e: &Entry) -> EntryNumbers {
         redelivery: e.redelivery,
         size: e.msg.arrival as u64,
     };
-    assert_eq!(e.meta.size, numbers.charged(), "the broker's size is the body's and 256");
+    assert_eq!(
+        e.meta.size,
+        numbers.charged(),
+        "the broker's size is the body's and 256"
+    );
     numbers
 }
 

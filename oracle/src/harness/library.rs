@@ -93,6 +93,50 @@ pub struct Line {
 
 pub const PAGE_LINES: usize = 50;
 
+/// Two readings of the clock, and two times.
+#[repr(C)]
+#[derive(Clone, Copy, Debug)]
+pub struct Span {
+    pub earlier: u64,
+    pub later: u64,
+    pub from: i64,
+    pub to: i64,
+}
+
+#[repr(C)]
+#[derive(Clone, Copy, Debug, Default, PartialEq)]
+pub struct Outlooked {
+    pub refusal: u64,
+    pub sure: u64,
+    pub perhaps: u64,
+    pub alive: u64,
+    pub next: u64,
+    pub count: usize,
+}
+
+impl Span {
+    pub fn new(earlier: u64, later: u64, (from, to): (i64, i64)) -> Span {
+        Span {
+            earlier,
+            later,
+            from,
+            to,
+        }
+    }
+}
+
+impl Outlooked {
+    /// Beside a refusal all is 0.
+    pub fn refused(refusal: u64) -> Outlooked {
+        Outlooked {
+            refusal,
+            ..Outlooked::default()
+        }
+    }
+}
+
+pub const OUTLOOK_LINES: usize = 512;
+
 type Ask = unsafe extern "C" fn(*const u64, usize, *const SubRow, usize, *const Row, usize) -> Asked;
 
 type Uncoded = unsafe extern "C" fn(
@@ -195,6 +239,18 @@ extern "C" {
         offset: u64,
         limit: u64,
     ) -> Paged;
+
+    fn destination_outlook(
+        head: *const u64,
+        head_length: usize,
+        subs: *const SubRow,
+        subs_length: usize,
+        rows: *const Row,
+        rows_length: usize,
+        lines: *mut Line,
+        lines_length: usize,
+        span: Span,
+    ) -> Outlooked;
 
     fn destination_add_discarded(
         head: *mut u64,
@@ -410,6 +466,23 @@ impl Lent {
                 lines.len(),
                 offset,
                 limit,
+            )
+        }
+    }
+
+    pub fn outlook(&self, lines: &mut [Line], span: Span) -> Outlooked {
+        let (h, s, r) = (&self.head, &self.subs, &self.rows);
+        unsafe {
+            destination_outlook(
+                h.as_ptr(),
+                h.len(),
+                s.as_ptr(),
+                s.len(),
+                r.as_ptr(),
+                r.len(),
+                lines.as_mut_ptr(),
+                lines.len(),
+                span,
             )
         }
     }

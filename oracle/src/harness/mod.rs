@@ -10,6 +10,8 @@ pub mod held;
 pub mod host;
 #[cfg(feature = "library")]
 pub mod library;
+#[cfg(feature = "library")]
+pub mod outlook;
 pub mod queries;
 pub mod random;
 #[cfg(feature = "library")]

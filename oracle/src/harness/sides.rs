@@ -3,11 +3,13 @@
 //! then a call without a code comes between, and the queries are compared. The same calls in batches
 //! must leave what they leave one by one.
 
+use super::arguments;
 use super::callfile::Call;
 use super::dump::{self, Audits};
 use super::engine::{refusal, Engine, Opened, Reply, Uncoded};
 use super::held::Held;
 use super::library::{self, Asked, CallWords, Counters, EventRow, Lent, Line, Outcome, EVENTS, PAGE_LINES};
+use super::outlook::{self, Outlooks};
 use super::random::Random;
 use super::text;
 use super::whole::Whole;
@@ -30,6 +32,7 @@ pub struct Sides {
     engine: Engine,
     pub lent: Lent,
     calls: usize,
+    pub outlooks: Outlooks,
 }
 
 /// What both sides have made of one call.
@@ -94,8 +97,11 @@ impl Sides {
     pub fn between(&mut self, call: &Call) -> Option<&'static str> {
         if self.calls.is_multiple_of(QUERIES_EVERY) {
             if let Some(opened) = self.engine.opened() {
-                if let Some(what) = queries_differ(opened, &self.lent, call.args[6]) {
-                    return Some(what);
+                let found = queries_differ(opened, &self.lent, call.args[6]);
+                let clock = arguments::clock_place(call.code).map_or(0, |at| call.args[at]);
+                let what = found.or_else(|| outlook::differs(opened, &self.lent, clock, &mut self.outlooks));
+                if what.is_some() {
+                    return what;
                 }
             }
         }
@@ -285,7 +291,9 @@ impl Both {
 
     /// Bytes held as the broker's side has them; before an open there is no sound state.
     fn bytes_wanted(&self) -> Asked {
-        let (refusal, answer) = self.held.map_or((refusal::NOT_SOUND, 0), |h| (refusal::NONE, h.bytes()));
+        let (refusal, answer) = self
+            .held
+            .map_or((refusal::NOT_SOUND, 0), |h| (refusal::NONE, h.bytes()));
         Asked {
             refusal: u64::from(refusal),
             answer,
