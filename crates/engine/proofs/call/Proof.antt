@@ -1,4 +1,4 @@
--- `destination::call` meets its contract. Assumes nothing.
+-- `engine::call` meets its contract. Assumes nothing.
 use mathlib.Core.Path.{_≡_, sym, ap, _∙_, subst⁻¹}
 use mathlib.Core.Bool.{Bool, true, false, not}
 use mathlib.Core.List.{List}

@@ -1,4 +1,4 @@
--- `destination::finish` meets its contract. Assumes nothing.
+-- `engine::finish` meets its contract. Assumes nothing.
 use mathlib.Core.Path.{_≡_, sym, ap, _∙_}
 use mathlib.Core.Bool.{true, false}
 use borrow.Author.Tests.{eq-eqb, ne-eqb}

@@ -1,4 +1,4 @@
--- `destination::open` meets its contract. Assumes nothing.
+-- `engine::open` meets its contract. Assumes nothing.
 use mathlib.Core.Path.{_≡_, sym, ap, _∙_}
 use mathlib.Core.Bool.{true, false}
 use borrow.Author.Tests.{not-true, not-false}

@@ -1,4 +1,4 @@
--- `destination::run` meets its contract. Assumes nothing.
+-- `engine::run` meets its contract. Assumes nothing.
 use denote.Ref.{now}
 use Rattle.engine.proofs.Ran.{spent-run, ready-run, fit-run, tables-run, head-run}
 use borrow.Author.Needs.{needs}

@@ -1,4 +1,4 @@
--- `destination::step` meets its contract. Assumes nothing.
+-- `engine::step` meets its contract. Assumes nothing.
 use mathlib.Core.Path.{sym, _∙_, subst⁻¹}
 use native.Mathlib.Omega.{arith}
 use borrow.Author.Tests.{not-true, not-false, eq-eqb, ne-eqb}

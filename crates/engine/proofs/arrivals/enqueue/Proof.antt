@@ -1,4 +1,4 @@
--- `destination::arrivals::enqueue` meets its contract. Assumes nothing.
+-- `engine::arrivals::enqueue` meets its contract. Assumes nothing.
 use mathlib.Core.Path.{_≡_, sym, _∙_}
 use mathlib.Core.Bool.{false}
 use borrow.Author.Tests.{not-true}

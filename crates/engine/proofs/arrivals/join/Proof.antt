@@ -1,4 +1,4 @@
--- `destination::arrivals::join` meets its contract. Assumes nothing.
+-- `engine::arrivals::join` meets its contract. Assumes nothing.
 use denote.Ref.{now}
 use Rattle.engine.proofs.Arriving.{join-refused, join-done}
 use borrow.Author.Needs.{needs}

@@ -1,4 +1,4 @@
--- `destination::asking::ack_of` meets its contract. Assumes nothing.
+-- `engine::asking::ack_of` meets its contract. Assumes nothing.
 use mathlib.Core.Path.{_≡_}
 use mathlib.Core.Bool.{Bool}
 use Prim.Native.Nat.{ℕ}

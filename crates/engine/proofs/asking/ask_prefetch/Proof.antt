@@ -1,4 +1,4 @@
--- `destination::asking::ask_prefetch` meets its contract. Assumes nothing.
+-- `engine::asking::ask_prefetch` meets its contract. Assumes nothing.
 use mathlib.Core.Path.{_≡_, sym, ap, _∙_}
 use denote.Ref.{now}
 use lib.IntN.{ℤ}

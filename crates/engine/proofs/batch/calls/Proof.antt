@@ -1,4 +1,4 @@
--- `destination::batch::calls` meets its contract. Assumes nothing.
+-- `engine::batch::calls` meets its contract. Assumes nothing.
 use mathlib.Core.Path.{_≡_, sym, _∙_}
 use mathlib.Core.Bool.{true, not, _&&_}
 use borrow.Author.Tests.{not-true, not-false}

@@ -1,4 +1,4 @@
--- `destination::batch::run_each` meets its contract: what is done so far, with the definition of what is left, is the whole. Assumes nothing.
+-- `engine::batch::run_each` meets its contract: what is done so far, with the definition of what is left, is the whole. Assumes nothing.
 use mathlib.Core.Path.{refl}
 use mathlib.Core.List.{[], _∷_}
 use Prim.Native.Nat.{_-_}

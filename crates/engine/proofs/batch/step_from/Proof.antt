@@ -1,4 +1,4 @@
--- `destination::batch::step_from` meets its contract. Assumes nothing.
+-- `engine::batch::step_from` meets its contract. Assumes nothing.
 use mathlib.Core.Path.{_≡_, subst⁻¹}
 use mathlib.Core.Bool.{false}
 use Prim.Native.Nat.{ℕ}

@@ -1,4 +1,4 @@
--- `destination::departures::clear` meets its contract. Assumes nothing.
+-- `engine::departures::clear` meets its contract. Assumes nothing.
 use denote.Ref.{now}
 use Rattle.definition.specs.Destination.{clear}
 use Rattle.definition.specs.Calls.{clearing}

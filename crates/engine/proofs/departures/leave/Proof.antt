@@ -1,4 +1,4 @@
--- `destination::departures::leave` meets its contract. Assumes nothing.
+-- `engine::departures::leave` meets its contract. Assumes nothing.
 use mathlib.Core.Path.{_≡_, refl, sym, _∙_}
 use native.Mathlib.Omega.{arith}
 use borrow.Author.Tests.{not-true, not-false}

@@ -1,4 +1,4 @@
--- `destination::departures::release` meets its contract. Assumes nothing.
+-- `engine::departures::release` meets its contract. Assumes nothing.
 use mathlib.Core.Path.{_≡_, sym, _∙_}
 use mathlib.Core.Bool.{false}
 use mathlib.Core.List.{List}

@@ -1,4 +1,4 @@
--- `destination::departures::sweep` meets its contract. Assumes nothing.
+-- `engine::departures::sweep` meets its contract. Assumes nothing.
 use Prim.Native.Nat.{_^_}
 use borrow.Author.Tests.{le-leb}
 use denote.Ref.{now}

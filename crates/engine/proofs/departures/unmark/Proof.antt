@@ -1,4 +1,4 @@
--- `destination::departures::unmark` meets its contract. Assumes nothing.
+-- `engine::departures::unmark` meets its contract. Assumes nothing.
 use native.Mathlib.Omega.{arith}
 use denote.Ref.{now}
 use Rattle.definition.specs.Destination.{unmarked}

@@ -1,4 +1,4 @@
--- `destination::handling::release` meets its contract. Assumes nothing.
+-- `engine::handling::release` meets its contract. Assumes nothing.
 use mathlib.Core.Path.{_≡_, sym, ap, ap₂, _∙_}
 use mathlib.Core.Bool.{true}
 use mathlib.Core.List.{List}

@@ -1,4 +1,4 @@
--- `destination::handling::spec_of` meets its contract. Assumes nothing.
+-- `engine::handling::spec_of` meets its contract. Assumes nothing.
 use mathlib.Core.Path.{_≡_, _∙_}
 use mathlib.Core.Bool.{Bool}
 use mir.Syntax.{w32}

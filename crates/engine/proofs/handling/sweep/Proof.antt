@@ -1,4 +1,4 @@
--- `destination::handling::sweep` meets its contract. Assumes nothing.
+-- `engine::handling::sweep` meets its contract. Assumes nothing.
 use mathlib.Core.Path.{_≡_, sym, ap, ap₂, _∙_}
 use mathlib.Core.Bool.{true}
 use mathlib.Core.List.{List}

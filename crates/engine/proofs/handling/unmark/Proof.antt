@@ -1,4 +1,4 @@
--- `destination::handling::unmark` meets its contract. Assumes nothing.
+-- `engine::handling::unmark` meets its contract. Assumes nothing.
 use mathlib.Core.Path.{ap}
 use denote.Ref.{now}
 use Rattle.definition.specs.Calls.{unmarking}

@@ -1,4 +1,4 @@
--- `destination::perform::perform` meets its contract. Assumes nothing.
+-- `engine::perform::perform` meets its contract. Assumes nothing.
 use mathlib.Core.Path.{_≡_}
 use denote.Ref.{now}
 use Rattle.engine.proofs.Performed.{by-code, known-code, last-code}

@@ -1,4 +1,4 @@
--- `destination::requests::ack` meets its contract. Assumes nothing.
+-- `engine::requests::ack` meets its contract. Assumes nothing.
 use mathlib.Core.Path.{_≡_, sym, _∙_}
 use denote.Ref.{now}
 use Rattle.definition.specs.Destination.{ack}

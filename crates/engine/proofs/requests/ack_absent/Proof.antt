@@ -1,4 +1,4 @@
--- `destination::requests::ack_absent` meets its contract. Assumes nothing.
+-- `engine::requests::ack_absent` meets its contract. Assumes nothing.
 use mathlib.Core.Path.{_≡_, sym, ap, _∙_}
 use mathlib.Core.Bool.{Bool, true, false, _||_}
 use native.Mathlib.Omega.{arith}

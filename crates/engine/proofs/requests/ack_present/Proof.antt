@@ -1,4 +1,4 @@
--- `destination::requests::ack_present` meets its contract. Assumes nothing.
+-- `engine::requests::ack_present` meets its contract. Assumes nothing.
 use mathlib.Core.Path.{_≡_, sym, _∙_}
 use mathlib.Core.Bool.{false}
 use native.Mathlib.Omega.{arith}

@@ -1,4 +1,4 @@
--- `destination::requests::pull` meets its contract. Assumes nothing.
+-- `engine::requests::pull` meets its contract. Assumes nothing.
 use mathlib.Core.Path.{_≡_, sym, ap, _∙_}
 use mathlib.Core.Bool.{Bool, _&&_}
 use native.Mathlib.Omega.{arith}

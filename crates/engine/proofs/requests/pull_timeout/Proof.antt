@@ -1,4 +1,4 @@
--- `destination::requests::pull_timeout` meets its contract. Assumes nothing.
+-- `engine::requests::pull_timeout` meets its contract. Assumes nothing.
 use native.Mathlib.Omega.{arith}
 use denote.Ref.{now}
 use Rattle.definition.specs.Destination.{pullTimeout}

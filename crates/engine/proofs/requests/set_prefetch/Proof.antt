@@ -1,4 +1,4 @@
--- `destination::requests::set_prefetch` meets its contract. Assumes nothing.
+-- `engine::requests::set_prefetch` meets its contract. Assumes nothing.
 use mathlib.Core.Path.{_≡_, sym}
 use native.Mathlib.Omega.{arith}
 use denote.Ref.{now}

@@ -1,4 +1,4 @@
--- `destination::uncoded::add_discarded` meets its contract. Assumes nothing.
+-- `engine::uncoded::add_discarded` meets its contract. Assumes nothing.
 use mathlib.Core.Path.{sym, _∙_}
 use denote.Ref.{now}
 use Rattle.engine.proofs.Bare.{discarded-refused, discarded-called}

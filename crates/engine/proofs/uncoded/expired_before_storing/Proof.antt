@@ -1,4 +1,4 @@
--- `destination::uncoded::expired_before_storing` meets its contract. Assumes nothing.
+-- `engine::uncoded::expired_before_storing` meets its contract. Assumes nothing.
 use mathlib.Core.Path.{sym, _∙_}
 use denote.Ref.{now}
 use Rattle.engine.proofs.Bare.{missing-refused, missing-called}

@@ -1,4 +1,4 @@
--- `destination::uncoded::refusal` meets its contract. Assumes nothing.
+-- `engine::uncoded::refusal` meets its contract. Assumes nothing.
 use mathlib.Core.Path.{_≡_, sym, _∙_}
 use mathlib.Core.Bool.{true, false}
 use native.Mathlib.Omega.{arith}
