@@ -1,0 +1,14 @@
+pub mod Measures
+pub mod Dispatch
+pub mod Parts
+pub mod Sweeps
+pub mod Acks
+pub mod Steps
+pub mod Calls
+pub mod Run
+pub mod Claims
+pub mod Copies
+pub mod Expiry
+pub mod Report
+pub mod Blocks
+pub mod Totals

@@ -1,0 +1,121 @@
+-- A run that has every fate an entry of a queue can have, and one with an allowance and a release in halves, as words of the call file, with what their
+-- reports say; antt computes them. Assumes nothing.
+use Prim.Native.Nat.{ℕ, _+_}
+use mathlib.Core.Bool.{Bool, true, false, _&&_}
+use mathlib.Core.List.{List, [], _∷_, _++_}
+use lib.Dec.{eqb, T}
+use Rattle.definition.specs.Base.{every}
+use Rattle.definition.specs.Types.{queue}
+use Rattle.definition.specs.Consumer.{consumerOpen}
+use Rattle.definition.specs.Destination.{destinationOpen}
+use Rattle.definition.specs.Calls.{opened, callsOpen}
+use Rattle.definition.specs.Words.{wordsOpen}
+use Rattle.definition.specs.Orders.{Lent}
+use Rattle.fates.specs.Fates.{dequeued, expired, discarded, deadLettered, cleared, removal, fateBy, leavers}
+use Rattle.fates.specs.Account.{Place, waiting, inFlight, reserved, left, numbersAt}
+use Rattle.fates.specs.Report.{Ledger, report}
+
+abbrev sameNumbers : List ℕ → List ℕ → Bool
+sameNumbers [] [] = true
+sameNumbers [] (b ∷ bs) = false
+sameNumbers (a ∷ l) [] = false
+sameNumbers (a ∷ l) (b ∷ m) = eqb a b && sameNumbers l m
+
+abbrev lent : ℕ → List ℕ → Lent
+lent code words = record { code = code; words = words; lengths = record { head = 8347; subs = 32; rows = 512; events = 545 } }
+
+-- sequence, expiration, persistent
+abbrev enqueues : ℕ → ℕ → ℕ → Lent
+enqueues s ex p = lent 1 (s ∷ ex ∷ p ∷ 7 ∷ 0 ∷ 0 ∷ 1 ∷ 0 ∷ [])
+
+-- type and flags, first, last
+abbrev acks : ℕ → ℕ → ℕ → Lent
+acks k first last = lent 4 (9 ∷ 1 ∷ 1 ∷ k ∷ first ∷ last ∷ 31 ∷ 0 ∷ [])
+
+-- connection, prefetch, flags, clock
+abbrev joins : ℕ → ℕ → ℕ → ℕ → Lent
+joins c p f now = lent 2 (c ∷ 1 ∷ 1 ∷ p ∷ 64 ∷ f ∷ now ∷ 0 ∷ [])
+
+abbrev start : Ledger
+start = record { accepted = []; gone = []; dest = opened queue 0 1 0 0 512 }
+
+-- up to the last acknowledgement
+abbrev calls : List Lent
+calls =
+    lent 0 (0 ∷ 0 ∷ 100 ∷ 0 ∷ 0 ∷ 0 ∷ 0 ∷ 0 ∷ [])
+    ∷ enqueues 1 20 1
+    ∷ enqueues 2 0 1
+    ∷ enqueues 3 0 0
+    ∷ enqueues 4 0 1
+    ∷ enqueues 5 0 1
+    ∷ enqueues 6 0 1
+    ∷ enqueues 7 0 1
+    ∷ enqueues 8 0 1
+    -- 5 is held: refused
+    ∷ enqueues 5 0 1
+    -- 1 has expired; 2 to 6 go out
+    ∷ joins 9 5 0 30
+    -- INDIVIDUAL 2; 7 goes out
+    ∷ acks (4 + 1024) 0 2
+    -- POISON 3 and 4, of which 3 is not persistent; 8 goes out
+    ∷ acks (1 + 512 + 1024) 3 4
+    -- EXPIRED 5
+    ∷ acks (6 + 512 + 1024) 5 5
+    -- INDIVIDUAL 6 in a transaction
+    ∷ acks (4 + 256 + 512 + 1024) 6 6
+    ∷ []
+
+-- the consumer leaves: 6 is reserved, 7 and 8 return; a browser is shown both, and a consumer with room for one takes 7
+abbrev later : List Lent
+later = calls ++ (lent 3 (9 ∷ 1 ∷ 1 ∷ 0 ∷ 40 ∷ 0 ∷ 0 ∷ 0 ∷ []) ∷ joins 8 5 2 41 ∷ joins 10 1 0 42 ∷ [])
+
+abbrev wiped : List Lent
+wiped = later ++ (lent 10 (0 ∷ 0 ∷ 0 ∷ 0 ∷ 0 ∷ 0 ∷ 0 ∷ 0 ∷ []) ∷ [])
+
+-- with an allowance of 10: 1, with expiration 20, goes out at 25 with 2; a transacted INDIVIDUAL from 1 to 2 marks 2 alone, so 1 returns at 29 and 2 is reserved
+abbrev slow : List Lent
+slow =
+    lent 0 (0 ∷ 0 ∷ 100 ∷ 0 ∷ 10 ∷ 0 ∷ 0 ∷ 0 ∷ [])
+    ∷ enqueues 1 20 1
+    ∷ enqueues 2 0 1
+    ∷ joins 9 5 0 25
+    ∷ acks (4 + 256 + 512 + 1024) 1 2
+    ∷ lent 3 (9 ∷ 1 ∷ 1 ∷ 0 ∷ 29 ∷ 0 ∷ 0 ∷ 0 ∷ [])
+    ∷ lent 9 (29 ∷ 5 ∷ 0 ∷ 0 ∷ 0 ∷ 0 ∷ 0 ∷ 0 ∷ [])
+    ∷ []
+
+-- a sweep at 30 takes 1, and the second half of a release returns 2
+abbrev swept : List Lent
+swept = slow ++ (lent 9 (30 ∷ 5 ∷ 0 ∷ 0 ∷ 0 ∷ 0 ∷ 0 ∷ 0 ∷ []) ∷ lent 15 (9 ∷ 1 ∷ 1 ∷ 30 ∷ 0 ∷ 0 ∷ 0 ∷ 0 ∷ []) ∷ [])
+
+-- 2 is marked once more; the first half of a release clears the mark, so 2 returns as its consumer leaves
+abbrev freed : List Lent
+freed = swept ++ (joins 9 5 0 30 ∷ acks (4 + 256 + 1024) 0 2 ∷ lent 8 (9 ∷ 1 ∷ 1 ∷ 0 ∷ 0 ∷ 0 ∷ 0 ∷ 0 ∷ []) ∷ lent 3 (9 ∷ 1 ∷ 1 ∷ 0 ∷ 32 ∷ 0 ∷ 0 ∷ 0 ∷ []) ∷ [])
+
+-- the numbers in the eight places
+abbrev says : List Lent → List ℕ → List ℕ → List ℕ → List ℕ → List ℕ → List ℕ → List ℕ → List ℕ → Bool
+says l a b c d e f g h =
+    let r = report l start in
+    let there : Place → List ℕ → Bool = λ p m. sameNumbers (numbersAt p (r .gone) (r .dest)) m in
+    every (there waiting a ∷ there inFlight b ∷ there reserved c ∷ there (left dequeued) d ∷ there (left expired) e ∷ there (left discarded) f ∷ there (left deadLettered) g ∷ there (left cleared) h ∷ [])
+
+-- enqueued, dequeued, expired, discarded
+abbrev counts : List Lent → List ℕ → Bool
+counts l m = let c = report l start .dest .stats in sameNumbers (c .enqueued ∷ c .dequeued ∷ c .expired ∷ c .discarded ∷ []) m
+
+cases : List Bool
+cases =
+    says calls [] (6 ∷ 7 ∷ 8 ∷ []) [] (2 ∷ []) (1 ∷ 5 ∷ []) [] (3 ∷ 4 ∷ []) []
+    ∷ counts calls (8 ∷ 1 ∷ 2 ∷ 1 ∷ [])
+    ∷ says later (8 ∷ []) (7 ∷ []) (6 ∷ []) (2 ∷ []) (1 ∷ 5 ∷ []) [] (3 ∷ 4 ∷ []) []
+    ∷ says wiped [] [] [] (2 ∷ []) (1 ∷ 5 ∷ []) [] (3 ∷ 4 ∷ []) (8 ∷ 6 ∷ 7 ∷ [])
+    ∷ counts wiped (8 ∷ 1 ∷ 2 ∷ 1 ∷ [])
+    ∷ says slow (1 ∷ []) [] (2 ∷ []) [] [] [] [] []
+    ∷ says swept (2 ∷ []) [] [] [] (1 ∷ []) [] [] []
+    ∷ says freed (2 ∷ []) [] [] [] (1 ∷ []) [] [] []
+    ∷ counts freed (2 ∷ 0 ∷ 1 ∷ 0 ∷ [])
+    ∷ []
+
+all-right : T (every cases)
+unfolding cases consumerOpen destinationOpen callsOpen wordsOpen removal fateBy leavers
+all-right = tt

@@ -1,0 +1,5 @@
+pub mod Fates
+pub mod Account
+pub mod Report
+pub mod Blocks
+pub mod Cases
