@@ -171,9 +171,10 @@ each l (e ∷ m) h g k =
     let r = h (e .seq) in
     let here : eqb (e .seq) (e .seq) ≡ true = eq-eqb (e .seq) (e .seq) refl in
     let own : like (e .seq) (r .0) e ≡ true = odd-size (e .seq) (r .0) e (omega (arith, g (e .seq) (r .0), r .1)) in
-    let z : r .0 ≡ e .size = eqb-true (r .0) (e .size) (sym (ap (λ b. not b || eqb (r .0) (e .size)) here) ∙ own) in
-    (and-both (member (e .seq) (seqs l)) _ (k (e .seq) (ap (λ b. b || member (e .seq) (seqs m)) here)) (ap (λ (n : ℕ). all (like (e .seq) n) l) (sym z) ∙ odd-sizes (e .seq) (r .0) l (r .1)),
-    each l m h (λ x y. omega (arith, g x y)) (λ x n. k x (by-test (eqb x (e .seq)) (λ c. rw c) (λ c. rw c n))))
+    let z : r .0 ≡ e .size = eqb-true (r .0) (e .size) (sym (ap (λ b. not b || eqb (r .0) (e .size)) here) ∙ own) in (
+      and-both (member (e .seq) (seqs l)) _ (k (e .seq) (ap (λ b. b || member (e .seq) (seqs m)) here)) (ap (λ (n : ℕ). all (like (e .seq) n) l) (sym z) ∙ odd-sizes (e .seq) (r .0) l (r .1)),
+      each l m h (λ x y. omega (arith, g x y)) (λ x n. k x (by-test (eqb x (e .seq)) (λ c. rw c) (λ c. rw c n))),
+    )
 
 agree-each : (l : List Entry) → sizesAgree l ≡ true → All (λ f. sized (f .seq) (f .size) l ≡ true) l
 agree-each l h = each l l (agree-sum l h) (λ x z. omega arith) (λ x n. n)
@@ -269,8 +270,14 @@ module _ (lent : Lengths) (c : Call) (t : Dest) (h : call lent c t .refusal ≡ 
           let n = is-new e now q in
           by-test (copied u e)
           (λ d. omega (arith, m, bytes-new e (allRows t) n, ap bytesOf (keep-no (λ f. not (copied u f)) e (allRows t) (ap not d)), ap bytesOf (keep-yes (copied u) e [] d)))
-          (λ d. omega (arith, m, bytes-new e (allRows t) n, ap bytesOf (keep-yes (λ f. not (copied u f)) e (allRows t) (ap not d)),
-          bytes-new e (rest (allRows u) (allRows t)) (member-keep (e .seq) (λ x. not (member x (seqs (allRows u)))) (allRows t) (ap not d) ∙ n), ap bytesOf (keep-no (copied u) e [] d)))
+          (λ d. omega (
+            arith,
+            m,
+            bytes-new e (allRows t) n,
+            ap bytesOf (keep-yes (λ f. not (copied u f)) e (allRows t) (ap not d)),
+            bytes-new e (rest (allRows u) (allRows t)) (member-keep (e .seq) (λ x. not (member x (seqs (allRows u)))) (allRows t) (ap not d) ∙ n),
+            ap bytesOf (keep-no (copied u) e [] d),
+          ))
 
 pub bytes-move : BytesMove
 bytes-move lent c t h = bytes lent c t h

@@ -157,8 +157,7 @@ module _ (rows : List Row) (i n : ℕ) (b : n ≤ length rows) (h : 0 < i) (k : 
       (λ e. absurd (omega (arith, e, v)), λ p. (omega (arith, v), omega (arith, v))))
       (λ t.
       let v : getD (set slots (at 0 last % m) i) (x % m) 0 ≡ getD slots (x % m) 0 = getD-set-other slots (at 0 last % m) (x % m) i 0 (λ q. absurd (omega (arith, eqb-false (x % m) (at 0 last % m) t, q))) in
-      let o : eqb x (at 0 last) ≡ false = ne-eqb x (at 0 last) (λ q. absurd (omega (arith, eqb-false (x % m) (at 0 last % m) t, ap (λ (y : ℕ). y % m) q))) in
-      (
+      let o : eqb x (at 0 last) ≡ false = ne-eqb x (at 0 last) (λ q. absurd (omega (arith, eqb-false (x % m) (at 0 last % m) t, ap (λ (y : ℕ). y % m) q))) in (
         λ e. ap (λ (l : List Row). member x (map (at 0) l)) row-more ∙ ap (λ (c : Bool). c || member x (map (at 0) (slice i n rows))) o ∙ s x .0 (sym v ∙ e),
         λ p. let r = s x .1 (subst (λ (y : ℕ). 0 < y) v p) in (omega (arith, v, r .0), omega (arith, v, r .1)),
       ))

@@ -195,14 +195,7 @@ fn has_room(code: u64, n: usize, room: usize) -> bool
 }
 
 // 1 where the list or a buffer is short, 2 where the state is not sound, else 0.
-fn barred(
-    code: u64,
-    n: usize,
-    room: usize,
-    head: &[u64],
-    subs: &[SubRow],
-    rows: &[Row],
-) -> u64
+fn barred(code: u64, n: usize, room: usize, head: &[u64], subs: &[SubRow], rows: &[Row]) -> u64
     ensures { λ r. ⌜ r ≡ barred code n room (lent (now (head .entry)) (now (subs .entry)) (now (rows .entry))) ⌝ }
 {
     if !has_room(code, n, room) {

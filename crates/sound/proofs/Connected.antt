@@ -96,7 +96,6 @@ module _ (subs : List Row) (i n : ℕ) (b : n ≤ length subs) (rows : List Row)
     taken-end q =
         sym (ap (λ (l : List Row). take end out ++ conns (taken (subsAt queue l (drop base rows)))) (part-end subs i n q) ∙ append-nil (take end out)) ∙ e
 
-
 -- ---- all that belong to connections
 
 taken-count : (ws rows : List Row) → length (conns (taken (subsAt queue ws rows))) ≤ subRows ws

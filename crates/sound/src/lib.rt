@@ -123,8 +123,7 @@ fn entry_ok(row: Row) -> bool
     fits(row[4]);
     fits(row[6]);
     let seq = row[0];
-    ((1 <= seq) & (seq < SEQ_END))
-        & ((row[2] <= 1) & (words::is_int(row[5]) & (row[9] < SIZE_END)))
+    ((1 <= seq) & (seq < SEQ_END)) & ((row[2] <= 1) & (words::is_int(row[5]) & (row[9] < SIZE_END)))
 }
 
 // And in flight the marks that it is freed or in a transaction.
@@ -778,7 +777,15 @@ fn rest_ok(head: &[u64], subs: &[SubRow], rows: &[Row]) -> bool
     if !(rings & tables_ok(subs, n, rows, others, reserved, waiting, most, on_queue)) {
         return false;
     }
-    shares_ok(subs, n, rows, others, reserved + waiting, head[8346], on_queue)
+    shares_ok(
+        subs,
+        n,
+        rows,
+        others,
+        reserved + waiting,
+        head[8346],
+        on_queue,
+    )
 }
 
 // Whether the buffers are long enough.

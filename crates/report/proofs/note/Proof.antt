@@ -14,17 +14,19 @@ barred-requires c κs = search needs
 returns : tie.Need-returns
 returns c =
     let k = c .before in
-    let a = k .before .before .args in
-    (refused (now (a .head)) (now (a .subs)) (now (a .rows)) (a .code) (a .t2) (a .n) (now (a .blocks)) (k .barred .result) (k .barred .ensures) (c .if1 .taken),
-    untouched (now (a .head)) (now (a .subs)) (now (a .rows)) (a .code) (a .t2) (a .n) (now (a .blocks)) (k .barred .result) (k .barred .ensures) (c .if1 .taken))
+    let a = k .before .before .args in (
+      refused (now (a .head)) (now (a .subs)) (now (a .rows)) (a .code) (a .t2) (a .n) (now (a .blocks)) (k .barred .result) (k .barred .ensures) (c .if1 .taken),
+      untouched (now (a .head)) (now (a .subs)) (now (a .rows)) (a .code) (a .t2) (a .n) (now (a .blocks)) (k .barred .result) (k .barred .ensures) (c .if1 .taken),
+    )
 
 returns-2 : tie.Need-returns-2
 returns-2 c =
     let k = c .before .before in
     let a = k .before .before .args in
-    let z = sym (k .barred .ensures) ∙ c .before .if1 .left in
-    (open-noted (now (a .head)) (now (a .subs)) (now (a .rows)) (a .code) (a .t2) (a .n) (now (a .blocks)) z (c .if2 .taken),
-    open-list (now (a .head)) (now (a .subs)) (now (a .rows)) (a .code) (a .t2) (a .n) (now (a .blocks)) z (c .if2 .taken))
+    let z = sym (k .barred .ensures) ∙ c .before .if1 .left in (
+      open-noted (now (a .head)) (now (a .subs)) (now (a .rows)) (a .code) (a .t2) (a .n) (now (a .blocks)) z (c .if2 .taken),
+      open-list (now (a .head)) (now (a .subs)) (now (a .rows)) (a .code) (a .t2) (a .n) (now (a .blocks)) z (c .if2 .taken),
+    )
 
 load-requires : tie.Need-load-requires
 load-requires c κs = search needs
@@ -34,9 +36,10 @@ returns-3 c =
     let g = c .before .before in
     let k = g .before .before .before in
     let a = k .before .before .args in
-    let z = sym (k .barred .ensures) ∙ g .before .before .if1 .left in
-    (topic-noted (now (a .head)) (now (a .subs)) (now (a .rows)) (a .code) (a .t2) (a .n) (now (a .blocks)) z (g .load .result) (g .load .ensures) (not-true _ (c .if3 .taken)),
-    topic-list (now (a .head)) (now (a .subs)) (now (a .rows)) (a .code) (a .t2) (a .n) (now (a .blocks)) z (g .load .result) (g .load .ensures) (not-true _ (c .if3 .taken)))
+    let z = sym (k .barred .ensures) ∙ g .before .before .if1 .left in (
+      topic-noted (now (a .head)) (now (a .subs)) (now (a .rows)) (a .code) (a .t2) (a .n) (now (a .blocks)) z (g .load .result) (g .load .ensures) (not-true _ (c .if3 .taken)),
+      topic-list (now (a .head)) (now (a .subs)) (now (a .rows)) (a .code) (a .t2) (a .n) (now (a .blocks)) z (g .load .result) (g .load .ensures) (not-true _ (c .if3 .taken)),
+    )
 
 array-read-bring : tie.Need-array-read-bring
 array-read-bring c = search needs
@@ -58,9 +61,10 @@ move-all-requires c κs =
     let k = g .before .before .before in
     let a = k .before .before .args in
     let z = sym (k .barred .ensures) ∙ g .before .before .if1 .left in
-    let r = has-room (now (a .head)) (now (a .subs)) (now (a .rows)) (a .code) (a .t2) (a .n) (now (a .blocks)) z (g .load .result) (g .load .ensures) in
-    (omega (arith, r, c .before .before .bring .ensures .0, c .before .blocks2 .given),
-    queue-held (now (a .head)) (now (a .subs)) (now (a .rows)) (a .code) (a .t2) (a .n) (now (a .blocks)) z (g .load .result) (g .load .ensures) (not-false _ (c .before .before .before .before .if3 .left)))
+    let r = has-room (now (a .head)) (now (a .subs)) (now (a .rows)) (a .code) (a .t2) (a .n) (now (a .blocks)) z (g .load .result) (g .load .ensures) in (
+      omega (arith, r, c .before .before .bring .ensures .0, c .before .blocks2 .given),
+      queue-held (now (a .head)) (now (a .subs)) (now (a .rows)) (a .code) (a .t2) (a .n) (now (a .blocks)) z (g .load .result) (g .load .ensures) (not-false _ (c .before .before .before .before .if3 .left)),
+    )
 
 same-length : tie.Need-same-length
 same-length c = search needs
@@ -72,9 +76,10 @@ returns-4 c =
     let a = k .before .before .args in
     let z = sym (k .barred .ensures) ∙ g .before .before .if1 .left in
     let q = not-false _ (c .before .before .before .before .before .before .if3 .left) in
-    let m = c .before .before .before .before .bring in
-    (queue-noted (now (a .head)) (now (a .subs)) (now (a .rows)) (a .code) (a .t2) (a .n) (now (a .blocks)) z (g .load .result) (g .load .ensures) (g .before .if2 .left) q (m .result) (m .ensures .0),
-    queue-list (now (a .head)) (now (a .subs)) (now (a .rows)) (a .code) (a .t2) (a .n) (now (a .blocks)) z (g .load .result) (g .load .ensures) (g .before .if2 .left) q (m .result) (m .ensures .0) _ _ (m .ensures .1) (c .before .move-all .ensures))
+    let m = c .before .before .before .before .bring in (
+      queue-noted (now (a .head)) (now (a .subs)) (now (a .rows)) (a .code) (a .t2) (a .n) (now (a .blocks)) z (g .load .result) (g .load .ensures) (g .before .if2 .left) q (m .result) (m .ensures .0),
+      queue-list (now (a .head)) (now (a .subs)) (now (a .rows)) (a .code) (a .t2) (a .n) (now (a .blocks)) z (g .load .result) (g .load .ensures) (g .before .if2 .left) q (m .result) (m .ensures .0) _ _ (m .ensures .1) (c .before .move-all .ensures),
+    )
 
 pub note-spec : {M : Type 1} → statement M
 note-spec =
