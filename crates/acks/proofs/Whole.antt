@@ -1,7 +1,7 @@
 -- A step of one consumer in the whole destination: what it leaves of its own part of the tables, it leaves of the view. Assumes nothing.
-use mathlib.Core.Path.{_≡_, refl, sym, ap, ap₂, _∙_}
-use mathlib.Core.Bool.{Bool, true, false}
-use mathlib.Core.List.{List, [], _∷_, _++_, map, append-nil}
+use mathlib.Core.Path.{_≡_, sym, ap, ap₂, _∙_}
+use mathlib.Core.Bool.{true}
+use mathlib.Core.List.{List, [], _∷_, _++_, map}
 use mathlib.Core.Option.{some}
 use Prim.Native.Nat.{ℕ, suc, _+_, _-_, _≤_, _<_, min}
 use native.Mathlib.Omega.{arith}
@@ -17,19 +17,19 @@ use Rattle.definition.specs.Words.{at}
 use Rattle.definition.specs.Layout.{Row, heldAt, inflightOf, heldOf, subAt, subsAt, subRows, eventWords, entryStrict, subsStrict}
 use Rattle.table.proofs.Lists.{slice-take}
 use Rattle.consumers.specs.declared.Sub.{Sub}
-use Rattle.consumers.specs.declared.Found.the-variants.{At, Nothing}
+use Rattle.consumers.specs.declared.Found.the-variants.{At}
 use Rattle.consumers.specs.Consumers.{subWords}
 use Rattle.consumers.specs.Consumers as Value
 use Rattle.consumers.specs.Seats.{afterIn, subIn}
 use Rattle.consumers.specs.Table.{positionFrom}
 use Rattle.consumers.proofs.View.{sub-at, sub-stored, subs-split, subs-set, subs-agree, rows-split, rows-set, after-all}
 use Rattle.consumers.proofs.Strict.{SubStrict, stored-strict, strict-at, strict-agree, strict-put, tables-strict, strict-tables}
-use Rattle.consumers.proofs.Seek.{position-within, found-at, put-at, found-none}
+use Rattle.consumers.proofs.Seek.{position-within, found-at, put-at}
 use Rattle.consumers.proofs.Laws.{fitting-at}
 use Rattle.state.specs.declared.Head.{Head}
 use Rattle.state.specs.State.{headView, strictTables, kindBy, withStats, withUsed, withEvents}
 use Rattle.state.specs.Fits.{Fits}
-use Rattle.state.specs.Leaves.{Leaves, LeavesIf}
+use Rattle.state.specs.Leaves.{Leaves}
 use Rattle.acks.specs.Acks.{stepAt, acked}
 use Rattle.acks.specs.Parts.{ownFlying, ownHeld, ownAfter, ownView, Own, Acted, Kept}
 use Rattle.acks.proofs.Parts.{in-parts}
@@ -51,40 +51,6 @@ module _ (subs rows events : List Row) (d : Head) (fits : Fits subs d (length ro
 
   size : length ws ≡ d .consumers
   size = length-take-le (d .consumers) subs (omega (arith, fits .subs-long, fits .consumers))
-
-  -- no consumer, nothing done
-  module _ (step : Def.Sub → Step) (id : Id) (e : positionFrom 0 id ws ≡ Nothing) where
-    abbrev did : Dest → Out
-    did t = stepAt step id t (subOf id t)
-
-    nothing : (ps : List Id) (qs : List Audit) → did (headView d subs rows ps qs) ≡ record { dest = headView d subs rows ps qs; events = [] }
-    unfolding stepAt headView
-    nothing ps qs = ap (stepAt step id (headView d subs rows ps qs)) (found-none id ws e k rows)
-
-    pub whole-none : Leaves did d d subs rows events subs rows events × Kept d d
-    whole-none = (
-      record {
-        view = λ ps qs l. sym (ap (λ (o : Out). o .dest) (nothing ps qs));
-        sent = λ ps qs l. sym (ap (λ (o : Out). take (d .events) events ++ map eventWords (o .events)) (nothing ps qs) ∙ append-nil (take (d .events) events));
-        later = refl;
-        more = omega arith;
-        producers = refl;
-        audits = refl;
-        queue = refl;
-        allowance = refl;
-        share = refl;
-        consumers = fits .consumers;
-        used = fits .used;
-        rows-used = fits .rows-used;
-        strict = λ h. h;
-        subs-past = refl;
-        rows-past = refl;
-        subs-length = refl;
-        rows-length = refl;
-        events-length = refl;
-      },
-      record { events = fits .sent; consumers = refl },
-    )
 
   module _ (i : ℕ) (here : i < d .consumers) where
     abbrev w : Row
@@ -326,10 +292,6 @@ module _ (subs rows events : List Row) (d : Head) (fits : Fits subs d (length ro
           → (id : Id) → positionFrom 0 id ws ≡ At i → Leaves (acked id c) d r subs rows events subs′ rows′ events′ × Kept d r
       unfolding acked
       acked-at c t r subs′ rows′ events′ es a id e = rw es (whole-step (ackSub c) t r rows′ events′ (rw (base-is b eb, sub-is x ex) at a) id e)
-
-  pub acked-none : (id : Id) (c : Ack) → positionFrom 0 id ws ≡ Nothing → Leaves (acked id c) d d subs rows events subs rows events × Kept d d
-  unfolding acked
-  acked-none id c e = whole-none (ackSub c) id e
 
   pub place-within : (id : Id) (i : ℕ) → positionFrom 0 id ws ≡ At i → i < d .consumers
   place-within id i e = omega (arith, position-within id ws i e, size)

@@ -1,3 +1,4 @@
+pub mod Guard
 pub mod Queue
 pub mod Sorts
 pub mod Idle

@@ -1,17 +1,23 @@
--- A queue's dispatch in two parts, browsers and the scan: what they mean together, and that the numbers fit between them. Assumes nothing.
+-- A queue's dispatch in two parts, browsers and the scan: what they mean together, that the numbers fit between them, and that without a browser
+-- the scan is all. Assumes nothing.
 use mathlib.Core.Path.{_≡_, refl, sym, ap, _∙_}
-use mathlib.Core.Bool.{Bool, true, false, _&&_, and-false}
-use mathlib.Core.List.{List, [], _∷_}
+use mathlib.Core.Bool.{true, false, not}
+use mathlib.Core.List.{List, [], _∷_, _++_}
 use Prim.Native.Nat.{ℕ, zero, suc, _+_, _≤_, _<_, _^_}
 use native.Mathlib.Omega.{arith}
-use borrow.Author.Tests.{le-leb, lt-leb}
-use lib.Dec.{leb}
-use lib.ListN.{length, take}
-use Rattle.definition.specs.Base.{if_then_else_, empty}
-use Rattle.definition.specs.Types.{Kind, Id, Audit, Dest}
-use Rattle.definition.specs.Destination.{Out, dispatchQueue}
-use Rattle.definition.specs.Layout.{Row, eachSub, subsAt}
-use Rattle.definition.proofs.Tests.{if-true, if-false}
+use borrow.Author.Tests.{not-true}
+use lib.ListN.{length, take, drop}
+use Rattle.stats.specs.declared.Stats.{Stats}
+use Rattle.definition.specs.Base.{empty, all}
+use Rattle.definition.specs.Types.{Kind, Id, Audit, Entry, Dest, withPending, withSubs, withStats}
+use Rattle.definition.specs.Consumer.{zeroStats, isBrowser}
+use Rattle.definition.specs.Destination.{Out, Browsed, count, browsers, dispatchQueue}
+use Rattle.definition.specs.Layout.{Row, inflightOf, heldOf, subAt, eachSub, subsAt}
+use Rattle.definition.proofs.Tests.{if-true, if-false, and-left, and-right}
+use Rattle.definition.proofs.Local.{⊕-zero}
+use Rattle.consumers.specs.Consumers.{subOf}
+use Rattle.consumers.proofs.View.{sub-at}
+use Rattle.consumers.proofs.Laws.{browser-sub}
 use Rattle.state.specs.declared.Head.{Head}
 use Rattle.state.specs.State.{headView, kindBy}
 use Rattle.state.specs.Fits.{Fits}
@@ -19,7 +25,7 @@ use Rattle.state.specs.Leaves.{silent, both, Leaves, LeavesIf}
 use Rattle.state.specs.Ready.{Stands}
 use Rattle.state.proofs.Leaves.{leaves-as, leaves-both, leaves-rest, leaves-when}
 use Rattle.browsers.specs.Browsers.{browsed, Served}
-use Rattle.queues.specs.Scan.{served, scans, Onward}
+use Rattle.queues.specs.Scan.{served, scans, Scans, Onward}
 use Rattle.queues.proofs.Guard.{scans-yes}
 use Rattle.dispatch.specs.Dispatch.{Sent}
 
@@ -33,46 +39,63 @@ some-joined zero k subs rows h l = absurd (omega arith)
 some-joined (suc n) k [] rows h l = absurd (omega arith)
 some-joined (suc n) k (w ∷ ws) rows h l = refl
 
-module _ (clock : ℕ) (d : Head) (subs rows events : List Row) (f : Fits subs d (length rows) (length events)) where
-  -- no consumer
-  pub queue-none : d .consumers ≡ 0 → Leaves (dispatchQueue clock) d d subs rows events subs rows events × Sent d d
-  unfolding dispatchQueue
-  queue-none e =
-      let s : Stands d subs = record { consumers = f .consumers; used = f .used; rows-used = f .rows-used } in (
-        leaves-as (silent (λ t. t)) (dispatchQueue clock) d d subs rows events subs rows events
-            (λ p a h. sym (if-true _ _ (none-joined d subs rows p a e)))
-            (leaves-rest d subs rows events s),
-        (refl, omega arith),
-      )
+-- consumers that are no browsers are passed over
+browsers-none : (now : ℕ) (k : Kind) (ws rows : List Row) (p : List Entry) → all (λ w. not (subOf w .browser)) ws ≡ true → browsers now (subsAt k ws rows) p ≡ record { subs = subsAt k ws rows; pending = p; counts = zeroStats; events = [] }
+unfolding browsers eachSub
+browsers-none now k [] rows p h = refl
+browsers-none now k (w ∷ ws) rows p h =
+    let flying : List Row = take (inflightOf w) rows in
+    let held : List Row = take (heldOf w) (drop (inflightOf w) rows) in
+    let no : isBrowser (subAt k w flying held) ≡ false = ap isBrowser (sub-at k w flying held) ∙ browser-sub k (subOf w) flying held ∙ not-true (subOf w .browser) (and-left (not (subOf w .browser)) _ h) in
+    rw (no, browsers-none now k ws (drop (heldOf w) (drop (inflightOf w) rows)) p (and-right (not (subOf w .browser)) _ h))
 
-  module _ (late : clock ≤ 2 ^ 62) (q : d .queue ≡ true) (some : 0 < d .consumers)
-      (m : Head) (subs′ rows′ events′ : List Row) (l : Leaves (browsed clock) d m subs rows events subs′ rows′ events′) (s : Served d m subs′)
-    where
-      pub between : scans clock subs′ m (length rows′) (length events′) ≡ true
-      between = scans-yes clock subs′ m (length rows′) (length events′) late (l .queue ∙ q) (omega (arith, l .subs-length, f .subs-long)) (omega (arith, l .rows-length, f .rows-long)) (l .consumers)
-          (omega (arith, s .turn, f .turn)) (omega (arith, s .most, f .sent, f .consumers, f .events-long, l .events-length)) (omega (arith, s .expired, f .expired, f .used)) (omega (arith, s .dispatched, f .dispatched)) (l .used) (l .rows-used) (s .nexts)
+-- no consumer
+pub queue-none : (clock : ℕ) (d : Head) (subs rows events : List Row) → Stands d subs → d .consumers ≡ 0 → Leaves (dispatchQueue clock) d d subs rows events subs rows events × Sent d d
+unfolding dispatchQueue
+queue-none clock d subs rows events s e = (
+  leaves-as (silent (λ t. t)) (dispatchQueue clock) d d subs rows events subs rows events
+      (λ p a h. sym (if-true _ _ (none-joined d subs rows p a e)))
+      (leaves-rest d subs rows events s),
+  (refl, omega arith),
+)
 
-      module _ (r : Head) (subs″ rows″ events″ : List Row)
-          (p : LeavesIf (scans clock subs′ m (length rows′) (length events′)) (Onward m r subs′ rows′ events′ subs″ rows″ events″) (served clock) m r subs′ rows′ events′ subs″ rows″ events″)
-        where
-          pub queue-some : Leaves (dispatchQueue clock) d r subs rows events subs″ rows″ events″ × Sent d r
-          unfolding dispatchQueue served headView
-          queue-some =
-              let y = leaves-when _ _ (served clock) m r subs′ rows′ events′ subs″ rows″ events″ between p in (
-                leaves-as (both (browsed clock) (served clock)) (dispatchQueue clock) d r subs rows events subs″ rows″ events″
-                    (λ p a h. sym (if-false _ _ (some-joined (d .consumers) _ subs rows some (omega (arith, f .consumers, f .subs-long)))))
-                    (leaves-both (browsed clock) (served clock) d m r subs rows events subs′ rows′ events′ subs″ rows″ events″ l (y .0)),
-                (y .1 .consumers ∙ s .consumers, omega (arith, y .1 .room, s .most)),
-              )
+-- browsers, then the scan
+module _ (clock : ℕ) (d r : Head) (subs rows events subs″ rows″ events″ : List Row) (some : 0 < d .consumers) (short : d .consumers ≤ length subs) where
+  in-two : Leaves (both (browsed clock) (served clock)) d r subs rows events subs″ rows″ events″ → Leaves (dispatchQueue clock) d r subs rows events subs″ rows″ events″
+  unfolding dispatchQueue served headView
+  in-two l = leaves-as (both (browsed clock) (served clock)) (dispatchQueue clock) d r subs rows events subs″ rows″ events″ (λ p a h. sym (if-false _ _ (some-joined (d .consumers) _ subs rows some short))) l
 
--- ---- the test before it
+  -- no browser: the scan alone
+  module _ (no : all (λ w. not (subOf w .browser)) (take (d .consumers) subs) ≡ true) (ok : Scans subs d (length rows) (length events)) where
+    none-shown : (p : List Id) (a : List Audit) → browsed clock (headView d subs rows p a) ≡ record { dest = headView d subs rows p a; events = [] }
+    unfolding headView
+    none-shown p a =
+        let t : Dest = headView d subs rows p a in
+        ap (λ (b : Browsed). record { dest = count (b .counts) (withPending (b .pending) (withSubs (b .subs) t)); events = b .events }) (browsers-none clock (kindBy (d .queue)) (take (d .consumers) subs) rows (t .pending) no)
+        ∙ ap (λ (s : Stats). record { dest = withStats s t; events = [] }) (⊕-zero (d .stats))
 
-module _ (b : Bool) (clock : ℕ) where
-  pub test-late : 2 ^ 62 < clock → (b && leb clock (2 ^ 62)) ≡ false
-  test-late h = rw (lt-leb clock (2 ^ 62) h) (and-false b)
+    pub queue-alone : Leaves (served clock) d r subs rows events subs″ rows″ events″ × Onward d r subs rows events subs″ rows″ events″ → Leaves (dispatchQueue clock) d r subs rows events subs″ rows″ events″ × Sent d r
+    queue-alone l = (
+      in-two (leaves-as (served clock) (both (browsed clock) (served clock)) d r subs rows events subs″ rows″ events″
+          (λ p a h. sym (ap (λ (x : Out). record { dest = served clock (x .dest) .dest; events = x .events ++ served clock (x .dest) .events }) (none-shown p a)))
+          (l .0)),
+      (l .1 .consumers, omega (arith, l .1 .room, ok .rows-used)),
+    )
 
-  pub test-unfit : b ≡ false → (b && leb clock (2 ^ 62)) ≡ false
-  test-unfit h = rw h
+module _ (clock : ℕ) (d : Head) (subs rows events : List Row) (f : Fits subs d (length rows) (length events)) (late : clock ≤ 2 ^ 62) (q : d .queue ≡ true) (some : 0 < d .consumers)
+    (m : Head) (subs′ rows′ events′ : List Row) (l : Leaves (browsed clock) d m subs rows events subs′ rows′ events′) (s : Served d m subs′)
+  where
+    between : scans clock subs′ m (length rows′) (length events′) ≡ true
+    between = scans-yes clock subs′ m (length rows′) (length events′) late (l .queue ∙ q) (omega (arith, l .subs-length, f .subs-long)) (omega (arith, l .rows-length, f .rows-long)) (l .consumers)
+        (omega (arith, s .turn, f .turn)) (omega (arith, s .most, f .sent, f .consumers, f .events-long, l .events-length)) (omega (arith, s .expired, f .expired, f .used)) (omega (arith, s .dispatched, f .dispatched)) (l .used) (l .rows-used) (s .nexts)
 
-  pub test-yes : b ≡ true → clock ≤ 2 ^ 62 → (b && leb clock (2 ^ 62)) ≡ true
-  test-yes h k = rw (h, le-leb clock (2 ^ 62) k)
+    module _ (r : Head) (subs″ rows″ events″ : List Row)
+        (p : LeavesIf (scans clock subs′ m (length rows′) (length events′)) (Onward m r subs′ rows′ events′ subs″ rows″ events″) (served clock) m r subs′ rows′ events′ subs″ rows″ events″)
+      where
+        pub queue-some : Leaves (dispatchQueue clock) d r subs rows events subs″ rows″ events″ × Sent d r
+        queue-some =
+            let y = leaves-when _ _ (served clock) m r subs′ rows′ events′ subs″ rows″ events″ between p in (
+              in-two clock d r subs rows events subs″ rows″ events″ some (omega (arith, f .consumers, f .subs-long))
+                  (leaves-both (browsed clock) (served clock) d m r subs rows events subs′ rows′ events′ subs″ rows″ events″ l (y .0)),
+              (y .1 .consumers ∙ s .consumers, omega (arith, y .1 .room, s .most)),
+            )

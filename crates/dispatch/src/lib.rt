@@ -1,21 +1,55 @@
 // `dispatch` of destination.rs: what can go out goes out, to a queue's browsers and then its consumers, or to a topic's consumers.
 ghost use mathlib.Core.Path.{_≡_};
-ghost use mathlib.Core.Bool.{true, _&&_};
+ghost use mathlib.Core.Bool.{true};
 ghost use mathlib.Core.List.{[]};
-ghost use Prim.Native.Nat.{_≤_, _^_};
-ghost use lib.Dec.{leb};
+ghost use Prim.Native.Nat.{_≤_, _<_, _^_};
 ghost use lib.ListN.{length, getD};
 ghost use Rattle.definition.specs.Destination.{dispatchQueue, dispatch};
 ghost use Rattle.state.specs.Fits.{fits};
 ghost use Rattle.state.specs.Leaves.{LeavesIf};
-ghost use Rattle.dispatch.specs.Dispatch.{canGo, goesOut, Sent};
+ghost use Rattle.dispatch.specs.Dispatch.{canGo, goesOut, browses, queueFits, dispatches, Sent};
 use consumers::SubRow;
 use entry::Row;
 use state::Event;
 use state::Head;
 
-// A queue's: browsers first, then the scan over consumers. Where the numbers do not fit the tables, or with a clock above 2^62,
-// nothing happens.
+// Whether one of the first n consumers is a browser; no, where the table is shorter.
+fn any_browser(subs: &[SubRow], n: usize) -> bool
+    ensures { λ r. ⌜ r ≡ browses n (now (subs .entry)) ⌝ }
+{
+    if subs.len() < n {
+        return false;
+    }
+    let mut i = 0;
+    while i < n {
+        let s = consumers::load(subs, i);
+        if s.browser {
+            return true;
+        }
+        i += 1;
+    }
+    false
+}
+
+// A queue's with a browser: browsers first, then the scan over consumers. Where the numbers do not fit the tables, nothing happens.
+fn browsers_first(
+    subs: &mut [SubRow],
+    rows: &mut [Row],
+    events: &mut [Event],
+    d: Head,
+    clock: u64,
+) -> Head
+    requires { ⌜ (d .queue ≡ true) × (clock ≤ 2 ^ 62) × (0 < d .consumers) ⌝ }
+    ensures { λ r. ⌜ LeavesIf (fits (now (subs .entry)) d (length (now (rows .entry))) (length (now (events .entry)))) (Sent d r) (dispatchQueue clock) d r (now (subs .entry)) (now (rows .entry)) (now (events .entry)) (now (subs .exit)) (now (rows .exit)) (now (events .exit)) ⌝ }
+{
+    if !state::fits(subs, d, rows.len(), events.len()) {
+        return d;
+    }
+    let shown = browsers::serve_browsers(subs, rows, events, d, clock);
+    queues::serve_rounds(subs, rows, events, shown, clock)
+}
+
+// A queue's: without a browser, the scan alone. Where the numbers do not fit the tables, nothing happens.
 fn dispatch_queue(
     subs: &mut [SubRow],
     rows: &mut [Row],
@@ -23,20 +57,16 @@ fn dispatch_queue(
     d: Head,
     clock: u64,
 ) -> Head
-    requires { ⌜ d .queue ≡ true ⌝ }
-    ensures { λ r. ⌜ LeavesIf (fits (now (subs .entry)) d (length (now (rows .entry))) (length (now (events .entry))) && leb clock (2 ^ 62)) (Sent d r) (dispatchQueue clock) d r (now (subs .entry)) (now (rows .entry)) (now (events .entry)) (now (subs .exit)) (now (rows .exit)) (now (events .exit)) ⌝ }
+    requires { ⌜ (d .queue ≡ true) × (clock ≤ 2 ^ 62) ⌝ }
+    ensures { λ r. ⌜ LeavesIf (queueFits clock (now (subs .entry)) d (length (now (rows .entry))) (length (now (events .entry)))) (Sent d r) (dispatchQueue clock) d r (now (subs .entry)) (now (rows .entry)) (now (events .entry)) (now (subs .exit)) (now (rows .exit)) (now (events .exit)) ⌝ }
 {
-    if entry::CLOCK_MOST < clock {
-        return d;
-    }
-    if !state::fits(subs, d, rows.len(), events.len()) {
-        return d;
-    }
     if d.consumers == 0 {
         return d;
     }
-    let shown = browsers::serve_browsers(subs, rows, events, d, clock);
-    queues::serve_rounds(subs, rows, events, shown, clock)
+    if any_browser(subs, d.consumers) {
+        return browsers_first(subs, rows, events, d, clock);
+    }
+    queues::serve_rounds(subs, rows, events, d, clock)
 }
 
 // Whether consumer i can be sent something: of a topic's, one that holds something and has credit; of a queue's, a browser, or where something
@@ -77,7 +107,7 @@ pub fn dispatch(
     d: Head,
     clock: u64,
 ) -> Head
-    ensures { λ r. ⌜ LeavesIf (fits (now (subs .entry)) d (length (now (rows .entry))) (length (now (events .entry))) && leb clock (2 ^ 62)) (Sent d r) (dispatch clock) d r (now (subs .entry)) (now (rows .entry)) (now (events .entry)) (now (subs .exit)) (now (rows .exit)) (now (events .exit)) ⌝ }
+    ensures { λ r. ⌜ LeavesIf (dispatches clock (now (subs .entry)) d (length (now (rows .entry))) (length (now (events .entry)))) (Sent d r) (dispatch clock) d r (now (subs .entry)) (now (rows .entry)) (now (events .entry)) (now (subs .exit)) (now (rows .exit)) (now (events .exit)) ⌝ }
 {
     let due = d.due(clock);
     if entry::CLOCK_MOST < clock {

@@ -6,41 +6,39 @@ use Prim.Native.Nat.{ℕ, _+_, _-_, _≤_, _^_}
 use native.Mathlib.Omega.{arith}
 use borrow.Author.Tests.{le-leb, ltb-false, eq-eqb}
 use lib.Dec.{leb, ltb, eqb}
-use lib.ListN.{length, take, drop, length-map, length-drop}
-use lib.Seq.{length-take-le}
-use Rattle.entry.specs.Entry.{entryOf}
-use Rattle.definition.specs.Base.{if_then_else_, is-some, empty}
+use lib.ListN.{length, take}
+use Rattle.entry.specs.Entry.{entryOf, rowOf}
+use Rattle.definition.specs.Base.{if_then_else_, is-some}
 use Rattle.definition.specs.Types.{Kind, queue, topic, Id, Audit, Entry, Dest}
 use Rattle.definition.specs.Destination.{Spec, subOf, due, dispatchBy, dispatch, stored, fannedOut, enqueueBy, joined, addSub}
-use Rattle.definition.specs.Calls.{Call, enqueuing, joining, argumentsOk, bound, placed, snapshotRows, ownRefusal, perform}
+use Rattle.definition.specs.Calls.{Call, enqueuing, joining, argumentsOk, bound, snapshotRows, ownRefusal, perform}
 use Rattle.definition.specs.Calls as Calls
-use Rattle.definition.specs.Layout.{Row, subRows}
-use Rattle.definition.proofs.Tests.{and-left, and-both, if-true}
-use Rattle.definition.proofs.Lists.{empty-nil}
+use Rattle.definition.specs.Layout.{Row}
+use Rattle.definition.proofs.Tests.{by-test, and-both, if-true}
 use Rattle.definition.proofs.Thin.{all-every}
-use Rattle.definition.proofs.Sound.{facts}
 use Rattle.definition.proofs.Whole.{Fine, fine-more}
 use Rattle.definition.proofs.Reach.{stored-fine, fanned-fine}
 use Rattle.definition.proofs.Kept as Kept
 use Rattle.state.specs.declared.Head.{Head}
 use Rattle.state.specs.declared.Answer.{Answer}
-use Rattle.state.specs.State.{headView, kindBy, dueBy, freeRows, refusedAs, doneAs}
+use Rattle.state.specs.State.{headView, dueBy, freeRows, refusedAs, doneAs}
 use Rattle.state.specs.Fits.{fits}
 use Rattle.state.specs.Leaves.{silent, both, Leaves, LeavesIf}
 use Rattle.state.specs.Ready.{Ready}
-use Rattle.state.proofs.Fitting.{view-fits, facts-fit}
 use Rattle.state.proofs.Leaves.{leaves-as, leaves-when}
 use Rattle.state.proofs.Ready.{Keeps, seen, ready-fits, ready-test}
-use Rattle.dispatch.specs.Dispatch.{Sent}
-use Rattle.storing.specs.Storing.{storedBy, kept, holds, rowsNeeded, refusalOf, stores, Room}
-use Rattle.storing.specs.Shares.{overOf}
-use Rattle.storing.proofs.Refusals.{choice, refusal-numbers, refusal-fit, refusal-own, stores-yes}
+use Rattle.dispatch.specs.Dispatch.{dispatches, Sent}
 use Rattle.joins.specs.declared.SubSpec.{SubSpec}
 use Rattle.joins.specs.Joins.{specOf, Refused, joins}
 use Rattle.joins.proofs.Refusals.{free-is}
 use Rattle.engine.specs.Called.{performed, Performs}
 use Rattle.engine.specs.Requests.{Sends}
+use Rattle.engine.specs.Storing.{storedBy, kept, holds, rowsNeeded, ownRefusalOf}
+use Rattle.engine.specs.Shares.{overOf}
+use Rattle.engine.specs.Arrivals.{Arrives, Arrived}
 use Rattle.engine.proofs.Parts.{then-dispatch}
+use Rattle.engine.proofs.EntryRefusals.{choice, refusal-numbers, refusal-any}
+use Rattle.engine.proofs.Order.{short-fits, ready-standing}
 
 -- ---- a call as a whole
 
@@ -77,7 +75,7 @@ module _ (d : Head) (subs rows events : List Row) (a : Ready d subs rows events)
     (x : ℕ) (few : x ≤ 65536) (k : Keeps x (seen d subs rows events a) (silent f (seen d subs rows events a)))
     (m : Head) (subs′ rows′ : List Row) (l : Leaves (silent f) d m subs rows events subs′ rows′ events) (room : m .events + m .used ≤ 512)
     (q : Head) (subs″ rows″ events″ : List Row)
-    (p : LeavesIf (fits subs′ m (length rows′) (length events) && leb clock (2 ^ 62)) (Sent m q) (dispatch clock) m q subs′ rows′ events subs″ rows″ events″)
+    (p : LeavesIf (dispatches clock subs′ m (length rows′) (length events)) (Sent m q) (dispatch clock) m q subs′ rows′ events subs″ rows″ events″)
   where
     pub part-performs : (r : Answer) → r ≡ doneAs 0 q → Performs c d r subs rows events subs″ rows″ events″
     part-performs r e =
@@ -118,16 +116,16 @@ choice-none false false true z = absurd (omega (arith, z))
 choice-none false false false z = (refl, refl, refl)
 
 module _ (d : Head) (subs rows events : List Row) (a : Ready d subs rows events) (clock : ℕ) (late : clock ≤ 2 ^ 62)
-    (e : Entry) (ok : argumentsOk (enqueuing e clock) ≡ true) (k : ℕ) (is : k ≡ refusalOf e d subs rows) (r : Answer)
+    (e : Entry) (ok : argumentsOk (enqueuing e clock) ≡ true) (k : ℕ) (is : k ≡ ownRefusalOf e d subs rows)
   where
     abbrev storing : Call
     storing = enqueuing e clock
 
     enqueue-own : Own storing d subs rows k
-    enqueue-own ps us h = is ∙ refusal-own e d subs rows (length events) (ready-test d subs rows events a) ps us clock
+    enqueue-own ps us h = is ∙ sym (refusal-any e d subs rows ps us clock)
 
-    pub enqueue-refused : (k ≡ 0 → ⊥) → r ≡ refusedAs k d → Performs storing d r subs rows events subs rows events
-    enqueue-refused n h = refused-performs storing d subs rows events r k enqueue-own n h
+    pub enqueue-refused : (r : Answer) → (k ≡ 0 → ⊥) → r ≡ refusedAs k d → Performs storing d r subs rows events subs rows events
+    enqueue-refused r n h = refused-performs storing d subs rows events r k enqueue-own n h
 
     enqueue-says : Says storing d subs rows 0
     unfolding perform
@@ -135,26 +133,35 @@ module _ (d : Head) (subs rows events : List Row) (a : Ready d subs rows events)
 
     module _ (zero : k ≡ 0) where
       -- its rows are free: no event was sent yet
-      enqueue-stores : stores e d subs rows (length events) ≡ true
-      enqueue-stores =
+      pub enqueue-arrives : entryOf (rowOf e 0 0 0) ≡ e → Arrives e d subs rows
+      enqueue-arrives row =
           let f = ready-fits d subs rows events a in
-          let t = ready-test d subs rows events a in
           let n : ℕ = rowsNeeded e d subs in
-          let b = choice-none (holds (e .seq) (take (d .used) rows)) (overOf e d subs rows) (ltb (512 - d .used) n) (sym (refusal-numbers e d subs rows (length events) f) ∙ sym (refusal-fit e d subs rows (length events) t) ∙ sym is ∙ zero) in
-          stores-yes e d subs rows (length events) t (b .0) (b .1) (le-leb (d .events + d .used + n) 512 (omega (arith, a .none-sent, f .used, ltb-false (512 - d .used) n (b .2))))
+          let b = choice-none (holds (e .seq) (take (d .used) rows)) (overOf e d subs rows) (ltb (512 - d .used) n) (sym (refusal-numbers e d subs rows (length events) f) ∙ sym is ∙ zero) in
+          record {
+            row = row;
+            subs-long = f .subs-long;
+            rows-long = f .rows-long;
+            consumers = f .consumers;
+            room = omega (arith, a .none-sent, f .used, ltb-false (512 - d .used) n (b .2));
+            expired = f .expired;
+            discarded = f .discarded;
+            rows-used = f .rows-used;
+            absent = b .0;
+            order = ready-standing d subs rows events a .order;
+          }
 
       -- the head's clock is the destination's
       as-due : (at : ℕ) → at ≡ dueBy clock d → (ps : List Id) (us : List Audit) → silent (kept at e) (headView d subs rows ps us) ≡ silent (keptBy clock e) (headView d subs rows ps us)
       unfolding headView
       as-due at h ps us = ap (λ (n : ℕ). silent (kept n e) (headView d subs rows ps us)) h
 
-      module _ (at : ℕ) (less : at ≡ dueBy clock d) (m : Head) (subs′ rows′ : List Row) (q : Head) (subs″ rows″ events″ : List Row) where
-        pub enqueue-done : LeavesIf (leb at (2 ^ 62) && stores e d subs rows (length events)) (Room d m) (silent (kept at e)) d m subs rows events subs′ rows′ events
-            → LeavesIf (fits subs′ m (length rows′) (length events) && leb clock (2 ^ 62)) (Sent m q) (dispatch clock) m q subs′ rows′ events subs″ rows″ events″
+      module _ (r : Answer) (at : ℕ) (less : at ≡ dueBy clock d) (m : Head) (subs′ rows′ : List Row) (q : Head) (subs″ rows″ events″ : List Row) where
+        pub enqueue-done : Arrived (kept at e) d m subs rows subs′ rows′
+            → LeavesIf (dispatches clock subs′ m (length rows′) (length events)) (Sent m q) (dispatch clock) m q subs′ rows′ events subs″ rows″ events″
             → r ≡ doneAs 0 q → Performs storing d r subs rows events subs″ rows″ events″
         enqueue-done s p h =
-            let soon : leb at (2 ^ 62) ≡ true = le-leb at (2 ^ 62) (omega (arith, less, late)) in
-            let l = leaves-when _ (Room d m) (silent (kept at e)) d m subs rows events subs′ rows′ events (and-both (leb at (2 ^ 62)) _ soon enqueue-stores) s in
+            let l = s events in
             let z = leaves-as (silent (kept at e)) (silent (keptBy clock e)) d m subs rows events subs′ rows′ events (λ ps us n. as-due at less ps us) (l .0) in
             let o : Own storing d subs rows 0 = λ ps us z. sym zero ∙ enqueue-own ps us z in
             part-performs d subs rows events a clock late storing (keptBy clock e) (enqueue-parts clock e) o enqueue-says 1024 (omega arith)
@@ -188,31 +195,9 @@ module _ (now : ℕ) (p : Spec) where
       ltb-false (Calls.freeRows t) (snapshotRows now p t)
       (verdict-none (is-some (subOf (p .id) t)) (leb 32 (length (t .subs))) (ltb (Calls.freeRows t) (snapshotRows now p t)) z)
 
-module _ (d : Head) (subs rows events : List Row) (a : Ready d subs rows events) where
-  -- the numbers fit, with the fewest events that may be lent
-  short-fits : fits subs d (length rows) 545 ≡ true
-  short-fits = facts-fit subs d (length rows) 545
-      (view-fits d subs rows (a .producers) (a .audits) (d .«calls_used») (a .is-sound) 545 (a .long .subs-long) (a .long .rows-long) (omega arith) (a .stands .consumers) (a .stands .used) (a .stands .rows-used) (omega (arith, a .none-sent, a .stands .used)) (omega arith))
-
-  -- nothing waits on a sound topic
-  abbrev t : Dest
-  t = seen d subs rows events a
-
-  waiting-length : length (t .pending) ≡ d .waiting
-  unfolding headView
-  waiting-length =
-      let others : List Row = drop (subRows (take (d .consumers) subs)) rows in
-      let w : List Row = take (d .waiting) (drop (d .reserved) others) in
-      length-map w entryOf
-      ∙ length-take-le (d .waiting) (drop (d .reserved) others) (omega (arith, length-drop (d .reserved) others, length-drop (subRows (take (d .consumers) subs)) rows, a .stands .rows-used, a .stands .used, a .long .rows-long))
-
-  topic-waits : (b : Bool) → placed t (kindBy b) ≡ true → (b || eqb (d .waiting) 0) ≡ true
-  topic-waits true h = refl
-  topic-waits false h = eq-eqb (d .waiting) 0 (sym waiting-length ∙ ap length (empty-nil (t .pending) (and-left (empty (t .pending)) _ h)))
-
-  pub none-waits : (d .queue || eqb (d .waiting) 0) ≡ true
-  unfolding headView
-  none-waits = topic-waits (d .queue) (facts t (a .is-sound) .places)
+-- nothing waits on a sound topic
+none-waits : (d : Head) (subs rows events : List Row) → Ready d subs rows events → (d .queue || eqb (d .waiting) 0) ≡ true
+none-waits d subs rows events a = by-test (d .queue) (λ q. rw q) (λ q. rw q (eq-eqb (d .waiting) 0 (omega (arith, ready-standing d subs rows events a .own q))))
 
 module _ (d : Head) (subs rows events : List Row) (a : Ready d subs rows events) (clock : ℕ) (late : clock ≤ 2 ^ 62)
     (spec : SubSpec) (ok : argumentsOk (joining (specOf spec) clock) ≡ true)
@@ -257,7 +242,7 @@ module _ (d : Head) (subs rows events : List Row) (a : Ready d subs rows events)
 
       module _ (also : Type 0) (m : Head) (subs′ rows′ : List Row) (q : Head) (subs″ rows″ events″ : List Row) where
         pub join-done : LeavesIf (joins clock spec subs d rows (length events)) ((m .events + m .used ≤ 512) × also) (silent (joined clock (specOf spec))) d m subs rows events subs′ rows′ events
-            → LeavesIf (fits subs′ m (length rows′) (length events) && leb clock (2 ^ 62)) (Sent m q) (dispatch clock) m q subs′ rows′ events subs″ rows″ events″
+            → LeavesIf (dispatches clock subs′ m (length rows′) (length events)) (Sent m q) (dispatch clock) m q subs′ rows′ events subs″ rows″ events″
             → r ≡ doneAs 0 q → Performs entering d r subs rows events subs″ rows″ events″
         join-done s p h =
             let l = leaves-when _ ((m .events + m .used ≤ 512) × also) (silent (joined clock (specOf spec))) d m subs rows events subs′ rows′ events joins-it s in

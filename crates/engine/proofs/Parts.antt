@@ -1,28 +1,26 @@
 -- A part of a call, and the dispatch after it. Assumes nothing.
 use mathlib.Core.Path.{_≡_, sym, subst}
-use mathlib.Core.Bool.{true, _&&_}
+use mathlib.Core.Bool.{true}
 use mathlib.Core.List.{List, []}
 use Prim.Native.Nat.{ℕ, _+_, _≤_, _^_}
 use native.Mathlib.Omega.{arith}
 use borrow.Author.Tests.{le-leb}
-use lib.Dec.{leb}
 use lib.ListN.{length}
 use Rattle.definition.specs.Types.{Id, Audit, Dest}
 use Rattle.definition.specs.Destination.{Out, touchIdle, dispatch}
 use Rattle.definition.specs.Calls.{clockOk, bound}
 use Rattle.definition.specs.Layout.{Row}
-use Rattle.definition.proofs.Tests.{and-both}
 use Rattle.definition.proofs.Whole.{Fine}
 use Rattle.definition.proofs.Ops.{touch-fine}
 use Rattle.state.specs.declared.Head.{Head}
 use Rattle.state.specs.State.{headView, touched}
-use Rattle.state.specs.Fits.{fits}
 use Rattle.state.specs.Leaves.{silent, both, Leaves, LeavesIf}
 use Rattle.state.specs.Ready.{Stands, Ready}
 use Rattle.state.proofs.Leaves.{leaves-as, leaves-both, leaves-rest, leaves-when, leaves-touch}
 use Rattle.state.proofs.View.{touched-mark}
 use Rattle.state.proofs.Ready.{Keeps, seen, next-test}
-use Rattle.dispatch.specs.Dispatch.{Sent}
+use Rattle.dispatch.specs.Dispatch.{dispatches, Sent}
+use Rattle.dispatch.proofs.Guard.{dispatches-fit}
 use Rattle.engine.specs.Requests.{sentOn, Sends}
 
 module _ (d : Head) (subs rows events : List Row) (a : Ready d subs rows events) (clock : ℕ) (late : clock ≤ 2 ^ 62)
@@ -34,11 +32,11 @@ module _ (d : Head) (subs rows events : List Row) (a : Ready d subs rows events)
     -- then a dispatch
     module _ (x : ℕ) (few : x ≤ 65536) (k : Keeps x (seen d subs rows events a) (f (seen d subs rows events a)))
         (q : Head) (subs″ rows″ events″ : List Row)
-        (p : LeavesIf (fits subs′ r (length rows′) (length events′) && leb clock (2 ^ 62)) (Sent r q) (dispatch clock) r q subs′ rows′ events′ subs″ rows″ events″)
+        (p : LeavesIf (dispatches clock subs′ r (length rows′) (length events′)) (Sent r q) (dispatch clock) r q subs′ rows′ events′ subs″ rows″ events″)
       where
         pub then-dispatch : Leaves (both f (dispatch clock)) d q subs rows events subs″ rows″ events″ × (q .events ≤ 544)
         then-dispatch =
-            let t = and-both _ _ (next-test d subs rows events a f r subs′ rows′ events′ l x few k room) clock-ok in
+            let t = dispatches-fit subs′ r (length rows′) (length events′) clock (next-test d subs rows events a f r subs′ rows′ events′ l x few k room) clock-ok in
             let y = leaves-when _ (Sent r q) (dispatch clock) r q subs′ rows′ events′ subs″ rows″ events″ t p in
             (leaves-both f (dispatch clock) d r q subs rows events subs′ rows′ events′ subs″ rows″ events″ l (y .0), omega (arith, y .1 .1, l .consumers))
 
@@ -63,11 +61,11 @@ module _ (d : Head) (subs rows events : List Row) (a : Ready d subs rows events)
     (f : Dest → Out) (x : ℕ) (few : x ≤ 60000) (k : (t : Dest) → Keeps x t (f t))
     (m : Head) (subs′ rows′ events′ : List Row) (l : Leaves f d m subs rows events subs′ rows′ events′) (room : m .events + m .used ≤ 512)
     (n : Head) (e : n ≡ touched clock m) (q : Head) (subs″ rows″ events″ : List Row)
-    (p : LeavesIf (fits subs′ n (length rows′) (length events′) && leb clock (2 ^ 62)) (Sent n q) (dispatch clock) n q subs′ rows′ events′ subs″ rows″ events″)
+    (p : LeavesIf (dispatches clock subs′ n (length rows′) (length events′)) (Sent n q) (dispatch clock) n q subs′ rows′ events′ subs″ rows″ events″)
   where
     pub then-on : Sends (sentOn clock f) d q subs rows events subs″ rows″ events″
     then-on =
-        let p′ = subst (λ (n : Head). LeavesIf (fits subs′ n (length rows′) (length events′) && leb clock (2 ^ 62)) (Sent n q) (dispatch clock) n q subs′ rows′ events′ subs″ rows″ events″) e p in
+        let p′ = subst (λ (n : Head). LeavesIf (dispatches clock subs′ n (length rows′) (length events′)) (Sent n q) (dispatch clock) n q subs′ rows′ events′ subs″ rows″ events″) e p in
         let y = then-dispatch d subs rows events a clock late (both f (silent (touchIdle clock))) (touched clock m) subs′ rows′ events′
         (then-touch d subs rows events a clock late f m subs′ rows′ events′ l room) (touch-room d subs rows events a clock late f m subs′ rows′ events′ l room)
         (x + 1) (omega arith) (touch-keeps d subs rows events a clock late f m subs′ rows′ events′ l room x (seen d subs rows events a) (k (seen d subs rows events a)))

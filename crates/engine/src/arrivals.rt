@@ -6,6 +6,7 @@ ghost use Rattle.definition.specs.Calls.{enqueuing, joining, argumentsOk};
 ghost use Rattle.joins.specs.Joins.{specOf};
 ghost use Rattle.state.specs.Ready.{Ready};
 ghost use Rattle.engine.specs.Called.{Performs};
+use crate::storing;
 use consumers::SubRow;
 use entry::Entry;
 use entry::Row;
@@ -31,7 +32,7 @@ pub(crate) fn enqueue(
         return Answer::refused(refusal, d);
     }
     let due = d.due(clock);
-    let stored = storing::store(subs, rows, events, d, e, due);
+    let stored = storing::store(subs, rows, d, e, due);
     if !dispatch::goes(subs, stored.consumers, stored.waiting, stored.queue) {
         return Answer::done(0, stored);
     }

@@ -15,13 +15,17 @@ ghost use Rattle.state.specs.State.{stored};
 ghost use Rattle.engine.specs.Called.{outcome, Called};
 ghost use Rattle.engine.specs.Opened.{openedHead, counted, finished};
 
+mod acking;
 mod arrivals;
 mod asking;
 mod batch;
 mod departures;
+mod fanning;
 mod handling;
+mod ordered;
 mod perform;
 mod requests;
+mod storing;
 mod uncoded;
 
 pub use batch::Done;

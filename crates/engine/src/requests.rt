@@ -1,12 +1,17 @@
 // What a consumer asks (codes 4 to 7), on a sound destination with a call left.
 ghost use mathlib.Core.Path.{_≡_};
 ghost use mathlib.Core.Bool.{true};
-ghost use Prim.Native.Nat.{_≤_, _^_};
+ghost use Prim.Native.Nat.{_<_, _≤_, _^_};
+ghost use lib.ListN.{take};
+ghost use Rattle.model.specs.declared.Id.{Id};
 ghost use Rattle.definition.specs.Calls.{within};
 ghost use Rattle.definition.specs.Destination.{ack, setPrefetch, pullTimeout};
+ghost use Rattle.consumers.specs.declared.Found.the-variants.{At};
+ghost use Rattle.consumers.specs.Table.{positionFrom};
 ghost use Rattle.acks.specs.Acks.{ackOf, acked};
 ghost use Rattle.state.specs.Ready.{Ready};
 ghost use Rattle.engine.specs.Requests.{sentOn, Absent, Sends, Pulled};
+use crate::acking;
 use acks::Ack;
 use consumers::SubRow;
 use entry::Row;
@@ -15,20 +20,20 @@ use state::Answer;
 use state::Event;
 use state::Head;
 
-// The ack of a consumer that is there, `touch_idle`, and the dispatch where anything can go.
+// The ack of the consumer at a place, `touch_idle`, and the dispatch where anything can go.
 fn ack_present(
     subs: &mut [SubRow],
     rows: &mut [Row],
     events: &mut [Event],
     d: Head,
-    id: Id,
+    i: usize,
     a: Ack,
     clock: u64,
 ) -> Head
-    requires { ⌜ Ready d (now subs) (now rows) (now events) × (clock ≤ 2 ^ 62) ⌝ }
-    ensures { λ r. ⌜ Sends (sentOn clock (acked id (ackOf a))) d r (now (subs .entry)) (now (rows .entry)) (now (events .entry)) (now (subs .exit)) (now (rows .exit)) (now (events .exit)) ⌝ }
+    requires { ⌜ Ready d (now subs) (now rows) (now events) × (clock ≤ 2 ^ 62) × (i < d .consumers) ⌝ }
+    ensures { λ r. ⌜ ((id : Id) → positionFrom 0 id (take (d .consumers) (now (subs .entry))) ≡ At i → Sends (sentOn clock (acked id (ackOf a))) d r (now (subs .entry)) (now (rows .entry)) (now (events .entry)) (now (subs .exit)) (now (rows .exit)) (now (events .exit))) ⌝ }
 {
-    let acked = acks::ack_sub(subs, rows, events, d, id, a).touch_idle(clock);
+    let acked = acking::ack_at(subs, rows, events, d, i, a).touch_idle(clock);
     if !dispatch::goes(subs, acked.consumers, acked.waiting, acked.queue) {
         return acked;
     }
@@ -71,10 +76,10 @@ pub(crate) fn ack(
     requires { ⌜ Ready d (now subs) (now rows) (now events) × (clock ≤ 2 ^ 62) ⌝ }
     ensures { λ r. ⌜ Sends (ack clock id (ackOf a)) d r (now (subs .entry)) (now (rows .entry)) (now (events .entry)) (now (subs .exit)) (now (rows .exit)) (now (events .exit)) ⌝ }
 {
-    if returns::is_present(subs, d, id) {
-        return ack_present(subs, rows, events, d, id, a, clock);
+    match consumers::position(subs, d.consumers, id) {
+        consumers::Found::At(i) => ack_present(subs, rows, events, d, i, a, clock),
+        consumers::Found::Nothing => ack_absent(subs, rows, events, d, id, a, clock),
     }
-    ack_absent(subs, rows, events, d, id, a, clock)
 }
 
 // `Dest::pull_timeout`.

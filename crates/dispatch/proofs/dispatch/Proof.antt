@@ -2,9 +2,8 @@
 use lib.ListN.{length}
 use denote.Ref.{now}
 use Rattle.definition.specs.Destination.{dispatch}
-use Rattle.state.specs.Fits.{fits}
 use Rattle.state.proofs.Answers.{leaves-no}
-use Rattle.dispatch.proofs.Queue.{test-late}
+use Rattle.dispatch.proofs.Guard.{dispatches-late}
 use Rattle.dispatch.proofs.Sorts.{of-queue, of-topic}
 use borrow.Author.Needs.{needs}
 use Rattle.dispatch.proofs.dispatch.Statement.{statement}
@@ -16,7 +15,7 @@ due-requires c κs = search needs
 returns : tie.Need-returns
 returns c =
     let a = c .before .before .args in
-    leaves-no _ _ (dispatch (a .clock)) (a .d) (now (a .subs)) (now (a .rows)) (now (a .events)) (test-late (fits (now (a .subs)) (a .d) (length (now (a .rows))) (length (now (a .events)))) (a .clock) (c .if1 .taken))
+    leaves-no _ _ (dispatch (a .clock)) (a .d) (now (a .subs)) (now (a .rows)) (now (a .events)) (dispatches-late (now (a .subs)) (a .d) (length (now (a .rows))) (length (now (a .events))) (a .clock) (c .if1 .taken))
 
 dispatch-queue-requires : tie.Need-dispatch-queue-requires
 dispatch-queue-requires c κs = search needs
@@ -36,7 +35,7 @@ returns-2 c =
     let g = k .before .before in
     let a = g .before .args in
     let r = c .before .before .before .dispatch-queue in
-    of-queue (a .d) (r .result) (now (a .subs)) (now (a .rows)) (now (a .events)) (r .last .0) (r .last .1 .0) (r .last .1 .1 .0) (a .clock) _ (g .due .ensures) (k .before .if1 .left) (fits (now (a .subs)) (a .d) (length (now (a .rows))) (length (now (a .events)))) (k .if2 .taken) (r .ensures)
+    of-queue (a .d) (r .result) (now (a .subs)) (now (a .rows)) (now (a .events)) (r .last .0) (r .last .1 .0) (r .last .1 .1 .0) (a .clock) _ (g .due .ensures) (k .before .if1 .left) (k .if2 .taken) (r .ensures)
 
 dispatch-topic-requires : tie.Need-dispatch-topic-requires
 dispatch-topic-requires c κs = search needs
@@ -56,7 +55,7 @@ returns-3 c =
     let g = k .before .before in
     let a = g .before .args in
     let r = c .before .before .before .dispatch-topic in
-    of-topic (a .d) (r .result) (now (a .subs)) (now (a .rows)) (now (a .events)) (r .last .0) (r .last .1 .0) (r .last .1 .1 .0) (a .clock) _ (g .due .ensures) (k .before .if1 .left) (fits (now (a .subs)) (a .d) (length (now (a .rows))) (length (now (a .events)))) (k .if2 .left) (r .ensures)
+    of-topic (a .d) (r .result) (now (a .subs)) (now (a .rows)) (now (a .events)) (r .last .0) (r .last .1 .0) (r .last .1 .1 .0) (a .clock) _ (g .due .ensures) (k .before .if1 .left) (k .if2 .left) (r .ensures)
 
 pub dispatch-spec : {M : Type 1} → statement M
 dispatch-spec =

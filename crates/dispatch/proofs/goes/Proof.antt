@@ -9,18 +9,20 @@ use lib.ListN.{take}
 use lib.Seq.{slice}
 use Rattle.definition.specs.Base.{all}
 use Rattle.consumers.proofs.Table.{all-next, all-not, all-none}
-use Rattle.dispatch.proofs.Idle.{still, goes-short, goes-by}
+use Rattle.dispatch.specs.Dispatch.{canGo, goesOut}
+use Rattle.dispatch.proofs.Guard.{lacks, one-short, one-by}
 use Rattle.dispatch.proofs.goes.Statement.{statement}
 use Rattle.dispatch.proofs.goes.Tie as tie
 
 abbrev Inv-loop : tie.InvT-loop
-Inv-loop subs n waiting queue i₀ i = (i ≤ n) × (all (still waiting queue) (take n subs) ≡ all (still waiting queue) (slice i n subs))
+Inv-loop subs n waiting queue i₀ i = (i ≤ n) × (all (lacks (canGo waiting queue)) (take n subs) ≡ all (lacks (canGo waiting queue)) (slice i n subs))
 
 abbrev μ-loop : tie.MeasureT-loop
 μ-loop subs n waiting queue i₀ i = n - i
 
 returns : tie.Need-returns Inv-loop μ-loop
-returns c = goes-short _ _ _ _ (c .if1 .taken)
+unfolding goesOut
+returns c = let a = c .before .args in one-short (canGo (a .waiting) (a .queue)) (a .n) (now (a .subs)) (c .if1 .taken)
 
 loop-holds : tie.Need-loop-holds Inv-loop μ-loop
 loop-holds c = (search needs, refl)
@@ -29,10 +31,11 @@ can-go-requires : tie.Need-can-go-requires Inv-loop μ-loop
 can-go-requires c κs = search needs
 
 returns-2 : tie.Need-returns-2 Inv-loop μ-loop
+unfolding goesOut
 returns-2 c =
     let l = c .before .before .before .loop in
     let a = c .before .before .before .before .before .args in
-    goes-by (a .n) (a .waiting) (a .queue) (now (a .subs)) false (omega arith) (l .inv .1 ∙ all-not (l .i) (a .n) (now (a .subs)) (omega arith) (still (a .waiting) (a .queue)) (ap not (sym (c .before .can-go .ensures) ∙ c .if2 .taken)))
+    one-by (canGo (a .waiting) (a .queue)) (a .n) (now (a .subs)) false (omega arith) (l .inv .1 ∙ all-not (l .i) (a .n) (now (a .subs)) (omega arith) (lacks (canGo (a .waiting) (a .queue))) (ap not (sym (c .before .can-go .ensures) ∙ c .if2 .taken)))
 
 add-i : tie.Need-add-i Inv-loop μ-loop
 add-i c = search needs
@@ -44,13 +47,14 @@ loop-again : tie.Need-loop-again Inv-loop μ-loop
 loop-again c =
     let l = c .before .before .before .loop in
     let a = c .before .before .before .before .before .args in
-    (search needs, l .inv .1 ∙ all-next (l .i) (a .n) (now (a .subs)) (omega arith) (still (a .waiting) (a .queue)) (ap not (sym (c .before .can-go .ensures) ∙ c .if2 .left)))
+    (search needs, l .inv .1 ∙ all-next (l .i) (a .n) (now (a .subs)) (omega arith) (lacks (canGo (a .waiting) (a .queue))) (ap not (sym (c .before .can-go .ensures) ∙ c .if2 .left)))
 
 returns-3 : tie.Need-returns-3 Inv-loop μ-loop
+unfolding goesOut
 returns-3 c =
     let l = c .before .loop in
     let a = c .before .before .before .args in
-    goes-by (a .n) (a .waiting) (a .queue) (now (a .subs)) true (omega arith) (l .inv .1 ∙ all-none (l .i) (a .n) (now (a .subs)) (omega arith) (still (a .waiting) (a .queue)))
+    one-by (canGo (a .waiting) (a .queue)) (a .n) (now (a .subs)) true (omega arith) (l .inv .1 ∙ all-none (l .i) (a .n) (now (a .subs)) (omega arith) (lacks (canGo (a .waiting) (a .queue))))
 
 pub goes-spec : {M : Type 1} → statement M
 goes-spec = tie.close (tie.spec Inv-loop μ-loop returns loop-holds can-go-requires returns-2 add-i loop-less loop-again returns-3)

@@ -7,16 +7,18 @@ use denote.Ref.{now}
 use Rattle.acks.specs.Acks.{ackOf, acked}
 use Rattle.dispatch.specs.Dispatch.{goesOut}
 use Rattle.dispatch.proofs.Idle.{goes-not}
-use Rattle.state.proofs.Leaves.{leaves-when}
-use Rattle.state.proofs.Ready.{ready-test}
+use Rattle.state.proofs.Ready.{ready-fits}
 use Rattle.engine.proofs.Asks.{acked-keeps}
 use Rattle.engine.proofs.Parts.{then-on}
 use borrow.Author.Needs.{needs}
 use Rattle.engine.proofs.requests.ack_present.Statement.{statement}
 use Rattle.engine.proofs.requests.ack_present.Tie as tie
 
-ack-sub-requires : tie.Need-ack-sub-requires
-ack-sub-requires c κs = search needs
+ack-at-requires : tie.Need-ack-at-requires
+ack-at-requires c κs =
+    let a = c .before .before .before .args in
+    let p = c .before .before .before .pre in
+    (ready-fits (a .d) (now (a .subs)) (now (a .rows)) (now (a .events)) (p .0), p .2)
 
 touch-idle-requires : tie.Need-touch-idle-requires
 touch-idle-requires c κs = search needs
@@ -38,12 +40,12 @@ returns : tie.Need-returns
 returns c =
     let a = c .before .before .before .before .before .before .before .before .before .before .before .args in
     let p = c .before .before .before .before .before .before .before .before .before .before .before .pre in
-    let k = c .before .before .before .before .before .before .before .ack-sub in
+    let k = c .before .before .before .before .before .before .before .ack-at in
     let t = c .before .before .before .touch-idle in
-    let f = acked (a .id) (ackOf (a .a)) in
-    let l = leaves-when _ _ f (a .d) (k .result) (now (a .subs)) (now (a .rows)) (now (a .events)) (k .last .0) (k .last .1 .0) (k .last .1 .1 .0) (ready-test (a .d) (now (a .subs)) (now (a .rows)) (now (a .events)) (p .0)) (k .ensures) in
     let quiet : goesOut (t .result .consumers) (t .result .waiting) (t .result .queue) (k .last .0) ≡ false = sym (c .before .goes .ensures) ∙ not-true _ (c .if1 .taken) in
-    then-on (a .d) (now (a .subs)) (now (a .rows)) (now (a .events)) (p .0) (a .clock) (p .1) f 513 (omega arith) (acked-keeps (a .clock) (a .id) (ackOf (a .a)))
+    λ id e.
+    let l = k .ensures id e in
+    then-on (a .d) (now (a .subs)) (now (a .rows)) (now (a .events)) (p .0) (a .clock) (p .1) (acked id (ackOf (a .a))) 513 (omega arith) (acked-keeps (a .clock) id (ackOf (a .a)))
     (k .result) (k .last .0) (k .last .1 .0) (k .last .1 .1 .0) (l .0) (l .1 .events) (t .result) (t .ensures) (t .result) (k .last .0) (k .last .1 .0) (k .last .1 .1 .0)
     (goes-not (a .clock) (t .result) (k .last .0) (k .last .1 .0) (k .last .1 .1 .0) quiet)
 
@@ -63,19 +65,19 @@ returns-2 : tie.Need-returns-2
 returns-2 c =
     let a = c .before .before .before .before .before .before .before .before .before .before .before .before .before .before .before .before .before .before .args in
     let p = c .before .before .before .before .before .before .before .before .before .before .before .before .before .before .before .before .before .before .pre in
-    let k = c .before .before .before .before .before .before .before .before .before .before .before .before .before .before .ack-sub in
+    let k = c .before .before .before .before .before .before .before .before .before .before .before .before .before .before .ack-at in
     let t = c .before .before .before .before .before .before .before .before .before .before .touch-idle in
-    let f = acked (a .id) (ackOf (a .a)) in
-    let l = leaves-when _ _ f (a .d) (k .result) (now (a .subs)) (now (a .rows)) (now (a .events)) (k .last .0) (k .last .1 .0) (k .last .1 .1 .0) (ready-test (a .d) (now (a .subs)) (now (a .rows)) (now (a .events)) (p .0)) (k .ensures) in
     let s = c .before .before .before .dispatch in
-    then-on (a .d) (now (a .subs)) (now (a .rows)) (now (a .events)) (p .0) (a .clock) (p .1) f 513 (omega arith) (acked-keeps (a .clock) (a .id) (ackOf (a .a)))
+    λ id e.
+    let l = k .ensures id e in
+    then-on (a .d) (now (a .subs)) (now (a .rows)) (now (a .events)) (p .0) (a .clock) (p .1) (acked id (ackOf (a .a))) 513 (omega arith) (acked-keeps (a .clock) id (ackOf (a .a)))
     (k .result) (k .last .0) (k .last .1 .0) (k .last .1 .1 .0) (l .0) (l .1 .events) (t .result) (t .ensures) (s .result) (s .last .0) (s .last .1 .0) (s .last .1 .1 .0) (s .ensures)
 
 pub ack-present-spec : {M : Type 1} → statement M
 ack-present-spec =
     tie.close
     (tie.spec
-    ack-sub-requires
+    ack-at-requires
     touch-idle-requires
     goes-requires
     same-length

@@ -1,4 +1,0 @@
-pub mod Storing
-pub mod Shares
-pub mod Copies
-pub mod Arrivals
