@@ -51,7 +51,7 @@ all-at p (w ∷ l) zero e h = and-left (p w) (all p l) e
 all-at p (w ∷ l) (suc k) e h = all-at p l k (and-right (p w) (all p l) e) (omega arith)
 
 -- a number that the row at place k has, where the rows agree
-alike-at : (x z : ℕ) (l : List Row) (k : ℕ) → agreeAt l ≡ true → k < length l → at 0 (getD l k []) ≡ x → all (alike x z) l ≡ eqb z (at 9 (getD l k []))
+pub alike-at : (x z : ℕ) (l : List Row) (k : ℕ) → agreeAt l ≡ true → k < length l → at 0 (getD l k []) ≡ x → all (alike x z) l ≡ eqb z (at 9 (getD l k []))
 alike-at x z [] k a h e = absurd (omega arith)
 alike-at x z (w ∷ l) zero a h e =
     ap (λ (b : Bool). (not b || eqb z (at 9 w)) && all (alike x z) l) (eq-eqb x (at 0 w) (sym e))
@@ -78,6 +78,11 @@ alike-at x z (w ∷ l) (suc k) a h e =
     twice : (b : Bool) → (b && b) ≡ b
     twice true = refl
     twice false = refl
+
+pub member-at : (x : ℕ) (l : List Row) (k : ℕ) → k < length l → at 0 (getD l k []) ≡ x → member x (map (at 0) l) ≡ true
+member-at x [] k b q = absurd (omega arith)
+member-at x (w ∷ l) zero b q = ap (λ (c : Bool). c || member x (map (at 0) l)) (eq-eqb x (at 0 w) (sym q))
+member-at x (w ∷ l) (suc k) b q = ap (λ (c : Bool). eqb x (at 0 w) || c) (member-at x l k (omega arith) q) ∙ or-true (eqb x (at 0 w))
 
 -- ---- by what the table holds
 
@@ -106,12 +111,7 @@ module _ (rows : List Row) (from to : ℕ) (b : to ≤ length rows) (x : ℕ) wh
   pub slot-met : (place : ℕ) → Slot x place from to rows → 0 < place → at 0 (getD rows (place - 1) []) ≡ x → true ≡ member x (map (at 0) (slice from to rows))
   slot-met place s h e =
       let p = s .1 h in
-      sym (member-at (slice from to rows) (place - 1 - from) (place-in place (p .0) (p .1)) (ap (at 0) (place-at place (p .0) (p .1)) ∙ e))
-    where
-      member-at : (l : List Row) (k : ℕ) → k < length l → at 0 (getD l k []) ≡ x → member x (map (at 0) l) ≡ true
-      member-at [] k b q = absurd (omega arith)
-      member-at (w ∷ l) zero b q = ap (λ (c : Bool). c || member x (map (at 0) l)) (eq-eqb x (at 0 w) (sym q))
-      member-at (w ∷ l) (suc k) b q = ap (λ (c : Bool). eqb x (at 0 w) || c) (member-at l k (omega arith) q) ∙ or-true (eqb x (at 0 w))
+      sym (member-at x (slice from to rows) (place - 1 - from) (place-in place (p .0) (p .1)) (ap (at 0) (place-at place (p .0) (p .1)) ∙ e))
 
 -- ---- the table
 

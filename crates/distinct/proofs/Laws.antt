@@ -175,6 +175,14 @@ marked-new m slots l x k e = by-test (member x l)
     (λ t. let u : getD slots (x % m) false ≡ true = k x t in absurd (let z : _≡_ {A = ℕ} 0 1 = cc in omega arith))
     (λ t. t)
 
+-- what is set stays so
+pub mark-kept : (l : List Bool) (j k : ℕ) → getD l k false ≡ true → getD (set l j true) k false ≡ true
+mark-kept [] j k e = e
+mark-kept (b ∷ l) zero zero e = refl
+mark-kept (b ∷ l) zero (suc k) e = e
+mark-kept (b ∷ l) (suc j) zero e = e
+mark-kept (b ∷ l) (suc j) (suc k) e = mark-kept l j k e
+
 -- one more number is met
 pub marked-more : (m : ℕ) → ((x : ℕ) → x % m < m) → (slots : List Bool) (xs : List ℕ) (i : ℕ) → length slots ≡ m → i < length xs → Marked m slots (take i xs)
     → Marked m (set slots (getD xs i 0 % m) true) (take (i + 1) xs)
@@ -188,11 +196,4 @@ marked-more m below slots xs i n h k x t = by-test (eqb x (getD xs i 0))
     let u : member x (take i xs) ≡ true =
     sym (ap (λ (j : ℕ). member x (take j xs)) (add-one i) ∙ ap (member x) (take-suc xs i 0 h) ∙ member-append x (take i xs) (getD xs i 0 ∷ [])
     ∙ ap (λ (b : Bool). member x (take i xs) || (b || false)) e ∙ or-false (member x (take i xs))) ∙ t in
-    kept slots (getD xs i 0 % m) (x % m) (k x u))
-  where
-    kept : (l : List Bool) (j k : ℕ) → getD l k false ≡ true → getD (set l j true) k false ≡ true
-    kept [] j k e = e
-    kept (b ∷ l) zero zero e = refl
-    kept (b ∷ l) zero (suc k) e = e
-    kept (b ∷ l) (suc j) zero e = e
-    kept (b ∷ l) (suc j) (suc k) e = kept l j k e
+    mark-kept slots (getD xs i 0 % m) (x % m) (k x u))

@@ -22,22 +22,25 @@ use Rattle.sound.proofs.Tests.{part-turn, part-end}
 use Rattle.sound.proofs.Subs.{flying-rows, seqs-rows, rows-of-sub}
 
 -- one number more
+pub seqs-more : (rows : List Row) (from i : ℕ) → from + i < length rows
+    → seqsAt (take (i + 1) (drop from rows)) ≡ seqsAt (take i (drop from rows)) ++ at 0 (getD rows (from + i) []) ∷ []
+seqs-more rows from i h =
+    ap (λ (j : ℕ). seqsAt (take j (drop from rows))) (add-one i)
+    ∙ ap seqsAt (take-suc (drop from rows) i [] (simp length-drop (omega arith)))
+    ∙ map-append (at 0) (take i (drop from rows)) (getD (drop from rows) i [] ∷ [])
+    ∙ ap (λ (w : Row). seqsAt (take i (drop from rows)) ++ at 0 w ∷ []) (getD-drop from rows i [])
+
 pub gather-turn : (rows : List Row) (was out : List ℕ) (from start i : ℕ) → from + i < length rows → start + i < length out
     → take (start + i) out ≡ take start was ++ seqsAt (take i (drop from rows))
     → take (start + (i + 1)) (set out (start + i) (at 0 (getD rows (from + i) []))) ≡ take start was ++ seqsAt (take (i + 1) (drop from rows))
 gather-turn rows was out from start i h k e =
     let v : ℕ = at 0 (getD rows (from + i) []) in
     let n : start + (i + 1) ≡ suc (start + i) = omega arith in
-    let more : seqsAt (take (i + 1) (drop from rows)) ≡ seqsAt (take i (drop from rows)) ++ v ∷ [] =
-    ap (λ (j : ℕ). seqsAt (take j (drop from rows))) (add-one i)
-    ∙ ap seqsAt (take-suc (drop from rows) i [] (simp length-drop (omega arith)))
-    ∙ map-append (at 0) (take i (drop from rows)) (getD (drop from rows) i [] ∷ [])
-    ∙ ap (λ (w : Row). seqsAt (take i (drop from rows)) ++ at 0 w ∷ []) (getD-drop from rows i []) in
     ap (λ (j : ℕ). take j (set out (start + i) v)) n
     ∙ take-suc-set out (start + i) v k
     ∙ ap (λ (l : List ℕ). l ++ v ∷ []) e
     ∙ append-assoc (take start was) (seqsAt (take i (drop from rows))) (v ∷ [])
-    ∙ ap (λ (l : List ℕ). take start was ++ l) (sym more)
+    ∙ ap (λ (l : List ℕ). take start was ++ l) (sym (seqs-more rows from i h))
 
 pub browses : (k : Bool) (l : List Entry) → is-some (browserAt queue k l) ≡ k
 browses true l = refl
@@ -88,6 +91,22 @@ module _ (subs : List Row) (i n : ℕ) (b : n ≤ length subs) (rows : List Row)
       ∙ map-append (λ e. e .seq) (if isBrowser s then [] else flying s) (taken (subsAt queue (slice (i + 1) n subs) (drop (at 15 w) (drop (at 14 w) (drop base rows)))))
       ∙ ap₂ (λ (l : List ℕ) (r : List Row). l ++ seqs (taken (subsAt queue (slice (i + 1) n subs) r))) (taken-here w rows base) d
 
+  -- what was met, with theirs
+  module _ (met total : List ℕ) (e : met ++ seqs (taken (subsAt queue (slice i n subs) (drop base rows))) ≡ total) where
+    pub taken-more : (k : ℕ) → i < n → let w = getD subs i [] in k ≡ (if flag (at 6 w) then 0 else at 14 w)
+        → (met ++ seqsAt (take k (drop base rows))) ++ seqs (taken (subsAt queue (slice (i + 1) n subs) (drop (base + (at 14 w + at 15 w)) rows))) ≡ total
+    taken-more k h q =
+        let w = getD subs i [] in
+        let r : List ℕ = seqs (taken (subsAt queue (slice (i + 1) n subs) (drop (base + (at 14 w + at 15 w)) rows))) in
+        append-assoc met (seqsAt (take k (drop base rows))) r
+        ∙ ap (λ (j : ℕ). met ++ (seqsAt (take j (drop base rows)) ++ r)) q
+        ∙ ap (λ (l : List ℕ). met ++ l) (sym (taken-turn h))
+        ∙ e
+
+    pub taken-all : i ≡ n → met ≡ total
+    unfolding eachSub
+    taken-all q = sym (ap (λ (l : List Row). met ++ seqs (taken (subsAt queue l (drop base rows)))) (part-end subs i n q) ∙ append-nil met) ∙ e
+
   module _ (was out next : List ℕ) (start end k : ℕ) (total : List ℕ)
       (e : take end out ++ seqs (taken (subsAt queue (slice i n subs) (drop base rows))) ≡ total) where
     pub taken-next : i < n → let w = getD subs i [] in k ≡ (if flag (at 6 w) then 0 else at 14 w)
@@ -95,17 +114,10 @@ module _ (subs : List Row) (i n : ℕ) (b : n ≤ length subs) (rows : List Row)
         → take (end + k) next ++ seqs (taken (subsAt queue (slice (i + 1) n subs) (drop (base + (at 14 w + at 15 w)) rows))) ≡ total
     taken-next h q g =
         let w = getD subs i [] in
-        let r : List ℕ = seqs (taken (subsAt queue (slice (i + 1) n subs) (drop (base + (at 14 w + at 15 w)) rows))) in
-        ap (λ (l : List ℕ). l ++ r) g
-        ∙ append-assoc (take end out) (seqsAt (take k (drop base rows))) r
-        ∙ ap (λ (j : ℕ). take end out ++ (seqsAt (take j (drop base rows)) ++ r)) q
-        ∙ ap (λ (l : List ℕ). take end out ++ l) (sym (taken-turn h))
-        ∙ e
+        ap (λ (l : List ℕ). l ++ seqs (taken (subsAt queue (slice (i + 1) n subs) (drop (base + (at 14 w + at 15 w)) rows)))) g ∙ taken-more (take end out) total e k h q
 
     pub taken-end : i ≡ n → take end out ≡ total
-    unfolding eachSub
-    taken-end q =
-        sym (ap (λ (l : List Row). take end out ++ seqs (taken (subsAt queue l (drop base rows)))) (part-end subs i n q) ∙ append-nil (take end out)) ∙ e
+    taken-end q = taken-all (take end out) total e q
 
 pub taken-small : (w : Row) → (if flag (at 6 w) then 0 else at 14 w) ≤ at 14 w
 taken-small w = pick (flag (at 6 w))

@@ -5,6 +5,8 @@ pub mod Head
 pub mod Subs
 pub mod Gathered
 pub mod Sizes
+pub mod Hub
+pub mod Glance
 pub mod Connected
 pub mod Tables
 pub mod Meaning

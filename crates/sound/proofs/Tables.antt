@@ -5,12 +5,13 @@ use mathlib.Core.List.{List, [], _∷_, _++_}
 use Prim.Native.Nat.{ℕ, _+_, _≤_, _<_, _^_}
 use native.Mathlib.Nat.{zero-add}
 use native.Mathlib.Omega.{arith}
-use borrow.Author.Tests.{leb-true, leb-false, ltb-false, le-leb, lt-leb}
+use borrow.Author.Tests.{eqb-true, leb-true, leb-false, ltb-false, le-leb, lt-leb}
 use lib.Dec.{leb, ltb, eqb}
 use lib.ListN.{length, take, drop}
 use lib.Seq.{slice}
 use Rattle.words.proofs.Tests.{by-test}
 use Rattle.definition.specs.Base.{all, every, distinct}
+use Rattle.definition.specs.Types.{topic}
 use Rattle.definition.specs.Calls.{bound, countersOk, stateShort}
 use Rattle.definition.specs.Words.{at}
 use Rattle.definition.specs.Layout.{Row, Buffers, statsAt, subsAt, subRows, usedSubs, usedRows, ringsFormed, lengthsOf}
@@ -40,6 +41,16 @@ module _ (others reserved waiting : ℕ) (subs rows : List Row) where
       → true ≡ (queueApart (kindBy q) others reserved waiting subs rows && all (apartBy (kindBy q)) (subsAt (kindBy q) subs rows))
   topic-last true e f = absurd (true≢false e)
   topic-last false e f = sym f
+
+  -- what is known of a topic
+  pub topic-apart : (q : Bool) → q ≡ false → (queueApart (kindBy q) others reserved waiting subs rows && all (apartBy (kindBy q)) (subsAt (kindBy q) subs rows)) ≡ true
+      → all (apartBy topic) (subsAt topic subs rows) ≡ true
+  topic-apart true e f = absurd (true≢false e)
+  topic-apart false e f = f
+
+pub topic-empty : (q : Bool) (n : ℕ) → q ≡ false → emptyBy (kindBy q) n ≡ true → n ≡ 0
+topic-empty true n e f = absurd (true≢false e)
+topic-empty false n e f = eqb-true n 0 f
 
 -- ---- all tests of the tables
 

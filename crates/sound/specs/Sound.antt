@@ -1,11 +1,11 @@
 -- The tests of a sound state one by one, on the words of lent buffers, as the code makes them. What `sound` ensures is said by the
 -- definitions alone. Assumes nothing.
 use mathlib.Core.Path.{_≡_}
-use Prim.Native.Nat.{ℕ, suc, _+_, _^_, _≤_}
+use Prim.Native.Nat.{ℕ, suc, _+_, _%_, _^_, _≤_, _<_}
 use mathlib.Core.Bool.{Bool, true, false, not, _&&_, _||_}
 use mathlib.Core.List.{List, [], _∷_, _++_, map}
 use lib.Dec.{leb, ltb, eqb}
-use lib.ListN.{take, drop}
+use lib.ListN.{take, drop, getD}
 use Rattle.words.specs.Words.{isInt}
 use Rattle.words.specs.Pick.{if_then_else_}
 use Rattle.entry.specs.Entry.{entryOf}
@@ -134,6 +134,18 @@ heldRise q l = q || ascending l
 abbrev pub SameFrom : ℕ → List ℕ → List ℕ → Type 0
 SameFrom x l m = (y : ℕ) → x ≤ y → member y l ≡ member y m
 
+-- a number's remainder is marked in a table of 256, and the number is not one of w
+abbrev pub marked : List Bool → List ℕ → ℕ → Bool
+marked slots w x = getD slots (x % 256) false && not (member x w)
+
+-- so it is with each of them, and they are different
+abbrev pub markedApart : List Bool → List ℕ → List ℕ → Bool
+markedApart slots w l = all (marked slots w) l && distinct l
+
+-- what new numbers make of any that were met before
+abbrev pub Met : List Bool → List Bool → List ℕ → List ℕ → Type 0
+Met was slots w new = (l : List ℕ) → markedApart was w l ≡ true → markedApart slots w (l ++ new) ≡ true
+
 -- a consumer of a queue that is no browser has no rows but those that are looked at with all of the queue's
 abbrev pub apartBy : Kind → Sub → Bool
 apartBy queue s = not (isBrowser s) || distinct (seqs (rowsOf s))
@@ -164,6 +176,11 @@ queueSeqs others reserved waiting subs rows =
 abbrev pub queueApart : Kind → ℕ → ℕ → ℕ → List Row → List Row → Bool
 queueApart queue others reserved waiting subs rows = distinct (queueSeqs others reserved waiting subs rows)
 queueApart topic others reserved waiting subs rows = true
+
+-- k rows from place a have the numbers and the sizes of those from place b
+abbrev pub SameRows : ℕ → ℕ → ℕ → List Row → Type 0
+SameRows a b k rows =
+    (i : ℕ) → i < k → (at 0 (getD rows (a + i) []) ≡ at 0 (getD rows (b + i) [])) × (at 9 (getD rows (a + i) []) ≡ at 9 (getD rows (b + i) []))
 
 -- copies among the first n rows agree on the size
 abbrev pub sizesAt : ℕ → List Row → Bool

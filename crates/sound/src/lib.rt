@@ -4,20 +4,20 @@ use entry::Row;
 ghost use mathlib.Core.Path.{_≡_};
 ghost use mathlib.Core.Bool.{true, false, not, _&&_, _||_};
 ghost use mathlib.Core.List.{[], _++_};
-ghost use Prim.Native.Nat.{_+_, _*_, _-_, _≤_, _<_, _^_};
+ghost use Prim.Native.Nat.{ℕ, _+_, _*_, _-_, _≤_, _<_, _^_};
 ghost use lib.Dec.{leb, ltb, eqb};
 ghost use lib.ListN.{take, drop, getD};
 ghost use lib.Seq.{slice};
 ghost use Rattle.words.specs.Pick.{if_then_else_};
 ghost use Rattle.model.specs.Model.{idOf, sameId};
 ghost use Rattle.definition.specs.Base.{all, every, member, distinct, rising, ascending};
-ghost use Rattle.definition.specs.Types.{queue};
+ghost use Rattle.definition.specs.Types.{queue, topic};
 ghost use Rattle.definition.specs.Calls.{idOk, countersOk, seqs, taken, stateShort};
 ghost use Rattle.definition.specs.Words.{at};
 ghost use Rattle.definition.specs.Layout.{flag, idAt, statsAt, eachSub, subsAt, subRows, ringsFormed, wordsStrict, soundBuffers, lengthsOf};
 ghost use Rattle.copies.specs.Copies.{sharedBy};
 ghost use Rattle.shares.specs.Shares.{conns};
-ghost use Rattle.sound.specs.Sound.{limitsOk, countsOk, marksOk, headOk, rowFits, rowOk, flightOk, holderOk, flyingOk, sortedOk, wordTests, ownOk, eachOk, kindBy, idsApart, seqsAt, heldSeqs, heldRise, SameFrom, apartBy, rowsUpTo, queueSeqs, queueApart, sizesAt, tablesOk, connsAt, ownConns, sharesAt, lent, restOk};
+ghost use Rattle.sound.specs.Sound.{limitsOk, countsOk, marksOk, headOk, rowFits, rowOk, flightOk, holderOk, flyingOk, sortedOk, wordTests, ownOk, eachOk, kindBy, idsApart, seqsAt, heldSeqs, heldRise, SameFrom, Met, apartBy, rowsUpTo, queueSeqs, queueApart, SameRows, sizesAt, tablesOk, connsAt, ownConns, sharesAt, lent, restOk};
 
 type SubRow = [u64; 16];
 
@@ -524,17 +524,30 @@ fn resume(from: usize, i: usize, x: u64, last: u64) -> usize
     i
 }
 
+// A number that none of rows[from..to], which rise, is below: that of the first.
+fn least_of(rows: &[Row], from: usize, to: usize) -> u64
+    requires { ⌜ from ≤ to ⌝ }
+    requires { do ⌜ to ≤ (← ⟦rows.len()⟧) ⌝ }
+    requires { ⌜ ascending (seqsAt (slice from to (now rows))) ≡ true ⌝ }
+    ensures { λ r. ⌜ ((x : ℕ) → x < r → member x (seqsAt (slice from to (now (rows .entry)))) ≡ false) ⌝ }
+{
+    if from == to {
+        return SEQ_END;
+    }
+    let first = rows[from];
+    first[0]
+}
+
 // Whether none of the first n is the number of one of rows[from..to], which rise. As long as the numbers rise too, each is looked for from where the
 // one before was.
 fn none_waits(xs: &[u64], n: usize, rows: &[Row], from: usize, to: usize) -> bool
     requires { do ⌜ n ≤ (← ⟦xs.len()⟧) ⌝ }
-    requires { ⌜ from < to ⌝ }
+    requires { ⌜ from ≤ to ⌝ }
     requires { do ⌜ to ≤ (← ⟦rows.len()⟧) ⌝ }
     requires { ⌜ ascending (seqsAt (slice from to (now rows))) ≡ true ⌝ }
     ensures { λ r. ⌜ r ≡ all (λ x. not (member x (seqsAt (slice from to (now (rows .entry)))))) (take n (now (xs .entry))) ⌝ }
 {
-    let first = rows[from];
-    let low = first[0];
+    let low = least_of(rows, from, to);
     let mut at = from;
     let mut last = 0;
     let mut k = 0;
@@ -583,7 +596,78 @@ fn queue_apart(
     none_waits(out, end, rows, first, first + waiting)
 }
 
-// With room for the numbers: few rows need little, which is sooner cleared.
+// Marks the remainders of the numbers of n rows from place from. Yes where none was marked, so that each number is new, and none is the number of one of
+// rows[first..end], which rise. No is no answer.
+fn marks(rows: &[Row], from: usize, n: usize, slots: &mut [bool], first: usize, end: usize) -> bool
+    requires { do ⌜ from + n ≤ (← ⟦rows.len()⟧) ⌝ }
+    requires { do ⌜ 256 ≤ (← ⟦slots.len()⟧) ⌝ }
+    requires { ⌜ first ≤ end ⌝ }
+    requires { do ⌜ end ≤ (← ⟦rows.len()⟧) ⌝ }
+    requires { ⌜ ascending (seqsAt (slice first end (now rows))) ≡ true ⌝ }
+    ensures { λ r. ⌜ (r ≡ true → Met (now (slots .entry)) (now (slots .exit)) (seqsAt (slice first end (now (rows .entry)))) (seqsAt (take n (drop from (now (rows .entry)))))) ⌝ }
+{
+    let low = least_of(rows, first, end);
+    let mut at = first;
+    let mut last = 0;
+    let mut i = 0;
+    while i < n {
+        let row = rows[from + i];
+        let seq = row[0];
+        let slot = (seq % 256) as usize;
+        if slots[slot] {
+            return false;
+        }
+        slots[slot] = true;
+        i += 1;
+        if low <= seq {
+            let start = resume(first, at, seq, last);
+            at = not_below(rows, start, end, seq);
+            if stands(rows, at, end, seq) {
+                return false;
+            }
+            last = seq;
+        }
+    }
+    true
+}
+
+// Whether a queue's entries are seen to be different by the remainders of their numbers. Those that wait rise. No is no answer.
+fn seen_apart(
+    subs: &[SubRow],
+    n: usize,
+    rows: &[Row],
+    others: usize,
+    reserved: usize,
+    waiting: usize,
+) -> bool
+    requires { do ⌜ n ≤ (← ⟦subs.len()⟧) ⌝ }
+    requires { ⌜ others ≡ subRows (take n (now subs)) ⌝ }
+    requires { do ⌜ others + (reserved + waiting) ≤ (← ⟦rows.len()⟧) ⌝ }
+    requires { ⌜ others + (reserved + waiting) ≤ 512 ⌝ }
+    requires { ⌜ sortedOk 0 (slice (others + reserved) (others + reserved + waiting) (now rows)) ≡ true ⌝ }
+    ensures { λ r. ⌜ (r ≡ true → distinct (queueSeqs others reserved waiting (take n (now (subs .entry))) (now (rows .entry))) ≡ true) ⌝ }
+{
+    let first = others + reserved;
+    let end = first + waiting;
+    let mut slots = [false; 256];
+    if !marks(rows, others, reserved, &mut slots, first, end) {
+        return false;
+    }
+    let mut base = 0;
+    let mut i = 0;
+    while i < n {
+        let w = subs[i];
+        let k = taken_of(w);
+        if !marks(rows, base, k, &mut slots, first, end) {
+            return false;
+        }
+        base += w[14] as usize + w[15] as usize;
+        i += 1;
+    }
+    true
+}
+
+// With room for the numbers: few rows need little, which is sooner cleared, or none where the remainders show it.
 fn apart(
     subs: &[SubRow],
     n: usize,
@@ -608,6 +692,9 @@ fn apart(
         return true;
     }
     if others + reserved <= 64 {
+        if seen_apart(subs, n, rows, others, reserved, waiting) {
+            return true;
+        }
         let mut few = [0u64; 64];
         return queue_apart(subs, n, rows, others, reserved, waiting, &mut few);
     }
@@ -617,13 +704,99 @@ fn apart(
 
 // ---- sizes
 
-// Whether copies of an entry among the first rows agree on its size. Where no entry can have two rows, none is looked at.
+// Whether k rows from place a have the numbers and the sizes of those from place b, one by one.
+fn same_rows(rows: &[Row], a: usize, b: usize, k: usize) -> bool
+    requires { do ⌜ a + k ≤ (← ⟦rows.len()⟧) ⌝ }
+    requires { do ⌜ b + k ≤ (← ⟦rows.len()⟧) ⌝ }
+    ensures { λ r. ⌜ (r ≡ true → SameRows a b k (now (rows .entry))) ⌝ }
+{
+    if a == b {
+        return true;
+    }
+    let mut i = 0;
+    while i < k {
+        let x = rows[a + i];
+        let y = rows[b + i];
+        if (x[0] != y[0]) | (x[9] != y[9]) {
+            return false;
+        }
+        i += 1;
+    }
+    true
+}
+
+// The first of n consumers that has most rows. That it has most is not promised: nothing but speed depends on it.
+fn most_rows(subs: &[SubRow], n: usize) -> usize
+    requires { do ⌜ n ≤ (← ⟦subs.len()⟧) ⌝ }
+    requires { ⌜ 0 < n ⌝ }
+    requires { ⌜ subRows (take n (now subs)) ≤ 512 ⌝ }
+    ensures { λ r. ⌜ r < n ⌝ }
+{
+    let mut hub = 0;
+    let mut most = 0;
+    let mut i = 0;
+    while i < n {
+        let w = subs[i];
+        let k = w[14] + w[15];
+        if most < k {
+            most = k;
+            hub = i;
+        }
+        i += 1;
+    }
+    hub
+}
+
+// Whether each consumer's rows are copies of the last rows of the consumer that has most, in their order: so they are on a topic where each consumer takes all
+// entries. Then copies agree on their size. No is no answer.
+fn aligned(subs: &[SubRow], n: usize, rows: &[Row]) -> bool
+    requires { do ⌜ n ≤ (← ⟦subs.len()⟧) ⌝ }
+    requires { do ⌜ subRows (take n (now subs)) ≤ (← ⟦rows.len()⟧) ⌝ }
+    requires { ⌜ subRows (take n (now subs)) ≤ 512 ⌝ }
+    requires { ⌜ all (apartBy topic) (subsAt topic (take n (now subs)) (now rows)) ≡ true ⌝ }
+    ensures { λ r. ⌜ (r ≡ true → sizesAt (subRows (take n (now (subs .entry)))) (now (rows .entry)) ≡ true) ⌝ }
+{
+    if n == 0 {
+        return false;
+    }
+    let hub = most_rows(subs, n);
+    let v = subs[hub];
+    let most = v[14] as usize + v[15] as usize;
+    let end = sub_rows(subs, hub) + most;
+    let mut base = 0;
+    let mut i = 0;
+    while i < n {
+        let w = subs[i];
+        let k = w[14] as usize + w[15] as usize;
+        if most < k {
+            return false;
+        }
+        if !same_rows(rows, base, end - k, k) {
+            return false;
+        }
+        base += k;
+        i += 1;
+    }
+    true
+}
+
+// Whether copies of an entry among the first rows agree on its size. Where no entry can have two rows, none is looked at. On a topic all rows are the consumers'.
 fn sizes_ok(subs: &[SubRow], n: usize, rows: &[Row], used: usize, on_queue: bool) -> bool
+    requires { do ⌜ n ≤ (← ⟦subs.len()⟧) ⌝ }
+    requires { do ⌜ used ≤ (← ⟦rows.len()⟧) ⌝ }
+    requires { ⌜ used ≤ 512 ⌝ }
     requires { ⌜ (sharedBy «on_queue» (take n (now subs)) ≡ false → sizesAt used (now rows) ≡ true) ⌝ }
+    requires { ⌜ («on_queue» ≡ false → used ≡ subRows (take n (now subs))) ⌝ }
+    requires { ⌜ («on_queue» ≡ false → all (apartBy topic) (subsAt topic (take n (now subs)) (now rows)) ≡ true) ⌝ }
     ensures { λ r. ⌜ r ≡ sizesAt used (now (rows .entry)) ⌝ }
 {
     if !copies::shared(subs, n, on_queue) {
         return true;
+    }
+    if !on_queue {
+        if aligned(subs, n, rows) {
+            return true;
+        }
     }
     copies::agree(rows, used)
 }

@@ -25,17 +25,26 @@ returns-2 c =
 add-if3 : tie.Need-add-if3
 add-if3 c = search needs
 
+seen-apart-requires : tie.Need-seen-apart-requires
+seen-apart-requires c κs = (search needs, (search needs, (search needs, (search needs, c .before .before .before .before .pre .1 .1 .1 .1 .0))))
+
+returns-3 : tie.Need-returns-3
+returns-3 c =
+    let a = c .before .before .before .before .before .before .args in
+    let g = c .before .before .before .before .before .subs-apart in
+    sym (c .before .seen-apart .ensures (c .if4 .taken)) ∙ queue-last (a .others) (a .reserved) (a .waiting) (take (a .n) (a .subs .now)) (a .rows .now) (a .on-queue) (not-false (a .on-queue) (c .before .before .before .if2 .left)) (sym (g .ensures) ∙ not-false (g .result) (c .before .before .before .before .if1 .left))
+
 slice-aggregate-queue-apart : tie.Need-slice-aggregate-queue-apart
 slice-aggregate-queue-apart c = search needs
 
 queue-apart-requires : tie.Need-queue-apart-requires
-queue-apart-requires c κs = (search needs, (search needs, (search needs, (search needs, (search needs, c .before .before .before .before .before .pre .1 .1 .1 .1 .0)))))
+queue-apart-requires c κs = (search needs, (search needs, (search needs, (search needs, (search needs, c .before .before .before .before .before .before .before .pre .1 .1 .1 .1 .0)))))
 
-returns-3 : tie.Need-returns-3
-returns-3 c =
-    let a = c .before .before .before .before .before .before .before .args in
-    let g = c .before .before .before .before .before .before .subs-apart in
-    c .before .queue-apart .ensures ∙ queue-last (a .others) (a .reserved) (a .waiting) (take (a .n) (a .subs .now)) (a .rows .now) (a .on-queue) (not-false (a .on-queue) (c .before .before .before .before .if2 .left)) (sym (g .ensures) ∙ not-false (g .result) (c .before .before .before .before .before .if1 .left))
+returns-4 : tie.Need-returns-4
+returns-4 c =
+    let a = c .before .before .before .before .before .before .before .before .before .args in
+    let g = c .before .before .before .before .before .before .before .before .subs-apart in
+    c .before .queue-apart .ensures ∙ queue-last (a .others) (a .reserved) (a .waiting) (take (a .n) (a .subs .now)) (a .rows .now) (a .on-queue) (not-false (a .on-queue) (c .before .before .before .before .before .before .if2 .left)) (sym (g .ensures) ∙ not-false (g .result) (c .before .before .before .before .before .before .before .if1 .left))
 
 slice-aggregate-queue-apart-2 : tie.Need-slice-aggregate-queue-apart-2
 slice-aggregate-queue-apart-2 c = search needs
@@ -43,8 +52,8 @@ slice-aggregate-queue-apart-2 c = search needs
 queue-apart-requires-2 : tie.Need-queue-apart-requires-2
 queue-apart-requires-2 c κs = (search needs, (search needs, (search needs, (search needs, (search needs, c .before .before .before .before .before .pre .1 .1 .1 .1 .0)))))
 
-returns-4 : tie.Need-returns-4
-returns-4 c =
+returns-5 : tie.Need-returns-5
+returns-5 c =
     let a = c .before .before .before .before .before .before .before .args in
     let g = c .before .before .before .before .before .before .subs-apart in
     c .before .queue-apart2 .ensures ∙ queue-last (a .others) (a .reserved) (a .waiting) (take (a .n) (a .subs .now)) (a .rows .now) (a .on-queue) (not-false (a .on-queue) (c .before .before .before .before .if2 .left)) (sym (g .ensures) ∙ not-false (g .result) (c .before .before .before .before .before .if1 .left))
@@ -57,9 +66,11 @@ apart-spec =
     returns
     returns-2
     add-if3
+    seen-apart-requires
+    returns-3
     slice-aggregate-queue-apart
     queue-apart-requires
-    returns-3
+    returns-4
     slice-aggregate-queue-apart-2
     queue-apart-requires-2
-    returns-4)
+    returns-5)

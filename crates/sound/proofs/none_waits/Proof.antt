@@ -7,7 +7,7 @@ use lib.Seq.{slice}
 use Rattle.definition.specs.Base.{all, member, ascending}
 use Rattle.sound.specs.Sound.{seqsAt, SameFrom}
 use Rattle.sound.proofs.Tests.{all-stop, all-next, all-end}
-use Rattle.sound.proofs.Rising.{below-first, resumed}
+use Rattle.sound.proofs.Rising.{resumed}
 use native.Mathlib.Omega.{arith}
 use borrow.Author.Needs.{needs}
 use Rattle.sound.proofs.none_waits.Statement.{statement}
@@ -19,14 +19,8 @@ Inv-loop xs n rows from to low place₀ last₀ k₀ place last k = (k ≤ n) ×
 abbrev μ-loop : tie.MeasureT-loop
 μ-loop xs n rows from to low place₀ last₀ k₀ place last k = n - k
 
-mul-first : tie.Need-mul-first Inv-loop μ-loop
-mul-first c = search needs
-
-shared-slice-copy-out-first : tie.Need-shared-slice-copy-out-first Inv-loop μ-loop
-shared-slice-copy-out-first c = search needs
-
-array-read-low : tie.Need-array-read-low Inv-loop μ-loop
-array-read-low c = search needs
+least-of-requires : tie.Need-least-of-requires Inv-loop μ-loop
+least-of-requires c κs = search needs
 
 loop-holds : tie.Need-loop-holds Inv-loop μ-loop
 loop-holds c =
@@ -109,7 +103,7 @@ loop-again-2 c =
     let xs = a .xs .now in
     let rows = a .rows .now in
     let v = p .loop .inv in
-    (search needs, v .1, v .2, v .3, all-next (λ x. not (member x (seqsAt (slice (a .from) (a .to) rows)))) xs (p .loop .k) (a .n) 0 (s .pre .0) (all (λ x. not (member x (seqsAt (slice (a .from) (a .to) rows)))) (take (a .n) xs)) (v .4) (c .before .before .loop-test .taken) (ap not (below-first rows (a .from) (a .to) (s .pre .1 .1 .0) (s .pre .1 .1 .1) (getD xs (p .loop .k) 0) (s .pre .1 .0) (c .if1 .left))))
+    (search needs, v .1, v .2, v .3, all-next (λ x. not (member x (seqsAt (slice (a .from) (a .to) rows)))) xs (p .loop .k) (a .n) 0 (s .pre .0) (all (λ x. not (member x (seqsAt (slice (a .from) (a .to) rows)))) (take (a .n) xs)) (v .4) (c .before .before .loop-test .taken) (ap not (p .before .least-of .ensures (getD xs (p .loop .k) 0) (c .if1 .left))))
 
 returns-2 : tie.Need-returns-2 Inv-loop μ-loop
 returns-2 c =
@@ -127,9 +121,7 @@ none-waits-spec =
     (tie.spec
     Inv-loop
     μ-loop
-    mul-first
-    shared-slice-copy-out-first
-    array-read-low
+    least-of-requires
     loop-holds
     mul-x
     shared-slice-read-x

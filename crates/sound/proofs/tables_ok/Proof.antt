@@ -6,8 +6,9 @@ use borrow.Author.Tests.{not-true, not-false}
 use lib.Dec.{eqb}
 use lib.ListN.{take}
 use Rattle.sound.proofs.Subs.{held-rise}
-use Rattle.sound.proofs.Tables.{table-unsorted, table-stop, table-last, table-known, table-unfit}
+use Rattle.sound.proofs.Tables.{table-unsorted, table-stop, table-last, table-known, table-unfit, topic-apart, topic-empty}
 use Rattle.sound.proofs.Lone.{lone-at}
+use native.Mathlib.Omega.{arith}
 use borrow.Author.Needs.{needs}
 use Rattle.sound.proofs.tables_ok.Statement.{statement}
 use Rattle.sound.proofs.tables_ok.Tie as tie
@@ -105,8 +106,22 @@ sizes-ok-requires c κs =
     let us = take (a .n) (a .subs .now) in
     let rows = a .rows .now in
     let conj : Bool = (a .on-queue || eqb (a .reserved + a .waiting) 0) && (ids .result && (held .result && seqs .result)) in
-    let k = table-known (a .on-queue) (a .most) (a .others) (a .reserved) (a .waiting) us rows (s .pre .1 .1 .0) (ids .result) (held .result) (seqs .result) e (ids .ensures) (held .ensures .0) (held .ensures .1) i (seqs .ensures) (not-false conj (c .if3 .left)) in
-    λ n. lone-at (a .most) (a .reserved) (a .waiting) us rows (a .others) (s .pre .1 .0) (a .on-queue) (k .0) (sym e) (k .1) n
+    let k = table-known (a .on-queue) (a .most) (a .others) (a .reserved) (a .waiting) us rows (s .pre .1 .1 .0) (ids .result) (held .result) (seqs .result) e (ids .ensures) (held .ensures .0) (held .ensures .1) i (seqs .ensures) (not-false conj (c .if3 .left)) in (
+      search needs,
+      (
+        search needs,
+        (
+          search needs,
+          (
+            (λ n. lone-at (a .most) (a .reserved) (a .waiting) us rows (a .others) (s .pre .1 .0) (a .on-queue) (k .0) (sym e) (k .1) n),
+            (
+              (λ q. omega (arith, topic-empty (a .on-queue) (a .reserved + a .waiting) q (k .0), s .pre .1 .0)),
+              λ q. topic-apart (a .others) (a .reserved) (a .waiting) us rows (a .on-queue) q (k .1),
+            ),
+          ),
+        ),
+      ),
+    )
 
 returns-4 : tie.Need-returns-4
 returns-4 c =
