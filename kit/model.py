@@ -185,11 +185,11 @@ def ack_last(s, a):
 
 
 def free(test, tx, s):
-    def marked(i):
-        return replace(i, freed=True, tx=tx or i.tx) if pick("marked (Consumer)", test(i), "passes", "as it was") else i
+    def freed_as(i):
+        return replace(i, freed=True, tx=tx or i.tx) if pick("freedAs", test(i), "passes", "as it was") else i
 
     more = sum(test(i) and not i.freed for i in s.inflight)
-    return replace(s, inflight=tuple(map(marked, s.inflight)), freed=s.freed + more)
+    return replace(s, inflight=tuple(map(freed_as, s.inflight)), freed=s.freed + more)
 
 
 def remove_inflight(test, s):
@@ -400,7 +400,7 @@ def dispatch(now, t):
 
 def touch_idle(now, t):
     if pick("touchIdle", not t.pending and not t.subs and not t.producers, "unused", "in use"):
-        t.idle = now if pick("marked (Destination)", t.idle is None, "none", "some") else t.idle
+        t.idle = now if pick("idleMark", t.idle is None, "none", "some") else t.idle
     else:
         t.idle = None
 
@@ -707,8 +707,8 @@ def release_audits(conn, t):
 # ---- Calls
 
 
-def within(half, n):
-    return n < half if pick("within", n >= 0, "pos", "negsuc") else -n <= half
+def signed_within(half, n):
+    return n < half if pick("signedWithin", n >= 0, "pos", "negsuc") else -n <= half
 
 
 def clock_ok(now):
@@ -720,11 +720,11 @@ def optional(test, k):
 
 
 def entry_ok(e):
-    return 1 <= e.seq < 1 << 63 and within(1 << 31, e.redelivery) and e.size < 1 << 32
+    return 1 <= e.seq < 1 << 63 and signed_within(1 << 31, e.redelivery) and e.size < 1 << 32
 
 
 def spec_ok(p):
-    return within(1 << 31, p["prefetch"]) and p["selector"] <= 64
+    return signed_within(1 << 31, p["prefetch"]) and p["selector"] <= 64
 
 
 def rows_of(s):
@@ -921,7 +921,7 @@ CALLS = {
     4: Call("acknowledge", True, ack_words, lambda w: clock_ok(w[6]), lambda w, t: (0, ack(w[6], ident(w), ack_of(w), t))),
     5: Call("pulling", True, lambda w: unused_from(5, w), lambda w: clock_ok(w[4]), lambda w, t: pull(w[4], ident(w), signed(w[3]), t)),
     6: Call("timedOut", True, lambda w: unused_from(4, w), lambda w: True, lambda w, t: (0, pull_timeout(ident(w), w[3], t))),
-    7: Call("prefetching", True, lambda w: unused_from(5, w), lambda w: within(1 << 31, signed(w[3])) and clock_ok(w[4]),
+    7: Call("prefetching", True, lambda w: unused_from(5, w), lambda w: signed_within(1 << 31, signed(w[3])) and clock_ok(w[4]),
             lambda w, t: (0, set_prefetch(w[4], ident(w), signed(w[3]), t))),
     8: Call("unmarking", False, lambda w: unused_from(3, w), lambda w: True, lambda w, t: unmarked(ident(w), t)),
     9: Call("sweeping", False, lambda w: unused_from(2, w), lambda w: clock_ok(w[0]) and w[1] <= 512, lambda w, t: sweep_expired(w[0], w[1], t)),
@@ -939,13 +939,13 @@ def decode(code, ws):
     call = CALLS.get(code)
     if call is None:
         hit("read", "none")
-        hit("inRange", "none")
+        hit("rangedCall", "none")
         return None
     hit("read", f"code {code}")
     if not pick(f"provided (code {code})", call.right(ws), "some", "none"):
-        hit("inRange", "none")
+        hit("rangedCall", "none")
         return None
-    hit("inRange", "some")
+    hit("rangedCall", "some")
     hit("argumentsOk", "asking" if call.asks else call.name)
     return call if pick(("requestOk " if call.asks else "argumentsOk ") + call.name, call.in_range(ws), "in range", "out of range") else None
 

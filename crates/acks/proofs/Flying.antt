@@ -13,19 +13,19 @@ use Rattle.words.specs.Words.{unsigned, int}
 use Rattle.entry.specs.Entry.{entryOf, oneMore, redelivered}
 use Rattle.definition.specs.Base.{if_then_else_, keep, tally, find, all}
 use Rattle.definition.specs.Types.{Inflight, Sub}
-use Rattle.definition.specs.Consumer.{dseqOf, bySeq, marked, bumped}
+use Rattle.definition.specs.Consumer.{dseqOf, bySeq, freedAs, bumped}
 use Rattle.definition.specs.Words.{present}
 use Rattle.definition.specs.Layout.{Row, flag, inflightAt}
 use Rattle.definition.proofs.Tests.{by-test, and-left, and-right}
-use Rattle.table.specs.declared.Found.the-variants.{At, Nothing}
-use Rattle.table.specs.Table.{inRange, freedRow, markRow, raisedRow, redeliverRow, findFrom, findSeq}
+use Rattle.entry.specs.declared.Found.the-variants.{At, Nothing}
+use Rattle.table.specs.Table.{dseqBetween, freedRow, markRow, raisedRow, redeliverRow, findFrom, findSeq}
 use Rattle.table.proofs.Bounds.{find-in}
-use Rattle.table.proofs.Rows.{word-kept, freed-entry, freed-is, raised-entry}
+use Rattle.table.proofs.Rows.{word-kept, freed-entry, freed-is, raised-entry, below, above}
 use Rattle.table.proofs.Segments.{tally-map, keep-map}
 use Rattle.table.proofs.Search.{find-from-at, find-at}
 use Rattle.acks.specs.declared.Span.{Span}
 use Rattle.acks.specs.Rules.{inSpan}
-use Rattle.acks.specs.Parts.{full}
+use Rattle.acks.specs.Parts.{fullRow}
 
 -- ---- by_seq
 
@@ -82,12 +82,6 @@ module _ (s : Sub) (b : Bool) (q : ℕ) where
 
 -- ---- marked and raised
 
-other : {j k : ℕ} → j < k → j ≡ k → ⊥
-other h e = omega arith
-
-above : {j k : ℕ} → k < j → j ≡ k → ⊥
-above h e = omega arith
-
 inflight-eq : {n m : ℕ} {e g : _} {x y u v : Bool} → n ≡ m → e ≡ g → x ≡ y → u ≡ v
     → _≡_ {A = Inflight} (record { dseq = n; entry = e; freed = x; tx = u }) (record { dseq = m; entry = g; freed = y; tx = v })
 inflight-eq p q r s = λ j. record { dseq = p j; entry = q j; freed = r j; tx = s j }
@@ -95,10 +89,10 @@ inflight-eq p q r s = λ j. record { dseq = p j; entry = q j; freed = r j; tx = 
 freed-inflight : (tx : Bool) (r : Row) → 8 < length r
     → inflightAt (freedRow tx r) ≡ record { dseq = getD r 6 0; entry = entryOf r; freed = true; tx = tx || flag (getD r 8 0) }
 freed-inflight true r h =
-    inflight-eq (word-kept (set r 7 1) 8 1 6 (other (omega arith)) ∙ word-kept r 7 1 6 (other (omega arith))) (freed-entry true r) (freed-is true r (omega arith))
+    inflight-eq (word-kept (set r 7 1) 8 1 6 (below (omega arith)) ∙ word-kept r 7 1 6 (below (omega arith))) (freed-entry true r) (freed-is true r (omega arith))
     (ap flag (getD-set-same (set r 7 1) 8 1 0 (simp length-set (omega arith))))
 freed-inflight false r h =
-    inflight-eq (word-kept r 7 1 6 (other (omega arith))) (freed-entry false r) (freed-is false r (omega arith)) (ap flag (word-kept r 7 1 8 (above (omega arith))))
+    inflight-eq (word-kept r 7 1 6 (below (omega arith))) (freed-entry false r) (freed-is false r (omega arith)) (ap flag (word-kept r 7 1 8 (above (omega arith))))
 
 raised-inflight : (r : Row) → 8 < length r
     → inflightAt (raisedRow r) ≡ record { dseq = getD r 6 0; entry = redelivered (entryOf r); freed = flag (getD r 7 0); tx = flag (getD r 8 0) }
@@ -107,35 +101,35 @@ raised-inflight r h =
     inflight-eq (word-kept r 5 v 6 (above (omega arith))) (raised-entry r (omega arith)) (ap flag (word-kept r 5 v 7 (above (omega arith)))) (ap flag (word-kept r 5 v 8 (above (omega arith))))
 
 module _ (p : Span) where
-  mark-inflight : (tx : Bool) (r : Row) → full r ≡ true → inflightAt (markRow (p .first) (p .last) tx r) ≡ marked (inSpan p) tx (inflightAt r)
-  mark-inflight tx r h = by (inRange (p .first) (p .last) r)
+  mark-inflight : (tx : Bool) (r : Row) → fullRow r ≡ true → inflightAt (markRow (p .first) (p .last) tx r) ≡ freedAs (inSpan p) tx (inflightAt r)
+  mark-inflight tx r h = by (dseqBetween (p .first) (p .last) r)
     where
       by : (b : Bool) → inflightAt (if b then freedRow tx r else r) ≡ (if b then record { dseq = getD r 6 0; entry = entryOf r; freed = true; tx = tx || flag (getD r 8 0) } else inflightAt r)
       by true = freed-inflight tx r (omega (arith, eqb-true (length r) 10 h))
       by false = refl
 
-  raise-inflight : (r : Row) → full r ≡ true → inflightAt (redeliverRow (p .first) (p .last) r) ≡ bumped (inSpan p) (inflightAt r)
-  raise-inflight r h = by (inRange (p .first) (p .last) r)
+  raise-inflight : (r : Row) → fullRow r ≡ true → inflightAt (redeliverRow (p .first) (p .last) r) ≡ bumped (inSpan p) (inflightAt r)
+  raise-inflight r h = by (dseqBetween (p .first) (p .last) r)
     where
       by : (b : Bool) → inflightAt (if b then raisedRow r else r) ≡ (if b then record { dseq = getD r 6 0; entry = redelivered (entryOf r); freed = flag (getD r 7 0); tx = flag (getD r 8 0) } else inflightAt r)
       by true = raised-inflight r (omega (arith, eqb-true (length r) 10 h))
       by false = refl
 
 -- what is so of each row is so of the list
-changed : (g : Row → Row) (c : Inflight → Inflight) → ((r : Row) → full r ≡ true → inflightAt (g r) ≡ c (inflightAt r))
-    → (l : List Row) → all full l ≡ true → map inflightAt (map g l) ≡ map c (map inflightAt l)
+changed : (g : Row → Row) (c : Inflight → Inflight) → ((r : Row) → fullRow r ≡ true → inflightAt (g r) ≡ c (inflightAt r))
+    → (l : List Row) → all fullRow l ≡ true → map inflightAt (map g l) ≡ map c (map inflightAt l)
 changed g c law [] h = refl
-changed g c law (r ∷ l) h = ap₂ (λ (x : Inflight) (m : List Inflight). x ∷ m) (law r (and-left (full r) (all full l) h)) (changed g c law l (and-right (full r) (all full l) h))
+changed g c law (r ∷ l) h = ap₂ (λ (x : Inflight) (m : List Inflight). x ∷ m) (law r (and-left (fullRow r) (all fullRow l) h)) (changed g c law l (and-right (fullRow r) (all fullRow l) h))
 
 module _ (p : Span) (l : List Row) where
-  pub mark-flying : (tx : Bool) → all full l ≡ true → map inflightAt (map (markRow (p .first) (p .last) tx) l) ≡ map (marked (inSpan p) tx) (map inflightAt l)
+  pub mark-flying : (tx : Bool) → all fullRow l ≡ true → map inflightAt (map (markRow (p .first) (p .last) tx) l) ≡ map (freedAs (inSpan p) tx) (map inflightAt l)
   mark-flying tx = changed _ _ (mark-inflight p tx) l
 
-  pub raise-flying : all full l ≡ true → map inflightAt (map (redeliverRow (p .first) (p .last)) l) ≡ map (bumped (inSpan p)) (map inflightAt l)
+  pub raise-flying : all fullRow l ≡ true → map inflightAt (map (redeliverRow (p .first) (p .last)) l) ≡ map (bumped (inSpan p)) (map inflightAt l)
   raise-flying = changed _ _ (raise-inflight p) l
 
-  pub keep-flying : keep (λ i. not (inSpan p i)) (map inflightAt l) ≡ map inflightAt (keep (λ r. not (inRange (p .first) (p .last) r)) l)
+  pub keep-flying : keep (λ i. not (inSpan p i)) (map inflightAt l) ≡ map inflightAt (keep (λ r. not (dseqBetween (p .first) (p .last) r)) l)
   keep-flying = keep-map inflightAt (λ i. not (inSpan p i)) l
 
-  pub tally-flying : tally (inSpan p) (map inflightAt l) ≡ tally (inRange (p .first) (p .last)) l
+  pub tally-flying : tally (inSpan p) (map inflightAt l) ≡ tally (dseqBetween (p .first) (p .last)) l
   tally-flying = tally-map inflightAt (inSpan p) l

@@ -21,8 +21,8 @@ use Rattle.consumers.proofs.Strict.{all-map}
 use Rattle.definition.proofs.Lists.{all-keep}
 use Rattle.definition.proofs.Thin.{tally-length}
 use Rattle.state.specs.declared.Head.{Head}
-use Rattle.state.specs.State.{withStats, withUsed, withEvents}
-use Rattle.table.specs.Table.{inRange, isFreed, markRow, redeliverRow, countRows, mapRows, removeRows, removedRows}
+use Rattle.state.specs.State.{withCounters, withUsed, withEvents}
+use Rattle.table.specs.Table.{dseqBetween, isFreed, markRow, redeliverRow, countRows, mapRows, removeRows, removedRows}
 use Rattle.table.proofs.Lists.{slice-take}
 use Rattle.table.proofs.Bounds.{count-in, gone-in}
 use Rattle.table.proofs.Laws.{map-length, map-after, map-parts, remove-length, remove-after, remove-parts}
@@ -30,7 +30,7 @@ use Rattle.table.proofs.Segments.{tally-map, kept-length}
 use Rattle.table.proofs.Strict.{mark-strict, redeliver-strict}
 use Rattle.acks.specs.declared.Span.{Span}
 use Rattle.acks.specs.Rules.{inSpan, silently, acts, removedCounts, removedEvents}
-use Rattle.acks.specs.Parts.{full, ownFlying, ownHeld, ownAfter, ownView, Own, Told, Acted}
+use Rattle.acks.specs.Parts.{fullRow, ownFlying, ownHeld, ownAfter, ownView, Own, Told, Acted}
 use Rattle.acks.proofs.Flying.{mark-flying, raise-flying, keep-flying, tally-flying}
 use Rattle.acks.proofs.Telling.{told-none}
 
@@ -118,7 +118,7 @@ module _ (step : Def.Sub → Step) (k : Kind) (base : ℕ) (s t : Sub) (d q r : 
         flying = omega arith;
         held = et;
         used = used;
-        head = er ∙ ap (withUsed (r .used)) (told .head ∙ ap (λ (x : ℕ). withEvents x (withStats (d .stats ⊕ step (ownView k base s rows) .counts) d)) (sym sent));
+        head = er ∙ ap (withUsed (r .used)) (told .head ∙ ap (λ (x : ℕ). withEvents x (withCounters (d .stats ⊕ step (ownView k base s rows) .counts) d)) (sym sent));
         said = ap (λ (x : ℕ). take x events′) sent ∙ told .said;
         later = ap (λ (x : ℕ). drop x events′) sent ∙ told .later ∙ ap (λ (x : ℕ). drop x events) (sym sent);
         more = omega (arith, told .more);
@@ -159,8 +159,8 @@ module _ (k : Kind) (base : ℕ) (s : Sub) (d : Head) (rows : List Row) (own : O
       let e : countRows q base end rows ≡ tally q (slice base end rows) = count-in q base end rows (omega arith) (omega arith) in
       omega (arith, tally-length q (slice base end rows), length-slice base end rows (omega arith))
 
-  pub count-is : (p : Span) → countRows (inRange (p .first) (p .last)) base end rows ≡ tally (inSpan p) (map inflightAt (slice base end rows))
-  count-is p = count-in (inRange (p .first) (p .last)) base end rows (omega arith) (omega arith) ∙ sym (tally-flying p (slice base end rows))
+  pub count-is : (p : Span) → countRows (dseqBetween (p .first) (p .last)) base end rows ≡ tally (inSpan p) (map inflightAt (slice base end rows))
+  count-is p = count-in (dseqBetween (p .first) (p .last)) base end rows (omega arith) (omega arith) ∙ sym (tally-flying p (slice base end rows))
 
   pub flies : v .inflight ≡ map inflightAt (slice base end rows)
   unfolding subView
@@ -177,45 +177,45 @@ module _ (k : Kind) (base : ℕ) (s : Sub) (d : Head) (rows : List Row) (own : O
       (ap (drop 512) e ∙ map-after g base end rows 512 (omega arith)) (ap length e ∙ map-length g base end rows) view (all-map flyingStrict flyingStrict g strict f) (told-none 0 d events) refl (omega arith) refl
 
   module _ (p : Span) where
-    pub acted-mark : (tx : Bool) (n : ℕ) (rows′ events : List Row) → all full (slice base end rows) ≡ true
-        → n ≡ countRows (λ w. inRange (p .first) (p .last) w && not (isFreed w)) base end rows → rows′ ≡ mapRows (markRow (p .first) (p .last) tx) base end rows
+    pub acted-mark : (tx : Bool) (n : ℕ) (rows′ events : List Row) → all fullRow (slice base end rows) ≡ true
+        → n ≡ countRows (λ w. dseqBetween (p .first) (p .last) w && not (isFreed w)) base end rows → rows′ ≡ mapRows (markRow (p .first) (p .last) tx) base end rows
         → Acted (silently (free (inSpan p) tx)) k base s (withFreed (s .freed + n) s) d d rows events rows′ events
     unfolding subView
     acted-mark tx n rows′ events fulls en e =
-        let own-full : all full f ≡ true = ap (all full) (sym (flying-slice base s rows)) ∙ fulls in
+        let own-full : all fullRow f ≡ true = ap (all fullRow) (sym (flying-slice base s rows)) ∙ fulls in
         let fresh : n ≡ tally (λ i. inSpan p i && not (i .freed)) (map inflightAt f) =
-        en ∙ count-in (λ w. inRange (p .first) (p .last) w && not (isFreed w)) base end rows (omega arith) (omega arith)
-        ∙ ap (tally (λ w. inRange (p .first) (p .last) w && not (isFreed w))) (flying-slice base s rows)
+        en ∙ count-in (λ w. dseqBetween (p .first) (p .last) w && not (isFreed w)) base end rows (omega arith) (omega arith)
+        ∙ ap (tally (λ w. dseqBetween (p .first) (p .last) w && not (isFreed w))) (flying-slice base s rows)
         ∙ sym (tally-map inflightAt (λ i. inSpan p i && not (i .freed)) f) in
         placed (markRow (p .first) (p .last) tx) (free (inSpan p) tx) (s .freed + n) rows′ events e (mark-strict (p .first) (p .last) tx)
         (ap₂ (λ (l : List Def.Inflight) (m : ℕ). Def.withInflight l (Def.withFreed (s .freed + m) v)) (mark-flying p f tx own-full) fresh)
 
-    pub acted-raise : (rows′ events : List Row) → all full (slice base end rows) ≡ true → rows′ ≡ mapRows (redeliverRow (p .first) (p .last)) base end rows
+    pub acted-raise : (rows′ events : List Row) → all fullRow (slice base end rows) ≡ true → rows′ ≡ mapRows (redeliverRow (p .first) (p .last)) base end rows
         → Acted (silently (redeliver (inSpan p))) k base s s d d rows events rows′ events
     unfolding subView
     acted-raise rows′ events fulls e =
-        let own-full : all full f ≡ true = ap (all full) (sym (flying-slice base s rows)) ∙ fulls in
+        let own-full : all fullRow f ≡ true = ap (all fullRow) (sym (flying-slice base s rows)) ∙ fulls in
         placed (redeliverRow (p .first) (p .last)) (redeliver (inSpan p)) (s .freed) rows′ events e (redeliver-strict (p .first) (p .last)) (ap (λ (l : List Def.Inflight). Def.withInflight l v) (raise-flying p f own-full))
 
     -- ---- rows that go
 
     abbrev gone : ℕ
-    gone = tally (inRange (p .first) (p .last)) f
+    gone = tally (dseqBetween (p .first) (p .last)) f
 
     pub gone-few : gone ≤ s .inflight
-    gone-few = omega (arith, tally-length (inRange (p .first) (p .last)) f, flying-size base s rows d own)
+    gone-few = omega (arith, tally-length (dseqBetween (p .first) (p .last)) f, flying-size base s rows d own)
 
-    pub gone-is : removedRows (inRange (p .first) (p .last)) base end (d .used) rows ≡ gone
-    gone-is = gone-in (inRange (p .first) (p .last)) base end (d .used) rows (omega arith) (omega arith) (omega arith) ∙ ap (tally (inRange (p .first) (p .last))) (flying-slice base s rows)
+    pub gone-is : removedRows (dseqBetween (p .first) (p .last)) base end (d .used) rows ≡ gone
+    gone-is = gone-in (dseqBetween (p .first) (p .last)) base end (d .used) rows (omega arith) (omega arith) (omega arith) ∙ ap (tally (dseqBetween (p .first) (p .last))) (flying-slice base s rows)
 
-    freed-is : removedRows (λ r. inRange (p .first) (p .last) r && isFreed r) base end (d .used) rows ≡ tally (λ i. inSpan p i && i .freed) (map inflightAt f)
+    freed-is : removedRows (λ r. dseqBetween (p .first) (p .last) r && isFreed r) base end (d .used) rows ≡ tally (λ i. inSpan p i && i .freed) (map inflightAt f)
     freed-is =
-        gone-in (λ r. inRange (p .first) (p .last) r && isFreed r) base end (d .used) rows (omega arith) (omega arith) (omega arith)
-        ∙ ap (tally (λ r. inRange (p .first) (p .last) r && isFreed r)) (flying-slice base s rows)
+        gone-in (λ r. dseqBetween (p .first) (p .last) r && isFreed r) base end (d .used) rows (omega arith) (omega arith) (omega arith)
+        ∙ ap (tally (λ r. dseqBetween (p .first) (p .last) r && isFreed r)) (flying-slice base s rows)
         ∙ sym (tally-map inflightAt (λ i. inSpan p i && i .freed) f)
 
     abbrev kept : List Row
-    kept = keep (λ r. not (inRange (p .first) (p .last) r)) f
+    kept = keep (λ r. not (dseqBetween (p .first) (p .last) r)) f
 
     -- the used rows after its own, and those past them
     abbrev u : List Row
@@ -227,7 +227,7 @@ module _ (k : Kind) (base : ℕ) (s : Sub) (d : Head) (rows : List Row) (own : O
     abbrev junk : List Row
     junk = drop (length kept + length (h ++ u)) (f ++ ((h ++ u) ++ z))
 
-    removed-parts : removeRows (inRange (p .first) (p .last)) base end (d .used) rows ≡ take base rows ++ (kept ++ (h ++ (u ++ junk)))
+    removed-parts : removeRows (dseqBetween (p .first) (p .last)) base end (d .used) rows ≡ take base rows ++ (kept ++ (h ++ (u ++ junk)))
     removed-parts =
         let a : List Row = take base rows in
         let whole : rows ≡ a ++ (f ++ ((h ++ u) ++ z)) =
@@ -235,15 +235,15 @@ module _ (k : Kind) (base : ℕ) (s : Sub) (d : Head) (rows : List Row) (own : O
         ∙ ap (λ (x : List Row). a ++ (f ++ (h ++ x))) (sym (take-append-drop (d .used - (base + (s .inflight + s .held))) c))
         ∙ ap (λ (x : List Row). a ++ (f ++ x)) (sym (append-assoc h u z)) in
         let size : end + length (h ++ u) ≡ d .used = omega (arith, length-append h u, held-size base s rows d own, later-size base s rows d own) in
-        ap (removeRows (inRange (p .first) (p .last)) base end (d .used)) whole
-        ∙ remove-parts (inRange (p .first) (p .last)) base end (d .used) a f (h ++ u) z (front-size base s rows d own) end-is size
+        ap (removeRows (dseqBetween (p .first) (p .last)) base end (d .used)) whole
+        ∙ remove-parts (dseqBetween (p .first) (p .last)) base end (d .used) a f (h ++ u) z (front-size base s rows d own) end-is size
         ∙ ap (λ (x : List Row). a ++ (kept ++ x)) (append-assoc h u junk)
 
     pub acted-remove : (counts : AckCount) (cause : Bool) (q r : Head) (n x y : ℕ) (rows′ events events′ : List Row)
         → Told (removedCounts counts (s .browser) (inSpan p) (map inflightAt (slice base end rows))) (removedEvents counts (s .browser) cause (inSpan p) (map inflightAt (slice base end rows))) (tally (inSpan p) (map inflightAt (slice base end rows))) d q events events′
-        → rows′ ≡ removeRows (inRange (p .first) (p .last)) base end (d .used) rows
-        → n ≡ removedRows (inRange (p .first) (p .last)) base end (d .used) rows
-        → x ≡ removedRows (λ r. inRange (p .first) (p .last) r && isFreed r) base end (d .used) rows
+        → rows′ ≡ removeRows (dseqBetween (p .first) (p .last)) base end (d .used) rows
+        → n ≡ removedRows (dseqBetween (p .first) (p .last)) base end (d .used) rows
+        → x ≡ removedRows (λ r. dseqBetween (p .first) (p .last) r && isFreed r) base end (d .used) rows
         → y ≡ s .freed - x
         → r ≡ withUsed (q .used - n) q
         → Acted (acts Removes counts cause (inSpan p)) k base s (withFlying (s .inflight - n) y s) d r rows events rows′ events′
@@ -252,7 +252,7 @@ module _ (k : Kind) (base : ℕ) (s : Sub) (d : Head) (rows : List Row) (own : O
         let t : Sub = withFlying (s .inflight - n) y s in
         let m : n ≡ gone = en ∙ gone-is in
         let few : gone ≤ s .inflight = gone-few in
-        let left : length kept ≡ s .inflight - n = omega (arith, kept-length (inRange (p .first) (p .last)) f, flying-size base s rows d own) in
+        let left : length kept ≡ s .inflight - n = omega (arith, kept-length (dseqBetween (p .first) (p .last)) f, flying-size base s rows d own) in
         let qu : q .used ≡ d .used = ap (λ (y : Head). y .used) (told .head) in
         let ru : r .used ≡ q .used - n = ap (λ (y : Head). y .used) er in
         let browses : isBrowser v ≡ s .browser = browser-sub k s f h in
@@ -260,10 +260,10 @@ module _ (k : Kind) (base : ℕ) (s : Sub) (d : Head) (rows : List Row) (own : O
         rw (browses, sym (tally-flying p f), sym (flying-slice base s rows)) told in
         acted (acts Removes counts cause (inSpan p)) k base s t d q r rows events rows′ events′ own kept (u ++ junk) gone (e ∙ removed-parts) left refl
         (take-at u junk (d .used - (base + (s .inflight + s .held))) (later-size base s rows d own) ∙ refl)
-        (ap (drop 512) e ∙ remove-after (inRange (p .first) (p .last)) base end (d .used) rows 512 (omega arith))
-        (ap length e ∙ remove-length (inRange (p .first) (p .last)) base end (d .used) rows)
+        (ap (drop 512) e ∙ remove-after (dseqBetween (p .first) (p .last)) base end (d .used) rows 512 (omega arith))
+        (ap length e ∙ remove-length (dseqBetween (p .first) (p .last)) base end (d .used) rows)
         (ap₂ (λ (l : List Def.Inflight) (z : ℕ). Def.withInflight l (Def.withFreed z v)) (sym (keep-flying p f)) (ey ∙ ap (λ (z : ℕ). s .freed - z) (ex ∙ freed-is)))
-        (all-keep flyingStrict (λ r. not (inRange (p .first) (p .last) r)) f) own-told (er ∙ ap (λ (y : ℕ). withUsed y q) (sym ru)) (omega arith) (omega arith)
+        (all-keep flyingStrict (λ r. not (dseqBetween (p .first) (p .last) r)) f) own-told (er ∙ ap (λ (y : ℕ). withUsed y q) (sym ru)) (omega arith) (omega arith)
 
 -- ---- by the effect
 
@@ -324,7 +324,7 @@ acted-same step other k base s t d r rows events rows′ events′ e a = record 
   flying = a .flying;
   held = a .held;
   used = a .used;
-  head = a .head ∙ ap (λ (x : Step). withUsed (r .used) (withEvents (r .events) (withStats (d .stats ⊕ x .counts) d))) e;
+  head = a .head ∙ ap (λ (x : Step). withUsed (r .used) (withEvents (r .events) (withCounters (d .stats ⊕ x .counts) d))) e;
   said = a .said ∙ ap (λ (x : Step). take (d .events) events ++ map eventWords (x .events)) e;
   later = a .later;
   more = a .more;

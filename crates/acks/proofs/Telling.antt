@@ -2,7 +2,7 @@
 use mathlib.Core.Path.{_≡_, refl, sym, ap, _∙_}
 use mathlib.Core.Bool.{Bool, true, false, not, _&&_}
 use mathlib.Core.List.{List, [], _∷_, _++_, map, append-nil, append-assoc}
-use Prim.Native.Nat.{ℕ, _+_, _-_, _≤_, _<_}
+use Prim.Native.Nat.{ℕ, _+_, _≤_, _<_}
 use native.Mathlib.Nat.{zero-add}
 use native.Mathlib.Numerals.{add-one}
 use native.Mathlib.Omega.{arith}
@@ -24,20 +24,20 @@ use Rattle.definition.proofs.Local.{⊕-zero, ⊕-assoc}
 use Rattle.table.proofs.Lists.{slice-snoc}
 use Rattle.table.proofs.Segments.{tally-map, keep-map}
 use Rattle.state.specs.declared.Head.{Head}
-use Rattle.state.specs.State.{withStats, withEvents}
+use Rattle.state.specs.State.{withCounters, withEvents}
 use Rattle.state.proofs.Counts.{discarded-plain}
 use Rattle.state.proofs.Events.{pushed-room, events-up-to, events-after}
 use Rattle.acks.specs.declared.Span.{Span}
 use Rattle.acks.specs.Rules.{inSpan, countsOf, eventsOf, removedCounts, removedEvents}
-use Rattle.acks.specs.Parts.{full, Dying, Told, deadHead, deadEvents, rowLetters, rowDiscards}
+use Rattle.acks.specs.Parts.{fullRow, Dying, Told, deadHead, deadEvents, rowLetters, rowDiscards}
 use Rattle.acks.proofs.Flying.{tally-flying}
 
 -- ---- nothing sent
 
 -- a count alone
-pub told-counted : (c x : Stats) (m : ℕ) (d r : Head) (events : List Row) → r ≡ withStats x d → x ≡ d .stats ⊕ c → Told c [] m d r events events
+pub told-counted : (c x : Stats) (m : ℕ) (d r : Head) (events : List Row) → r ≡ withCounters x d → x ≡ d .stats ⊕ c → Told c [] m d r events events
 told-counted c x m d r events u e = rw u (record {
-  head = ap (λ (y : Stats). withStats y d) e;
+  head = ap (λ (y : Stats). withCounters y d) e;
   said = sym (append-nil (take (d .events) events));
   later = refl;
   more = omega arith;
@@ -90,7 +90,7 @@ module _ (cause : Bool) (q : Row → Bool) (r : Row) (l : List Row) (d : Head) (
     tally-hit = rw t
 
     -- one that is discarded
-    tale-lost : entryOf r .persistent ≡ false → tale cause q l (withStats (d .stats ⊕ addDiscarded 1) d) events ≡ tale cause q (r ∷ l) d events
+    tale-lost : entryOf r .persistent ≡ false → tale cause q l (withCounters (d .stats ⊕ addDiscarded 1) d) events ≡ tale cause q (r ∷ l) d events
     unfolding tale
     tale-lost u = rw (t, u) (tale-eq (⊕-assoc (d .stats) (addDiscarded 1) (counted q l)) refl)
 
@@ -114,7 +114,7 @@ pub record Telling (cause : Bool) (q : Row → Bool) (rows : List Row) (from to 
   pub few : d .events + tally q (slice i to rows) ≤ d₀ .events + tally q (slice from to rows)
   pub discarded : d .stats .discarded + from ≤ d₀ .stats .discarded + i
   pub size : length events ≡ length events₀
-  pub head : d ≡ withEvents (d .events) (withStats (d .stats) d₀)
+  pub head : d ≡ withEvents (d .events) (withCounters (d .stats) d₀)
 
 module _ (cause : Bool) (q : Row → Bool) (rows : List Row) (from to : ℕ) (d₀ : Head) (events₀ : List Row) (dying : Dying (length rows) (length events₀) from to d₀) where
   pub telling-start : Telling cause q rows from to from d₀ d₀ events₀ events₀
@@ -161,7 +161,7 @@ module _ (cause : Bool) (q : Row → Bool) (rows : List Row) (from to : ℕ) (d�
         abbrev e : Event
         e = letter (entryOf row .seq) (entryOf row .redelivery) cause
 
-        lost : entryOf row .persistent ≡ false → Telling cause q rows from to (i + 1) d₀ (withStats (withDiscardedBy (d .stats) 1) d) events₀ events
+        lost : entryOf row .persistent ≡ false → Telling cause q rows from to (i + 1) d₀ (withCounters (withDiscardedBy (d .stats) 1) d) events₀ events
         lost u =
             let plain : withDiscardedBy (d .stats) 1 ≡ d .stats ⊕ addDiscarded 1 = discarded-plain (d .stats) 1 (omega (arith, g .discarded, dying .few, dying .discarded, g .end)) in
             rw plain (record {
@@ -173,7 +173,7 @@ module _ (cause : Bool) (q : Row → Bool) (rows : List Row) (from to : ℕ) (d�
               few = omega (arith, g .few, tally-is, tally-hit cause q row rest d events t);
               discarded = omega (arith, g .discarded);
               size = g .size;
-              head = ap (λ (x : Head). withStats (d .stats ⊕ addDiscarded 1) x) (g .head);
+              head = ap (λ (x : Head). withCounters (d .stats ⊕ addDiscarded 1) x) (g .head);
             })
 
         sent : entryOf row .persistent ≡ true → Telling cause q rows from to (i + 1) d₀ (withEvents (d .events + 1) d) events₀ (set events (d .events) (eventWords e))
@@ -193,7 +193,7 @@ module _ (cause : Bool) (q : Row → Bool) (rows : List Row) (from to : ℕ) (d�
             → Telling cause q rows from to (i + 1) d₀ d′ events₀ events′
         telling-dead d′ events′ x y = by-test (entryOf row .persistent)
             (λ u. let v : d′ ≡ withEvents (d .events + 1) d = x ∙ rw u (pushed-room d (length events) room) in let w : events′ ≡ set events (d .events) (eventWords e) = y ∙ rw u in rw (v, w) (sent u))
-            (λ u. let v : d′ ≡ withStats (withDiscardedBy (d .stats) 1) d = x ∙ rw u in let w : events′ ≡ events = y ∙ rw u in rw (v, w) (lost u))
+            (λ u. let v : d′ ≡ withCounters (withDiscardedBy (d .stats) 1) d = x ∙ rw u in let w : events′ ≡ events = y ∙ rw u in rw (v, w) (lost u))
 
     pub telling-end : to ≤ i → Told (counted q (slice from to rows)) (told cause q (slice from to rows)) (tally q (slice from to rows)) d₀ d events₀ events
     unfolding tale
@@ -204,7 +204,7 @@ module _ (cause : Bool) (q : Row → Bool) (rows : List Row) (from to : ℕ) (d�
         let stats : d .stats ≡ d₀ .stats ⊕ counted q (slice from to rows) = sym (⊕-zero (d .stats)) ∙ ap (λ (x : Tale). x .stats) last in
         let n : tally q (slice i to rows) ≡ 0 = ap (tally q) none in
         record {
-          head = g .head ∙ ap (λ (x : Stats). withEvents (d .events) (withStats x d₀)) stats;
+          head = g .head ∙ ap (λ (x : Stats). withEvents (d .events) (withCounters x d₀)) stats;
           said = sym (append-nil (take (d .events) events)) ∙ ap (λ (x : Tale). x .events) last;
           later = g .later;
           more = g .more;
@@ -233,10 +233,10 @@ pub record Full (from to i : ℕ) (rows : List Row) : Type 0 where
   pub within : from ≤ i
   pub end : i ≤ to
   pub room : to ≤ length rows
-  pub done : all full (slice from i rows) ≡ true
+  pub done : all fullRow (slice from i rows) ≡ true
 
-pub full-none : (from : ℕ) (rows : List Row) → all full (slice from from rows) ≡ true
-full-none from rows = ap (all full) (slice-empty from rows)
+pub full-none : (from : ℕ) (rows : List Row) → all fullRow (slice from from rows) ≡ true
+full-none from rows = ap (all fullRow) (slice-empty from rows)
 
-pub full-turn : (from i : ℕ) (rows : List Row) → from ≤ i → i < length rows → full (getD rows i []) ≡ true → all full (slice from i rows) ≡ true → all full (slice from (i + 1) rows) ≡ true
-full-turn from i rows h b t g = ap (all full) (slice-snoc from i rows [] h b) ∙ all-end full (slice from i rows) (getD rows i []) g t
+pub full-turn : (from i : ℕ) (rows : List Row) → from ≤ i → i < length rows → fullRow (getD rows i []) ≡ true → all fullRow (slice from i rows) ≡ true → all fullRow (slice from (i + 1) rows) ≡ true
+full-turn from i rows h b t g = ap (all fullRow) (slice-snoc from i rows [] h b) ∙ all-end fullRow (slice from i rows) (getD rows i []) g t

@@ -14,10 +14,10 @@ use Rattle.definition.specs.Types as Def
 use Rattle.definition.specs.Consumer.{_⊕_, Step, Ack, ackSub}
 use Rattle.definition.specs.Destination.{Out, subOf}
 use Rattle.definition.specs.Words.{at}
-use Rattle.definition.specs.Layout.{Row, heldAt, inflightOf, heldOf, subAt, subsAt, subRows, eventWords, entryStrict, subsStrict}
+use Rattle.definition.specs.Layout.{Row, heldAt, inflightCount, heldCount, subAt, subsAt, subRows, eventWords, entryStrict, subsStrict}
 use Rattle.table.proofs.Lists.{slice-take}
 use Rattle.consumers.specs.declared.Sub.{Sub}
-use Rattle.consumers.specs.declared.Found.the-variants.{At}
+use Rattle.entry.specs.declared.Found.the-variants.{At}
 use Rattle.consumers.specs.Consumers.{subWords}
 use Rattle.consumers.specs.Consumers as Value
 use Rattle.consumers.specs.Seats.{afterIn, subIn}
@@ -27,11 +27,11 @@ use Rattle.consumers.proofs.Strict.{SubStrict, stored-strict, strict-at, strict
 use Rattle.consumers.proofs.Seek.{position-within, found-at, put-at}
 use Rattle.consumers.proofs.Laws.{fitting-at}
 use Rattle.state.specs.declared.Head.{Head}
-use Rattle.state.specs.State.{headView, strictTables, kindBy, withStats, withUsed, withEvents}
+use Rattle.state.specs.State.{headView, strictTables, kindBy, withCounters, withUsed, withEvents}
 use Rattle.state.specs.Fits.{Fits}
-use Rattle.state.specs.Leaves.{Leaves}
+use Rattle.state.specs.Leaves.{Leaves, Room}
 use Rattle.acks.specs.Acks.{stepAt, acked}
-use Rattle.acks.specs.Parts.{ownFlying, ownHeld, ownAfter, ownView, Own, Acted, Kept}
+use Rattle.acks.specs.Parts.{ownFlying, ownHeld, ownAfter, ownView, Own, Acted}
 use Rattle.acks.proofs.Parts.{in-parts}
 
 -- lists that agree up to n agree in a part of that
@@ -57,7 +57,7 @@ module _ (subs rows events : List Row) (d : Head) (fits : Fits subs d (length ro
     w = getD ws i []
 
     abbrev s : Sub
-    s = Value.subOf w
+    s = Value.rowSub w
 
     abbrev base : ℕ
     base = subRows (take i ws)
@@ -75,15 +75,15 @@ module _ (subs rows events : List Row) (d : Head) (fits : Fits subs d (length ro
         let q : b ≡ min 513 base = e ∙ ap (λ (l : List Row). min 513 (subRows l)) t in
         omega (arith, rows-split ws i within, fits .rows-used, fits .used)
 
-    pub sub-is : (x : Sub) → x ≡ Value.subOf (getD subs i []) → x ≡ s
-    sub-is x e = e ∙ ap Value.subOf (sym (getD-take (d .consumers) subs i [] here))
+    pub sub-is : (x : Sub) → x ≡ Value.rowSub (getD subs i []) → x ≡ s
+    sub-is x e = e ∙ ap Value.rowSub (sym (getD-take (d .consumers) subs i [] here))
 
     split : subRows ws ≡ base + (s .inflight + (s .held + subRows post))
-    unfolding Value.subOf
+    unfolding Value.rowSub
     split = rows-split ws i within
 
     pub own : Own (length rows) base s d
-    unfolding Value.subOf
+    unfolding Value.rowSub
     own =
         let h : subRows ws ≡ base + (s .inflight + (s .held + subRows post)) = split in
         let f : at 13 w ≤ at 14 w = fitting-at ws i (fits .fitted) within .0 in
@@ -132,22 +132,22 @@ module _ (subs rows events : List Row) (d : Head) (fits : Fits subs d (length ro
 
       tail-is : afterIn ws′ rows′ i ≡ ownAfter base t rows′
       unfolding subWords
-      tail-is = ap₂ (λ (l : List Row) (x : Row). drop (heldOf x) (drop (inflightOf x) (drop (subRows l) rows′))) front mid
+      tail-is = ap₂ (λ (l : List Row) (x : Row). drop (heldCount x) (drop (inflightCount x) (drop (subRows l) rows′))) front mid
 
       own-view : v ≡ subIn k ws rows i
-      unfolding Value.subOf
+      unfolding Value.rowSub
       own-view = sym (sub-at k w _ _)
 
       stored : subIn k ws′ rows′ i ≡ step (subIn k ws rows i) .sub
       unfolding subWords
       stored =
-          ap₂ (λ (l : List Row) (x : Row). subAt k x (take (inflightOf x) (drop (subRows l) rows′)) (take (heldOf x) (drop (inflightOf x) (drop (subRows l) rows′)))) front mid
+          ap₂ (λ (l : List Row) (x : Row). subAt k x (take (inflightCount x) (drop (subRows l) rows′)) (take (heldCount x) (drop (inflightCount x) (drop (subRows l) rows′)))) front mid
           ∙ sub-stored k t (ownFlying base t rows′) (ownHeld base t rows′)
           ∙ a .sub
           ∙ ap (λ (x : Def.Sub). step x .sub) own-view
 
       consumers-are : subsAt k (take (d .consumers) subs′) rows′ ≡ set (subsAt k ws rows) i (step (subIn k ws rows i) .sub)
-      unfolding Value.subOf
+      unfolding Value.rowSub
       consumers-are =
           let first : subsAt k (take i ws′) rows′ ≡ subsAt k (take i ws) rows =
           ap (λ (l : List Row). subsAt k l rows′) front ∙ subs-agree k (take i ws) base rows′ rows (omega arith) (a .before) in
@@ -164,7 +164,7 @@ module _ (subs rows events : List Row) (d : Head) (fits : Fits subs d (length ro
           ap (λ (l : List Row). drop (subRows l) rows′) ws-is ∙ after-all ws′ rows′ i within′ ∙ ap₂ (λ (l x : List Row). drop (subRows l) x) back tail-is
 
       others₀ : drop (subRows ws) rows ≡ drop (subRows post) (ownAfter base s rows)
-      unfolding Value.subOf
+      unfolding Value.rowSub
       others₀ = after-all ws rows i within
 
       same-part : (j m : ℕ) → j + m ≤ d .reserved + d .waiting
@@ -184,7 +184,7 @@ module _ (subs rows events : List Row) (d : Head) (fits : Fits subs d (length ro
       held-size = length-take-le (t .held) (drop (t .inflight) (drop base rows′)) (simp length-drop (omega (arith, own, a .size, a .flying, a .held)))
 
       subs-strict : subsStrict ws rows ≡ true → subsStrict ws′ rows′ ≡ true
-      unfolding Value.subOf subWords
+      unfolding Value.rowSub subWords
       subs-strict z =
           let g = strict-at ws rows i within z in
           let mine : SubStrict (subWords t) (ownFlying base t rows′) (ownHeld base t rows′) =
@@ -193,7 +193,7 @@ module _ (subs rows events : List Row) (d : Head) (fits : Fits subs d (length ro
           ap (subsStrict ws′) (in-parts base t rows′ ∙ ap (λ (l : List Row). l ++ (ownFlying base t rows′ ++ (ownHeld base t rows′ ++ ownAfter base t rows′))) (a .before))
           ∙ strict-put ws rows i (subWords t) (ownFlying base t rows′) (ownHeld base t rows′) (ownAfter base t rows′) within (omega (arith, own)) flying-size held-size g mine last
 
-      abbrev same : {A : Type 0} (f : Head → A) → f r ≡ f (withUsed (r .used) (withEvents (r .events) (withStats (d .stats ⊕ step v .counts) d)))
+      abbrev same : {A : Type 0} (f : Head → A) → f r ≡ f (withUsed (r .used) (withEvents (r .events) (withCounters (d .stats ⊕ step v .counts) d)))
       same f = ap f (a .head)
 
       strict : strictTables d subs rows ≡ true → strictTables r subs′ rows′ ≡ true
@@ -248,7 +248,7 @@ module _ (subs rows events : List Row) (d : Head) (fits : Fits subs d (length ro
             ∙ ap (λ (y : Def.Sub). take (d .events) events ++ map eventWords (step y .events)) own-view
             ∙ sym (ap (λ (o : Out). take (d .events) events ++ map eventWords (o .events)) (done ps qs))
 
-        pub whole-step : Leaves does d r subs rows events subs′ rows′ events′ × Kept d r
+        pub whole-step : Leaves does d r subs rows events subs′ rows′ events′ × Room d r
         unfolding subWords
         whole-step =
             let nc : r .consumers ≡ d .consumers = same (λ (x : Head). x .consumers) in
@@ -280,16 +280,16 @@ module _ (subs rows events : List Row) (d : Head) (fits : Fits subs d (length ro
                 rows-length = a .size;
                 events-length = a .events-size;
               },
-              record { events = omega (arith, a .most, fits .sent); consumers = nc },
+              record { room = omega (arith, a .most, fits .sent); as-many = nc },
             )
 
     -- for a consumer and a base as they were read
-    module _ (b : ℕ) (x : Sub) (eb : b ≡ min 513 (subRows (take i subs))) (ex : x ≡ Value.subOf (getD subs i [])) where
+    module _ (b : ℕ) (x : Sub) (eb : b ≡ min 513 (subRows (take i subs))) (ex : x ≡ Value.rowSub (getD subs i [])) where
       pub own-at : Own (length rows) b x d
       own-at = rw (base-is b eb, sub-is x ex) own
 
       pub acked-at : (c : Ack) (t : Sub) (r : Head) (subs′ rows′ events′ : List Row) → subs′ ≡ set subs i (subWords t) → Acted (ackSub c) k b x t d r rows events rows′ events′
-          → (id : Id) → positionFrom 0 id ws ≡ At i → Leaves (acked id c) d r subs rows events subs′ rows′ events′ × Kept d r
+          → (id : Id) → positionFrom 0 id ws ≡ At i → Leaves (acked id c) d r subs rows events subs′ rows′ events′ × Room d r
       unfolding acked
       acked-at c t r subs′ rows′ events′ es a id e = rw es (whole-step (ackSub c) t r rows′ events′ (rw (base-is b eb, sub-is x ex) at a) id e)
 

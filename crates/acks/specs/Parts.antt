@@ -16,11 +16,11 @@ use Rattle.definition.specs.Layout.{Row, eventWords, flyingStrict}
 use Rattle.consumers.specs.declared.Sub.{Sub}
 use Rattle.consumers.specs.Consumers.{subView}
 use Rattle.state.specs.declared.Head.{Head}
-use Rattle.state.specs.State.{withStats, withUsed, withEvents, pushed}
+use Rattle.state.specs.State.{withCounters, withUsed, withEvents, pushed}
 
 -- a row with all its words
-abbrev pub full : Row → Bool
-full w = eqb (length w) 10
+abbrev pub fullRow : Row → Bool
+fullRow w = eqb (length w) 10
 
 -- its rows in flight, those that it holds, and those after them
 abbrev pub ownFlying : ℕ → Sub → List Row → List Row
@@ -58,7 +58,7 @@ pub record Dying (nrows nevents from to : ℕ) (d : Head) : Type 0 where
 
 -- counted and sent, with no more than so many events, and nothing else
 pub record Told (counts : Stats) (sent : List Event) (most : ℕ) (d r : Head) (events events′ : List Row) : Type 0 where
-  pub head : r ≡ withEvents (r .events) (withStats (d .stats ⊕ counts) d)
+  pub head : r ≡ withEvents (r .events) (withCounters (d .stats ⊕ counts) d)
   pub said : take (r .events) events′ ≡ take (d .events) events ++ map eventWords sent
   pub later : drop (r .events) events′ ≡ drop (r .events) events
   pub more : d .events ≤ r .events
@@ -67,7 +67,7 @@ pub record Told (counts : Stats) (sent : List Event) (most : ℕ) (d r : Head) (
 
 -- a dead letter goes out where there is room for it; what is not persistent is discarded
 abbrev pub deadHead : Bool → Head → ℕ → Head
-deadHead persistent d room = if persistent then pushed d room else withStats (withDiscardedBy (d .stats) 1) d
+deadHead persistent d room = if persistent then pushed d room else withCounters (withDiscardedBy (d .stats) 1) d
 
 abbrev pub deadEvents : Bool → ℕ → Event → List Row → List Row
 deadEvents persistent n e events = if persistent then set events n (eventWords e) else events
@@ -96,14 +96,9 @@ pub record Acted (step : Def.Sub → Step) (k : Kind) (base : ℕ) (s t : Sub) (
   pub flying : t .inflight ≤ s .inflight
   pub held : t .held ≡ s .held
   pub used : r .used + s .inflight ≡ d .used + t .inflight
-  pub head : r ≡ withUsed (r .used) (withEvents (r .events) (withStats (d .stats ⊕ step (ownView k base s rows) .counts) d))
+  pub head : r ≡ withUsed (r .used) (withEvents (r .events) (withCounters (d .stats ⊕ step (ownView k base s rows) .counts) d))
   pub said : take (r .events) events′ ≡ take (d .events) events ++ map eventWords (step (ownView k base s rows) .events)
   pub later : drop (r .events) events′ ≡ drop (r .events) events
   pub more : d .events ≤ r .events
   pub most : r .events + r .used ≤ d .events + d .used
   pub events-size : length events′ ≡ length events
-
--- what else a caller may count on
-pub record Kept (d r : Head) : Type 0 where
-  pub events : r .events + r .used ≤ 512
-  pub consumers : r .consumers ≡ d .consumers

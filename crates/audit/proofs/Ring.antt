@@ -11,7 +11,7 @@ use lib.Dec.{eqb, ltb}
 use lib.ListN.{length, take, drop, getD, set, length-append, length-take, length-drop, length-set, take-append-drop, drop-of-length-le}
 use lib.Seq.{length-take-le, take-all, take-take, drop-cons, getD-take, drop-set-lt, take-set-lt, take-suc-set}
 use Rattle.audit.specs.declared.Audit.{Audit}
-use Rattle.audit.specs.Audit.{window, seen, recorded, checkAndRecord, orderOf, auditOk, newAudit, place, ringNext, refusalOf, Left, left, ringStep, CheckedAndRecorded}
+use Rattle.audit.specs.Audit.{auditWindow, seen, recorded, checkAndRecord, orderOf, ringSound, newAudit, place, ringNext, ringRefusal, RingLeft, ringLeft, ringStep, CheckedAndRecorded}
 
 -- ---- a number in a list
 
@@ -109,64 +109,64 @@ module _ (m : ℕ) (w : List ℕ) (long : m ≤ length w) where
 
 -- ---- the definition's equations
 
-recorded-more : (q : ℕ) (l : List ℕ) → length l < window → recorded q l ≡ l ++ q ∷ []
+recorded-more : (q : ℕ) (l : List ℕ) → length l < auditWindow → recorded q l ≡ l ++ q ∷ []
 recorded-more q l h =
-    let e : length (l ++ q ∷ []) ≤ window = simp length-append (omega arith) in
-    rw (le-ltb window (length (l ++ q ∷ [])) e)
+    let e : length (l ++ q ∷ []) ≤ auditWindow = simp length-append (omega arith) in
+    rw (le-ltb auditWindow (length (l ++ q ∷ [])) e)
 
-recorded-full : (q : ℕ) (l : List ℕ) → length l ≡ window → recorded q l ≡ drop 1 (l ++ q ∷ [])
+recorded-full : (q : ℕ) (l : List ℕ) → length l ≡ auditWindow → recorded q l ≡ drop 1 (l ++ q ∷ [])
 recorded-full q l h =
-    let e : window < length (l ++ q ∷ []) = simp length-append (omega arith) in
-    rw (lt-ltb window (length (l ++ q ∷ [])) e)
+    let e : auditWindow < length (l ++ q ∷ []) = simp length-append (omega arith) in
+    rw (lt-ltb auditWindow (length (l ++ q ∷ [])) e)
 
-order-is : (a : Audit) (w : List ℕ) → orderOf a w ≡ ring window (a .start) (a .count) w
+order-is : (a : Audit) (w : List ℕ) → orderOf a w ≡ ring auditWindow (a .start) (a .count) w
 unfolding orderOf ring
 order-is a w = refl
 
 -- the two shapes of a ring: not full, and the oldest at 0; or full
 data Shape (a : Audit) : Type 0 where
-  filling : a .start ≡ 0 → a .count < window → Shape a
-  full : a .start < window → a .count ≡ window → Shape a
+  filling : a .start ≡ 0 → a .count < auditWindow → Shape a
+  full : a .start < auditWindow → a .count ≡ auditWindow → Shape a
 
-shape : (a : Audit) → auditOk a ≡ true → Shape a
-unfolding auditOk
-shape a h = by-count (ltb (a .count) window) refl h
+shape : (a : Audit) → ringSound a ≡ true → Shape a
+unfolding ringSound
+shape a h = by-count (ltb (a .count) auditWindow) refl h
   where
-    by-full : (t : Bool) → eqb (a .count) window ≡ t → cond t (ltb (a .start) window) false ≡ true → Shape a
-    by-full true e h = full (ltb-true (a .start) window h) (eqb-true (a .count) window e)
+    by-full : (t : Bool) → eqb (a .count) auditWindow ≡ t → cond t (ltb (a .start) auditWindow) false ≡ true → Shape a
+    by-full true e h = full (ltb-true (a .start) auditWindow h) (eqb-true (a .count) auditWindow e)
     by-full false e h = absurd (let z : _≡_ {A = Bool} false true = h in let y : _≡_ {A = ℕ} 0 1 = cc in omega arith)
 
-    by-count : (t : Bool) → ltb (a .count) window ≡ t → cond t (eqb (a .start) 0) (cond (eqb (a .count) window) (ltb (a .start) window) false) ≡ true → Shape a
-    by-count true e h = filling (eqb-true (a .start) 0 h) (ltb-true (a .count) window e)
-    by-count false e h = by-full (eqb (a .count) window) refl h
+    by-count : (t : Bool) → ltb (a .count) auditWindow ≡ t → cond t (eqb (a .start) 0) (cond (eqb (a .count) auditWindow) (ltb (a .start) auditWindow) false) ≡ true → Shape a
+    by-count true e h = filling (eqb-true (a .start) 0 h) (ltb-true (a .count) auditWindow e)
+    by-count false e h = by-full (eqb (a .count) auditWindow) refl h
 
-shape-ok : (a : Audit) → Shape a → auditOk a ≡ true
-unfolding auditOk
-shape-ok a (filling s n) = rw (lt-ltb (a .count) window n, eq-eqb (a .start) 0 s)
-shape-ok a (full s n) = rw (le-ltb (a .count) window (omega arith), eq-eqb (a .count) window n, lt-ltb (a .start) window s)
+shape-ok : (a : Audit) → Shape a → ringSound a ≡ true
+unfolding ringSound
+shape-ok a (filling s n) = rw (lt-ltb (a .count) auditWindow n, eq-eqb (a .start) 0 s)
+shape-ok a (full s n) = rw (le-ltb (a .count) auditWindow (omega arith), eq-eqb (a .count) auditWindow n, lt-ltb (a .start) auditWindow s)
 
 -- ---- the ring's next place and the ring after it
 
 module _ (a : Audit) where
-  place-more : a .count < window → place a ≡ a .count
+  place-more : a .count < auditWindow → place a ≡ a .count
   unfolding place
-  place-more n = rw (lt-ltb (a .count) window n)
+  place-more n = rw (lt-ltb (a .count) auditWindow n)
 
-  place-over : window ≤ a .count → place a ≡ a .start
+  place-over : auditWindow ≤ a .count → place a ≡ a .start
   unfolding place
-  place-over n = rw (le-ltb (a .count) window n)
+  place-over n = rw (le-ltb (a .count) auditWindow n)
 
-  pub next-more : a .count < window → ringNext a ≡ record { start = a .start; count = a .count + 1 }
+  pub next-more : a .count < auditWindow → ringNext a ≡ record { start = a .start; count = a .count + 1 }
   unfolding ringNext
-  next-more n = rw (lt-ltb (a .count) window n)
+  next-more n = rw (lt-ltb (a .count) auditWindow n)
 
-  pub next-over : window ≤ a .count → a .start + 1 < window → ringNext a ≡ record { start = a .start + 1; count = a .count }
+  pub next-over : auditWindow ≤ a .count → a .start + 1 < auditWindow → ringNext a ≡ record { start = a .start + 1; count = a .count }
   unfolding ringNext
-  next-over n s = rw (le-ltb (a .count) window n, lt-ltb (a .start + 1) window s)
+  next-over n s = rw (le-ltb (a .count) auditWindow n, lt-ltb (a .start + 1) auditWindow s)
 
-  pub next-last : window ≤ a .count → window ≤ a .start + 1 → ringNext a ≡ record { start = 0; count = a .count }
+  pub next-last : auditWindow ≤ a .count → auditWindow ≤ a .start + 1 → ringNext a ≡ record { start = 0; count = a .count }
   unfolding ringNext
-  next-last n s = rw (le-ltb (a .count) window n, le-ltb (a .start + 1) window s)
+  next-last n s = rw (le-ltb (a .count) auditWindow n, le-ltb (a .start + 1) auditWindow s)
 
 -- ---- a sound ring
 
@@ -175,126 +175,126 @@ pub order-new : (w : List ℕ) → orderOf newAudit w ≡ []
 unfolding orderOf
 order-new w = refl
 
-order-filling : (a : Audit) (w : List ℕ) → a .start ≡ 0 → orderOf a w ≡ ring window 0 (a .count) w
-order-filling a w s = order-is a w ∙ ap (λ (k : ℕ). ring window k (a .count) w) s
+order-filling : (a : Audit) (w : List ℕ) → a .start ≡ 0 → orderOf a w ≡ ring auditWindow 0 (a .count) w
+order-filling a w s = order-is a w ∙ ap (λ (k : ℕ). ring auditWindow k (a .count) w) s
 
-order-full : (a : Audit) (w : List ℕ) → a .count ≡ window → orderOf a w ≡ ring window (a .start) window w
-order-full a w n = order-is a w ∙ ap (λ (k : ℕ). ring window (a .start) k w) n
+order-full : (a : Audit) (w : List ℕ) → a .count ≡ auditWindow → orderOf a w ≡ ring auditWindow (a .start) auditWindow w
+order-full a w n = order-is a w ∙ ap (λ (k : ℕ). ring auditWindow (a .start) k w) n
 
-module _ (a : Audit) (ok : auditOk a ≡ true) where
+module _ (a : Audit) (ok : ringSound a ≡ true) where
   -- the order's numbers are those at the front of the window
   pub seen-order : (q : ℕ) (w : List ℕ) → seen q (orderOf a w) ≡ seen q (take (a .count) w)
   seen-order q w = by (shape a ok)
     where
       by : Shape a → seen q (orderOf a w) ≡ seen q (take (a .count) w)
-      by (filling s n) = ap (seen q) (order-filling a w s) ∙ seen-front window w q (a .count) (omega arith)
+      by (filling s n) = ap (seen q) (order-filling a w s) ∙ seen-front auditWindow w q (a .count) (omega arith)
       by (full s n) =
           ap (seen q) (order-full a w n)
-          ∙ (seen-full window w q (a .start) (omega arith) ∙ ap (λ (k : ℕ). seen q (take k w)) (sym n))
+          ∙ (seen-full auditWindow w q (a .start) (omega arith) ∙ ap (λ (k : ℕ). seen q (take k w)) (sym n))
 
-  pub order-length : (w : List ℕ) → window ≤ length w → length (orderOf a w) ≡ a .count
+  pub order-length : (w : List ℕ) → auditWindow ≤ length w → length (orderOf a w) ≡ a .count
   order-length w h = by (shape a ok)
     where
       by : Shape a → length (orderOf a w) ≡ a .count
-      by (filling s n) = ap length (order-filling a w s) ∙ length-front window w h (a .count) (omega arith)
-      by (full s n) = ap length (order-full a w n) ∙ (length-full window w h (a .start) (omega arith) ∙ sym n)
+      by (filling s n) = ap length (order-filling a w s) ∙ length-front auditWindow w h (a .count) (omega arith)
+      by (full s n) = ap length (order-full a w n) ∙ (length-full auditWindow w h (a .start) (omega arith) ∙ sym n)
 
-  pub count-most : a .count ≤ window
+  pub count-most : a .count ≤ auditWindow
   count-most = by (shape a ok)
     where
-      by : Shape a → a .count ≤ window
+      by : Shape a → a .count ≤ auditWindow
       by (filling s n) = omega arith
       by (full s n) = omega arith
 
-  pub place-below : place a < window
+  pub place-below : place a < auditWindow
   place-below = by (shape a ok)
     where
-      by : Shape a → place a < window
+      by : Shape a → place a < auditWindow
       by (filling s n) = rw (place-more a n) n
       by (full s n) = rw (place-over a (omega arith)) s
 
-  pub next-ok : auditOk (ringNext a) ≡ true
+  pub next-ok : ringSound (ringNext a) ≡ true
   next-ok = by (shape a ok)
     where
-      more : a .start ≡ 0 → a .count < window → (t : Bool) → ltb (a .count + 1) window ≡ t → Shape (record { start = a .start; count = a .count + 1 })
-      more s n true e = filling s (ltb-true (a .count + 1) window e)
-      more s n false e = full (omega arith) (let g : window ≤ a .count + 1 = ltb-false (a .count + 1) window e in omega arith)
+      more : a .start ≡ 0 → a .count < auditWindow → (t : Bool) → ltb (a .count + 1) auditWindow ≡ t → Shape (record { start = a .start; count = a .count + 1 })
+      more s n true e = filling s (ltb-true (a .count + 1) auditWindow e)
+      more s n false e = full (omega arith) (let g : auditWindow ≤ a .count + 1 = ltb-false (a .count + 1) auditWindow e in omega arith)
 
-      over-or-last : a .count ≡ window → (t : Bool) → ltb (a .start + 1) window ≡ t → auditOk (ringNext a) ≡ true
+      over-or-last : a .count ≡ auditWindow → (t : Bool) → ltb (a .start + 1) auditWindow ≡ t → ringSound (ringNext a) ≡ true
       over-or-last n true e =
-          let g : a .start + 1 < window = ltb-true (a .start + 1) window e in
+          let g : a .start + 1 < auditWindow = ltb-true (a .start + 1) auditWindow e in
           rw (next-over a (omega arith) g) (shape-ok _ (full g n))
-      over-or-last n false e = rw (next-last a (omega arith) (ltb-false (a .start + 1) window e)) (shape-ok _ (full (omega arith) n))
+      over-or-last n false e = rw (next-last a (omega arith) (ltb-false (a .start + 1) auditWindow e)) (shape-ok _ (full (omega arith) n))
 
-      by : Shape a → auditOk (ringNext a) ≡ true
-      by (filling s n) = rw (next-more a n) (shape-ok _ (more s n (ltb (a .count + 1) window) refl))
-      by (full s n) = over-or-last n (ltb (a .start + 1) window) refl
+      by : Shape a → ringSound (ringNext a) ≡ true
+      by (filling s n) = rw (next-more a n) (shape-ok _ (more s n (ltb (a .count + 1) auditWindow) refl))
+      by (full s n) = over-or-last n (ltb (a .start + 1) auditWindow) refl
 
   -- a word written at the next place is a number recorded
-  pub order-next : (q : ℕ) (w : List ℕ) → window ≤ length w → orderOf (ringNext a) (set w (place a) q) ≡ recorded q (orderOf a w)
+  pub order-next : (q : ℕ) (w : List ℕ) → auditWindow ≤ length w → orderOf (ringNext a) (set w (place a) q) ≡ recorded q (orderOf a w)
   order-next q w h = by (shape a ok)
     where
-      is-more : a .start ≡ 0 → a .count < window → orderOf (ringNext a) (set w (place a) q) ≡ orderOf a w ++ q ∷ []
+      is-more : a .start ≡ 0 → a .count < auditWindow → orderOf (ringNext a) (set w (place a) q) ≡ orderOf a w ++ q ∷ []
       is-more s n =
           ap₂ (λ (b : Audit) (k : ℕ). orderOf b (set w k q)) (next-more a n) (place-more a n)
           ∙ (order-filling (record { start = a .start; count = a .count + 1 }) (set w (a .count) q) s
-          ∙ (push window w q h (a .count) n ∙ ap (λ (l : List ℕ). l ++ q ∷ []) (sym (order-filling a w s))))
+          ∙ (push auditWindow w q h (a .count) n ∙ ap (λ (l : List ℕ). l ++ q ∷ []) (sym (order-filling a w s))))
 
-      is-over : a .start < window → a .count ≡ window → (t : Bool) → ltb (a .start + 1) window ≡ t → orderOf (ringNext a) (set w (place a) q) ≡ drop 1 (orderOf a w ++ q ∷ [])
+      is-over : a .start < auditWindow → a .count ≡ auditWindow → (t : Bool) → ltb (a .start + 1) auditWindow ≡ t → orderOf (ringNext a) (set w (place a) q) ≡ drop 1 (orderOf a w ++ q ∷ [])
       is-over s n true e =
-          ap₂ (λ (b : Audit) (k : ℕ). orderOf b (set w k q)) (next-over a (omega arith) (ltb-true (a .start + 1) window e)) (place-over a (omega arith))
+          ap₂ (λ (b : Audit) (k : ℕ). orderOf b (set w k q)) (next-over a (omega arith) (ltb-true (a .start + 1) auditWindow e)) (place-over a (omega arith))
           ∙ (order-full (record { start = a .start + 1; count = a .count }) (set w (a .start) q) n
-          ∙ (evict window w q h (a .start) (ltb-true (a .start + 1) window e)
+          ∙ (evict auditWindow w q h (a .start) (ltb-true (a .start + 1) auditWindow e)
           ∙ ap (λ (l : List ℕ). drop 1 (l ++ q ∷ [])) (sym (order-full a w n))))
       is-over s n false e =
-          let g : window ≤ a .start + 1 = ltb-false (a .start + 1) window e in
+          let g : auditWindow ≤ a .start + 1 = ltb-false (a .start + 1) auditWindow e in
           ap₂ (λ (b : Audit) (k : ℕ). orderOf b (set w k q)) (next-last a (omega arith) g) (place-over a (omega arith))
           ∙ (order-full (record { start = 0; count = a .count }) (set w (a .start) q) n
-          ∙ (evict-last window w q h (a .start) (omega arith)
+          ∙ (evict-last auditWindow w q h (a .start) (omega arith)
           ∙ ap (λ (l : List ℕ). drop 1 (l ++ q ∷ [])) (sym (order-full a w n))))
 
       by : Shape a → orderOf (ringNext a) (set w (place a) q) ≡ recorded q (orderOf a w)
       by (filling s n) =
           is-more s n ∙ sym (recorded-more q (orderOf a w) (let e = order-length w h in omega arith))
       by (full s n) =
-          is-over s n (ltb (a .start + 1) window) refl ∙ sym (recorded-full q (orderOf a w) (order-length w h ∙ n))
+          is-over s n (ltb (a .start + 1) auditWindow) refl ∙ sym (recorded-full q (orderOf a w) (order-length w h ∙ n))
 
 -- ---- the refusals
 
 module _ (a : Audit) (w : List ℕ) where
-  pub refusal-short : length w < window → refusalOf a w ≡ 1
-  unfolding refusalOf
-  refusal-short h = rw (lt-ltb (length w) window h)
+  pub refusal-short : length w < auditWindow → ringRefusal a w ≡ 1
+  unfolding ringRefusal
+  refusal-short h = rw (lt-ltb (length w) auditWindow h)
 
-  pub refusal-ring : window ≤ length w → auditOk a ≡ false → refusalOf a w ≡ 2
-  unfolding refusalOf
-  refusal-ring h e = rw (le-ltb (length w) window h, e)
+  pub refusal-ring : auditWindow ≤ length w → ringSound a ≡ false → ringRefusal a w ≡ 2
+  unfolding ringRefusal
+  refusal-ring h e = rw (le-ltb (length w) auditWindow h, e)
 
-  pub refusal-none : window ≤ length w → auditOk a ≡ true → refusalOf a w ≡ 0
-  unfolding refusalOf
-  refusal-none h e = rw (le-ltb (length w) window h, e)
+  pub refusal-none : auditWindow ≤ length w → ringSound a ≡ true → ringRefusal a w ≡ 0
+  unfolding ringRefusal
+  refusal-none h e = rw (le-ltb (length w) auditWindow h, e)
 
 -- ---- a step of the ring
 
 module _ (q : ℕ) (a : Audit) (w : List ℕ) where
-  pub step-refused : (n : ℕ) → refusalOf a w ≡ n → 0 < n → ringStep q a w ≡ left n a false w
+  pub step-refused : (n : ℕ) → ringRefusal a w ≡ n → 0 < n → ringStep q a w ≡ ringLeft n a false w
   unfolding ringStep
   step-refused n e h = rw (e, ne-eqb n 0 (λ z. omega arith))
 
-  module _ (accepted : refusalOf a w ≡ 0) where
-    pub step-seen : seen q (orderOf a w) ≡ true → ringStep q a w ≡ left 0 a true w
+  module _ (accepted : ringRefusal a w ≡ 0) where
+    pub step-seen : seen q (orderOf a w) ≡ true → ringStep q a w ≡ ringLeft 0 a true w
     unfolding ringStep
     step-seen e = rw (accepted, e)
 
-    pub step-new : seen q (orderOf a w) ≡ false → ringStep q a w ≡ left 0 (ringNext a) false (set w (place a) q)
+    pub step-new : seen q (orderOf a w) ≡ false → ringStep q a w ≡ ringLeft 0 (ringNext a) false (set w (place a) q)
     unfolding ringStep
     step-new e = rw (accepted, e)
 
   -- what a step leaves keeps the promise
-  abbrev pub Keeps : Left → Type 0
+  abbrev pub Keeps : RingLeft → Type 0
   Keeps l = CheckedAndRecorded q a w (l .checked) (l .words)
 
-  pub refused-kept : (n : ℕ) → refusalOf a w ≡ n → 0 < n → Keeps (left n a false w)
+  pub refused-kept : (n : ℕ) → ringRefusal a w ≡ n → 0 < n → Keeps (ringLeft n a false w)
   refused-kept n e h = record {
     exact = sym (step-refused n e h);
     refusal = sym e;
@@ -304,7 +304,7 @@ module _ (q : ℕ) (a : Audit) (w : List ℕ) where
     long = refl;
   }
 
-  pub seen-kept : refusalOf a w ≡ 0 → seen q (orderOf a w) ≡ true → Keeps (left 0 a true w)
+  pub seen-kept : ringRefusal a w ≡ 0 → seen q (orderOf a w) ≡ true → Keeps (ringLeft 0 a true w)
   unfolding checkAndRecord
   seen-kept z e = record {
     exact = sym (step-seen z e);
@@ -315,7 +315,7 @@ module _ (q : ℕ) (a : Audit) (w : List ℕ) where
     long = refl;
   }
 
-  pub new-kept : window ≤ length w → auditOk a ≡ true → seen q (orderOf a w) ≡ false → Keeps (left 0 (ringNext a) false (set w (place a) q))
+  pub new-kept : auditWindow ≤ length w → ringSound a ≡ true → seen q (orderOf a w) ≡ false → Keeps (ringLeft 0 (ringNext a) false (set w (place a) q))
   unfolding checkAndRecord
   new-kept h o e =
       let z = refusal-none a w h o in
@@ -324,24 +324,24 @@ module _ (q : ℕ) (a : Audit) (w : List ℕ) where
         refusal = sym z;
         order = λ _. rw (e, order-next a o q w h);
         ok = next-ok a o ∙ sym o;
-        beyond = drop-set-lt window w (place a) q (place-below a o);
+        beyond = drop-set-lt auditWindow w (place a) q (place-below a o);
         long = length-set w (place a) q;
       }
 
   -- the law of the ring: each step is one of the order
   pub step-kept : Keeps (ringStep q a w)
-  step-kept = by-length (ltb (length w) window) refl
+  step-kept = by-length (ltb (length w) auditWindow) refl
     where
-      by-seen : window ≤ length w → auditOk a ≡ true → (t : Bool) → seen q (orderOf a w) ≡ t → Keeps (ringStep q a w)
+      by-seen : auditWindow ≤ length w → ringSound a ≡ true → (t : Bool) → seen q (orderOf a w) ≡ t → Keeps (ringStep q a w)
       by-seen h o true e = let z = refusal-none a w h o in rw (step-seen z e) (seen-kept z e)
       by-seen h o false e = rw (step-new (refusal-none a w h o) e) (new-kept h o e)
 
-      by-ok : window ≤ length w → (t : Bool) → auditOk a ≡ t → Keeps (ringStep q a w)
+      by-ok : auditWindow ≤ length w → (t : Bool) → ringSound a ≡ t → Keeps (ringStep q a w)
       by-ok h true o = by-seen h o (seen q (orderOf a w)) refl
       by-ok h false o = let z = refusal-ring a w h o in rw (step-refused 2 z (omega arith)) (refused-kept 2 z (omega arith))
 
-      by-length : (t : Bool) → ltb (length w) window ≡ t → Keeps (ringStep q a w)
+      by-length : (t : Bool) → ltb (length w) auditWindow ≡ t → Keeps (ringStep q a w)
       by-length true e =
-          let z = refusal-short a w (ltb-true (length w) window e) in
+          let z = refusal-short a w (ltb-true (length w) auditWindow e) in
           rw (step-refused 1 z (omega arith)) (refused-kept 1 z (omega arith))
-      by-length false e = by-ok (ltb-false (length w) window e) (auditOk a) refl
+      by-length false e = by-ok (ltb-false (length w) auditWindow e) (ringSound a) refl

@@ -3,7 +3,7 @@ use Prim.Native.Nat.{ℕ, zero, suc}
 use mathlib.Core.Bool.{Bool, true, false, not, _&&_}
 use mathlib.Core.List.{List, [], _∷_, _++_}
 use lib.Dec.{eqb, T}
-use Rattle.audit.specs.Audit.{Tested, checkAndRecord, orderOf, auditOk, newAudit, place, ringNext, refusalOf, Left, ringStep}
+use Rattle.audit.specs.Audit.{Tested, checkAndRecord, orderOf, ringSound, newAudit, place, ringNext, ringRefusal, RingLeft, ringStep}
 
 abbrev every : List Bool → Bool
 every [] = true
@@ -34,7 +34,7 @@ abbrev tests : Bool → List ℕ → Tested → Bool
 tests d order t = agree d (t .duplicate) && same (t .order) order
 
 -- whether a ring's step has these numbers in its result, and leaves these words
-abbrev leaves : ℕ → ℕ → ℕ → Bool → List ℕ → Left → Bool
+abbrev leaves : ℕ → ℕ → ℕ → Bool → List ℕ → RingLeft → Bool
 leaves n start count d words l =
     let r = l .checked in
     same (r .refusal ∷ r .audit .start ∷ r .audit .count ∷ []) (n ∷ start ∷ count ∷ []) && (agree d (r .duplicate) && same (l .words) words)
@@ -80,5 +80,5 @@ cases : List Bool
 cases = orderCases ++ (ringCases ++ refusalCases)
 
 all-right : T (every cases)
-unfolding cases checkAndRecord ringStep refusalOf orderOf auditOk place ringNext
+unfolding cases checkAndRecord ringStep ringRefusal orderOf ringSound place ringNext
 all-right = tt

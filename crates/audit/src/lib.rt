@@ -3,7 +3,7 @@
 ghost use mathlib.Core.Path.{_≡_};
 ghost use Prim.Native.Nat.{_≤_};
 ghost use lib.ListN.{length, take};
-ghost use Rattle.audit.specs.Audit.{window, seen, auditOk, newAudit, place, ringNext, CheckedAndRecorded};
+ghost use Rattle.audit.specs.Audit.{auditWindow, seen, ringSound, newAudit, place, ringNext, CheckedAndRecorded};
 
 // Where the oldest number stands in the window, and how many there are. Until the window is full the oldest stands at 0.
 #[repr(C)]
@@ -33,7 +33,7 @@ impl Audit {
 
     // Whether these numbers are an audit's.
     pub fn sound(self) -> bool
-        ensures { λ r. ⌜ r ≡ auditOk self ⌝ }
+        ensures { λ r. ⌜ r ≡ ringSound self ⌝ }
     {
         if self.count < Audit::WINDOW {
             return self.start == 0;
@@ -132,7 +132,7 @@ pub fn check_and_record(window: &mut [u64], a: Audit, number: u64) -> Checked
 
 #[no_mangle]
 pub extern "C" fn audit_window() -> usize
-    ensures { λ r. ⌜ r ≡ window ⌝ }
+    ensures { λ r. ⌜ r ≡ auditWindow ⌝ }
 {
     Audit::WINDOW
 }
@@ -146,7 +146,7 @@ pub extern "C" fn audit_new() -> Audit
 
 #[no_mangle]
 pub extern "C" fn audit_sound(a: Audit) -> bool
-    ensures { λ r. ⌜ r ≡ auditOk a ⌝ }
+    ensures { λ r. ⌜ r ≡ ringSound a ⌝ }
 {
     a.sound()
 }

@@ -12,7 +12,7 @@ use mir.Val.{SFits, ofZ}
 use Rattle.words.specs.Pick.{if_then_else_}
 use Rattle.broker.specs.declared.Times.{Times}
 use Rattle.broker.specs.declared.ExpiryOptions.{ExpiryOptions}
-use Rattle.broker.specs.Broker.{timeMost, settingMost, within, Positive, timesInRange, settingsInRange, inRange, ttl, rebased, baseOf, times}
+use Rattle.broker.specs.Broker.{timeMost, settingMost, fromZeroTo, Positive, timesInRange, settingsInRange, timesAndSettingsOk, ttl, rebased, baseOf, times}
 
 pub true-false {ℓ} : {A : Type ℓ} → true ≡ false → A
 true-false e = absurd (let y : _≡_ {A = ℕ} 0 1 = cc in omega arith)
@@ -22,11 +22,11 @@ both true b e = (refl, e)
 both false b e = true-false (sym e)
 
 -- a number in a range from 0 is a natural number
-pub natural : (x : ℤ) (m : ℕ) → within x (pos m) ≡ true → (n : ℕ) × (x ≡ pos n) × n ≤ m
+pub natural : (x : ℤ) (m : ℕ) → fromZeroTo x (pos m) ≡ true → (n : ℕ) × (x ≡ pos n) × n ≤ m
 natural (pos n) m e = (n, refl, leb-true n m (both (leb 0 n) (leb n m) e .1))
 natural (negsuc n) m e = true-false (sym e)
 
-pub sum-fits : (x y : ℤ) (m k : ℕ) → within x (pos m) ≡ true → within y (pos k) ≡ true → m + k < 2 ^ 63 → SFits w64 (x +ℤ y)
+pub sum-fits : (x y : ℤ) (m k : ℕ) → fromZeroTo x (pos m) ≡ true → fromZeroTo y (pos k) ≡ true → m + k < 2 ^ 63 → SFits w64 (x +ℤ y)
 sum-fits x y m k e f h =
     let p = natural x m e in
     let q = natural y k f in
@@ -38,7 +38,7 @@ positive (pos n) h = (n, refl, ltb-true 0 n (h .above), leb-true n (2 ^ 62) (h .
 positive (negsuc n) h = true-false (sym (h .above))
 
 -- positive times are in range from 0
-pub from-zero : (x : ℤ) → Positive x → within x timeMost ≡ true
+pub from-zero : (x : ℤ) → Positive x → fromZeroTo x timeMost ≡ true
 from-zero x h = let p = positive x h in rw (p .1, le-leb 0 (p .0) (omega arith), le-leb (p .0) (2 ^ 62) (p .3)) refl
 
 -- the difference of two positive times
@@ -46,7 +46,7 @@ unfoldable less : ℕ → ℕ → ℤ
 less a b = pos a -ℤ pos b
 
 Right : ℤ → Type 0
-Right d = SFits w64 d × (within (if ltZ d (pos 0) then pos 0 else d) (pos (2 ^ 62 - 1)) ≡ true)
+Right d = SFits w64 d × (fromZeroTo (if ltZ d (pos 0) then pos 0 else d) (pos (2 ^ 62 - 1)) ≡ true)
 
 below : (a b : ℕ) (t : Bool) → ltb a (suc b) ≡ t → a ≤ 2 ^ 62 → b < 2 ^ 62 → Right (less a (suc b))
 unfolding Right less
@@ -70,7 +70,7 @@ pub left-fits : (t : Times) → Positive (t .expiration) → Positive (t .timest
 unfolding Right
 left-fits t h i = differs t h i .0
 
-pub ttl-within : (t : Times) → Positive (t .expiration) → Positive (t .timestamp) → within (ttl t) (pos (2 ^ 62 - 1)) ≡ true
+pub ttl-within : (t : Times) → Positive (t .expiration) → Positive (t .timestamp) → fromZeroTo (ttl t) (pos (2 ^ 62 - 1)) ≡ true
 unfolding Right ttl
 ttl-within t h i = differs t h i .1
 
@@ -78,17 +78,17 @@ ttl-within t h i = differs t h i .1
 pub record Ranges (cfg : ExpiryOptions) (msg : Times) (now : ℤ) : Type 0 where
   pub expiration : leZ (msg .expiration) timeMost ≡ true
   pub timestamp : leZ (msg .timestamp) timeMost ≡ true
-  pub default : within (cfg .«default_ttl») settingMost ≡ true
-  pub ceiling : within (cfg .«ttl_ceiling») settingMost ≡ true
-  pub clock : within now timeMost ≡ true
+  pub default : fromZeroTo (cfg .«default_ttl») settingMost ≡ true
+  pub ceiling : fromZeroTo (cfg .«ttl_ceiling») settingMost ≡ true
+  pub clock : fromZeroTo now timeMost ≡ true
 
-pub ranges : (cfg : ExpiryOptions) (msg : Times) (now : ℤ) → inRange cfg msg now ≡ true → Ranges cfg msg now
-unfolding inRange timesInRange settingsInRange
+pub ranges : (cfg : ExpiryOptions) (msg : Times) (now : ℤ) → timesAndSettingsOk cfg msg now ≡ true → Ranges cfg msg now
+unfolding timesAndSettingsOk timesInRange settingsInRange
 ranges cfg msg now e =
-    let p = both (timesInRange msg && settingsInRange cfg) (within now timeMost) e in
+    let p = both (timesInRange msg && settingsInRange cfg) (fromZeroTo now timeMost) e in
     let q = both (timesInRange msg) (settingsInRange cfg) (p .0) in
     let t = both (leZ (msg .expiration) timeMost) (leZ (msg .timestamp) timeMost) (q .0) in
-    let s = both (within (cfg .«default_ttl») settingMost) (within (cfg .«ttl_ceiling») settingMost) (q .1) in
+    let s = both (fromZeroTo (cfg .«default_ttl») settingMost) (fromZeroTo (cfg .«ttl_ceiling») settingMost) (q .1) in
     record { expiration = t .0; timestamp = t .1; default = s .0; ceiling = s .1; clock = p .1 }
 
 module _ (cfg : ExpiryOptions) (msg : Times) (now : ℤ) (r : Ranges cfg msg now) where
@@ -97,13 +97,13 @@ module _ (cfg : ExpiryOptions) (msg : Times) (now : ℤ) (r : Ranges cfg msg now
   stamped false x = r .timestamp
 
   based : (b : Bool) (a : Times) → leZ (a .timestamp) timeMost ≡ true → (t : Bool) → ltZ (pos 0) (a .timestamp) ≡ t
-      → within (if t && b then a .timestamp else now) timeMost ≡ true
+      → fromZeroTo (if t && b then a .timestamp else now) timeMost ≡ true
   based b a h false e = r .clock
   based false a h true e = r .clock
   based true a h true e = from-zero (a .timestamp) (record { above = e; most = h })
 
   -- the base is a time of the clock's range
-  pub base-within : within (baseOf cfg (rebased cfg msg now) now) timeMost ≡ true
+  pub base-within : fromZeroTo (baseOf cfg (rebased cfg msg now) now) timeMost ≡ true
   unfolding baseOf rebased
   base-within =
       let a = rebased cfg msg now in

@@ -48,17 +48,17 @@ timeMost = pos (2 ^ 62)
 abbrev pub settingMost : ℤ
 settingMost = pos (2 ^ 61)
 
-abbrev pub within : ℤ → ℤ → Bool
-within x most = leZ (pos 0) x && leZ x most
+abbrev pub fromZeroTo : ℤ → ℤ → Bool
+fromZeroTo x most = leZ (pos 0) x && leZ x most
 
 unfoldable pub timesInRange : Times → Bool
 timesInRange msg = leZ (msg .expiration) timeMost && leZ (msg .timestamp) timeMost
 
 unfoldable pub settingsInRange : ExpiryOptions → Bool
-settingsInRange cfg = within (cfg .«default_ttl») settingMost && within (cfg .«ttl_ceiling») settingMost
+settingsInRange cfg = fromZeroTo (cfg .«default_ttl») settingMost && fromZeroTo (cfg .«ttl_ceiling») settingMost
 
-unfoldable pub inRange : ExpiryOptions → Times → ℤ → Bool
-inRange cfg msg now = timesInRange msg && settingsInRange cfg && within now timeMost
+unfoldable pub timesAndSettingsOk : ExpiryOptions → Times → ℤ → Bool
+timesAndSettingsOk cfg msg now = timesInRange msg && settingsInRange cfg && fromZeroTo now timeMost
 
 abbrev pub times : ℤ → ℤ → Times
 times expiration timestamp = record { expiration = expiration; timestamp = timestamp }
@@ -106,18 +106,18 @@ abbrev pub arrival : ℕ → Times → Bool → Arrival
 arrival refusal msg live = record { refusal = refusal; expiration = msg .expiration; timestamp = msg .timestamp; live = live }
 
 -- msg.expiration > 0 && msg.expiration <= now
-unfoldable pub expired : Times → ℤ → Bool
-expired msg now = ltZ (pos 0) (msg .expiration) && leZ (msg .expiration) now
+unfoldable pub timesExpired : Times → ℤ → Bool
+timesExpired msg now = ltZ (pos 0) (msg .expiration) && leZ (msg .expiration) now
 
 -- the three steps
-unfoldable pub stepped : ExpiryOptions → Times → ℤ → Times
-stepped cfg msg now =
+unfoldable pub expirySteps : ExpiryOptions → Times → ℤ → Times
+expirySteps cfg msg now =
     let a = rebased cfg msg now in
     let base = baseOf cfg a now in
     capped cfg (defaulted cfg a base now) base
 
 unfoldable pub applyExpiryOptions : ExpiryOptions → Times → ℤ → Arrival
 applyExpiryOptions cfg msg now =
-    let m = stepped cfg msg now in
-    if inRange cfg msg now then arrival 0 m (not (expired m now))
+    let m = expirySteps cfg msg now in
+    if timesAndSettingsOk cfg msg now then arrival 0 m (not (timesExpired m now))
     else arrival 3 msg false

@@ -9,7 +9,7 @@ use Rattle.words.specs.Pick.{every}
 use Rattle.broker.specs.declared.Admission.{Admission}
 use Rattle.broker.specs.declared.ExpiryOptions.{ExpiryOptions}
 use Rattle.broker.specs.declared.Arrival.{Arrival}
-use Rattle.broker.specs.Broker.{admitMemory, timesInRange, settingsInRange, inRange, ttl, rebased, baseOf, stamp, defaulted, capped, expired, stepped, times, applyExpiryOptions}
+use Rattle.broker.specs.Broker.{admitMemory, timesInRange, settingsInRange, timesAndSettingsOk, ttl, rebased, baseOf, stamp, defaulted, capped, timesExpired, expirySteps, times, applyExpiryOptions}
 
 abbrev same : Bool → Bool → Bool
 same true b = b
@@ -67,7 +67,7 @@ memory =
     ∷ []
 
 expiry : List Bool
-unfolding timesInRange settingsInRange inRange ttl rebased baseOf stamp defaulted capped expired stepped applyExpiryOptions
+unfolding timesInRange settingsInRange timesAndSettingsOk ttl rebased baseOf stamp defaulted capped timesExpired expirySteps applyExpiryOptions
 expiry =
     -- the ttl is expiration less timestamp, and a negative one counts as 0
     arrives (arrive clock (pos 50) (pos 60) (pos 100)) 0 false (pos 100) (pos 100)

@@ -2,7 +2,7 @@
 ghost use mathlib.Core.Path.{_≡_};
 ghost use mathlib.Core.Bool.{true, false};
 ghost use Prim.Native.Nat.{_≤_};
-ghost use Rattle.broker.specs.Broker.{memoryMost, timeMost, settingMost, belowNineTenths, roomFor, admitMemory, within, Positive, timesInRange, settingsInRange, inRange, ttl, rebased, baseOf, stamp, defaulted, capped, expired, applyExpiryOptions};
+ghost use Rattle.broker.specs.Broker.{memoryMost, timeMost, settingMost, belowNineTenths, roomFor, admitMemory, fromZeroTo, Positive, timesInRange, settingsInRange, timesAndSettingsOk, ttl, rebased, baseOf, stamp, defaulted, capped, timesExpired, applyExpiryOptions};
 
 const MEMORY_MOST: u64 = 1152921504606846976;
 
@@ -93,7 +93,7 @@ pub struct Arrival {
 }
 
 fn within(x: i64, most: i64) -> bool
-    ensures { λ r. ⌜ r ≡ within x most ⌝ }
+    ensures { λ r. ⌜ r ≡ fromZeroTo x most ⌝ }
 {
     0 <= x && x <= most
 }
@@ -111,7 +111,7 @@ fn settings_in_range(o: ExpiryOptions) -> bool
 }
 
 fn in_range(o: ExpiryOptions, t: Times, now: i64) -> bool
-    ensures { λ r. ⌜ r ≡ inRange o t now ⌝ }
+    ensures { λ r. ⌜ r ≡ timesAndSettingsOk o t now ⌝ }
 {
     if !times_in_range(t) {
         return false;
@@ -130,7 +130,7 @@ fn ttl(t: Times) -> i64
 
 // 1. Broker clock: a message that carries a timestamp is rebased.
 fn rebased(o: ExpiryOptions, t: Times, now: i64) -> Times
-    requires { ⌜ inRange o t now ≡ true ⌝ }
+    requires { ⌜ timesAndSettingsOk o t now ≡ true ⌝ }
     ensures { λ r. ⌜ r ≡ rebased o t now ⌝ }
 {
     if o.use_broker_clock && 0 < t.expiration && 0 < t.timestamp {
@@ -161,7 +161,7 @@ fn stamp(o: ExpiryOptions, t: Times, now: i64) -> i64
 
 // 2. Default ttl, from the timestamp or, on the broker clock, from the arrival.
 fn defaulted(o: ExpiryOptions, t: Times, base: i64, now: i64) -> Times
-    requires { ⌜ (within base timeMost ≡ true) × (within (o .«default_ttl») settingMost ≡ true) ⌝ }
+    requires { ⌜ (fromZeroTo base timeMost ≡ true) × (fromZeroTo (o .«default_ttl») settingMost ≡ true) ⌝ }
     ensures { λ r. ⌜ r ≡ defaulted o t base now ⌝ }
 {
     if t.expiration == 0 && 0 < o.default_ttl {
@@ -175,7 +175,7 @@ fn defaulted(o: ExpiryOptions, t: Times, base: i64, now: i64) -> Times
 
 // 3. Ceiling.
 fn capped(o: ExpiryOptions, t: Times, base: i64) -> Times
-    requires { ⌜ (within base timeMost ≡ true) × (within (o .«ttl_ceiling») settingMost ≡ true) ⌝ }
+    requires { ⌜ (fromZeroTo base timeMost ≡ true) × (fromZeroTo (o .«ttl_ceiling») settingMost ≡ true) ⌝ }
     ensures { λ r. ⌜ r ≡ capped o t base ⌝ }
 {
     if 0 < o.ttl_ceiling && 0 < t.expiration {
@@ -191,7 +191,7 @@ fn capped(o: ExpiryOptions, t: Times, base: i64) -> Times
 }
 
 fn expired(t: Times, now: i64) -> bool
-    ensures { λ r. ⌜ r ≡ expired t now ⌝ }
+    ensures { λ r. ⌜ r ≡ timesExpired t now ⌝ }
 {
     0 < t.expiration && t.expiration <= now
 }

@@ -13,10 +13,10 @@ use Rattle.definition.specs.Types.{Entry, queue}
 use Rattle.definition.specs.Types as Def
 use Rattle.definition.specs.Consumer.{_⊕_, isBrowser, Browse, dispatchBrowser}
 use Rattle.definition.specs.Destination.{Browsed, browsers}
-use Rattle.definition.specs.Layout.{Row, inflightOf, heldOf, eachSub, subsAt, subRows, eventWords}
+use Rattle.definition.specs.Layout.{Row, inflightCount, heldCount, eachSub, subsAt, subRows, eventWords}
 use Rattle.definition.proofs.Local.{⊕-zero, ⊕-assoc, alone}
 use Rattle.table.proofs.Lists.{slice-take, agree-drop}
-use Rattle.consumers.specs.Consumers.{subOf, subView}
+use Rattle.consumers.specs.Consumers.{rowSub, subView}
 use Rattle.state.specs.declared.Head.{Head}
 use Rattle.consumers.proofs.Line.{subs-done, left-size, subs-next, subs-rest}
 
@@ -105,19 +105,19 @@ module _ (now : ℕ) (ws : List Row) (i base m : ℕ) (d r : Head) (subs subs′
 
     -- where the consumer's rows ended, and where they end
     abbrev end : ℕ
-    end = base + inflightOf w + heldOf w
+    end = base + inflightCount w + heldCount w
 
     abbrev end′ : ℕ
-    end′ = base + inflightOf x + heldOf x
+    end′ = base + inflightCount x + heldCount x
 
     abbrev mine : Def.Sub
-    mine = subView queue (subOf w) (take (inflightOf w) (drop base rows)) (take (heldOf w) (drop (base + inflightOf w) rows))
+    mine = subView queue (rowSub w) (take (inflightCount w) (drop base rows)) (take (heldCount w) (drop (base + inflightCount w) rows))
 
     abbrev pending : List Entry
     pending = map entryOf (take (d .waiting) (drop (end + m) rows))
 
     module _ (low : take base rows′ ≡ take base rows)
-        (stored : subView queue (subOf x) (take (inflightOf x) (drop base rows′)) (take (heldOf x) (drop (base + inflightOf x) rows′)) ≡ b .sub)
+        (stored : subView queue (rowSub x) (take (inflightCount x) (drop base rows′)) (take (heldCount x) (drop (base + inflightCount x) rows′)) ≡ b .sub)
         (agrees : take m (drop end′ rows′) ≡ take m (drop end rows))
         (waits : map entryOf (take (r .waiting) (drop (end′ + m) rows′)) ≡ b .pending)
         (stats : r .stats ≡ d .stats ⊕ b .counts)
@@ -128,7 +128,7 @@ module _ (now : ℕ) (ws : List Row) (i base m : ℕ) (d r : Head) (subs subs′
         post = drop (suc i) ws
 
         size : base + subRows (drop i ws) ≡ end + subRows post
-        unfolding subOf
+        unfolding rowSub
         size = omega (arith, left-size ws i more)
 
         abbrev now-ends : ℕ

@@ -15,24 +15,25 @@ use Rattle.definition.specs.Types as Def
 use Rattle.definition.specs.Consumer.{_⊕_, isBrowser, Browse, dispatchBrowser}
 use Rattle.definition.specs.Destination.{Browsed, browsers}
 use Rattle.definition.specs.Words.{at}
-use Rattle.definition.specs.Layout.{Row, inflightOf, heldOf, heldAt, browserAt, subsAt, subRows, eventWords, entryStrict, tablesStrict}
+use Rattle.definition.specs.Layout.{Row, inflightCount, heldCount, heldAt, browserAt, subsAt, subRows, eventWords, entryStrict, tablesStrict}
 use Rattle.definition.proofs.Tests.{if-true, if-false}
-use Rattle.definition.proofs.Lists.{all-end, all-append}
+use Rattle.definition.proofs.Lists.{all-end, all-append, agree-later}
 use Rattle.definition.proofs.Local.{⊕-zero, alone}
-use Rattle.table.proofs.Lists.{same-after, agree-drop, agree-later}
+use Rattle.table.proofs.Lists.{same-after, agree-drop}
 use Rattle.consumers.specs.declared.Sub.{Sub}
-use Rattle.consumers.specs.Consumers.{subOf, subWords, subView}
+use Rattle.consumers.specs.Consumers.{rowSub, subWords, subView}
+use Rattle.consumers.specs.Table.{nextFits}
 use Rattle.consumers.proofs.Laws.{fitting-at}
 use Rattle.consumers.proofs.Words.{round}
 use Rattle.state.specs.declared.Head.{Head}
 use Rattle.state.specs.State.{headView, strictTables, kindBy, withWaiting}
 use Rattle.state.specs.Fits.{Fits}
 use Rattle.state.specs.Leaves.{Leaves}
-use Rattle.topics.specs.Topics.{moved}
+use Rattle.topics.specs.Topics.{topicMoved}
 use Rattle.consumers.proofs.Strict.{stored-strict, all-left, all-right}
 use Rattle.consumers.proofs.Line.{stored-next, same-next, rows-one, left-size, LineStrict, line-start, line-end, line-own, line-words, line-others, line-step}
-use Rattle.browsers.specs.Browsers.{browsed, nextFits, Served}
-use Rattle.browsers.specs.Serving.{Shown, shown, between, Fine, Kept, Strict, Done}
+use Rattle.browsers.specs.Browsers.{browsed, BrowsersServed}
+use Rattle.browsers.specs.Serving.{Shown, shownAt, rowsBetween, BrowserFine, BrowserKept, BrowserStrict, Done}
 use Rattle.browsers.proofs.All.{Whole, whole, whole-start, whole-end, reservedRows, waitingRows, met, waits-after, whole-turn}
 
 -- the counts, with i consumers done
@@ -44,7 +45,7 @@ pub record Ready (ws : List Row) (i base : ℕ) (d₀ d : Head) : Type 0 where
   pub waiting : d .waiting ≤ d₀ .waiting
   pub expired : d .stats .expired + d .waiting ≡ d₀ .stats .expired + d₀ .waiting
   pub dispatched : d .stats .dispatched ≡ d₀ .stats .dispatched
-  pub head : d ≡ withWaiting (d .waiting) (moved d₀ d)
+  pub head : d ≡ withWaiting (d .waiting) (topicMoved d₀ d)
 
 pub record Round (now : ℕ) (subs₀ rows₀ events₀ : List Row) (d₀ : Head) (subs rows events : List Row) (d : Head) (base i : ℕ) : Type 0 where
   pub within : i ≤ d₀ .consumers
@@ -90,7 +91,7 @@ module _ (now : ℕ) (subs₀ rows₀ events₀ : List Row) (d₀ : Head) (fits 
       w = getD ws i []
 
       abbrev s : Sub
-      s = subOf w
+      s = rowSub w
 
       abbrev post : List Row
       post = drop (suc i) ws
@@ -108,13 +109,13 @@ module _ (now : ℕ) (subs₀ rows₀ events₀ : List Row) (d₀ : Head) (fits 
       left = left-size ws i here
 
       next-row : s .«next_dseq» ≤ 72057594037927937
-      unfolding subOf
+      unfolding rowSub
       next-row = fitting-at ws i (fits .fitted) here .1
 
       own-few : s .held ≤ 512
       own-few = let r = g .ready in let h = left in omega (arith, r .rows, r .used, fits .used)
 
-      fine-row : s .browser ≡ true → now ≤ 2 ^ 62 → Fine (length rows) (length events) base s d now
+      fine-row : s .browser ≡ true → now ≤ 2 ^ 62 → BrowserFine (length rows) (length events) base s d now
       fine-row shows clock =
           let r = g .ready in
           let h = left in
@@ -132,15 +133,15 @@ module _ (now : ℕ) (subs₀ rows₀ events₀ : List Row) (d₀ : Head) (fits 
             clock = clock;
           }
 
-      pub round-fine : (t : Sub) → t ≡ subOf (getD subs i []) → t .browser ≡ true → now ≤ 2 ^ 62 → Fine (length rows) (length events) base t d now
+      pub round-fine : (t : Sub) → t ≡ rowSub (getD subs i []) → t .browser ≡ true → now ≤ 2 ^ 62 → BrowserFine (length rows) (length events) base t d now
       round-fine t e shows clock =
-          let q : t ≡ s = e ∙ ap subOf row-is in
+          let q : t ≡ s = e ∙ ap rowSub row-is in
           rw q (fine-row (sym (ap (λ (x : Sub). x .browser) q) ∙ shows) clock)
 
       -- its rows are in use
-      pub round-room : (t : Sub) → t ≡ subOf (getD subs i []) → base + t .inflight + t .held ≤ 512
+      pub round-room : (t : Sub) → t ≡ rowSub (getD subs i []) → base + t .inflight + t .held ≤ 512
       round-room t e =
-          let q : t ≡ s = e ∙ ap subOf row-is in
+          let q : t ≡ s = e ∙ ap rowSub row-is in
           let h = left in
           rw q (omega (arith, g .ready .rows, g .ready .used, fits .used))
 
@@ -149,11 +150,11 @@ module _ (now : ℕ) (subs₀ rows₀ events₀ : List Row) (d₀ : Head) (fits 
       m = subRows post + d .reserved
 
       abbrev mine : Def.Sub
-      mine = subView queue s (take (inflightOf w) (drop base rows)) (take (heldOf w) (drop (base + inflightOf w) rows))
+      mine = subView queue s (take (inflightCount w) (drop base rows)) (take (heldCount w) (drop (base + inflightCount w) rows))
 
       browses : isBrowser mine ≡ s .browser
       unfolding isBrowser subView
-      browses = is-it (s .browser) (map entryOf (take (heldOf w) (drop (base + inflightOf w) rows)))
+      browses = is-it (s .browser) (map entryOf (take (heldCount w) (drop (base + inflightCount w) rows)))
         where
           is-it : (b : Bool) (l : List Entry) → is-some (browserAt queue b l) ≡ b
           is-it true l = refl
@@ -165,7 +166,7 @@ module _ (now : ℕ) (subs₀ rows₀ events₀ : List Row) (d₀ : Head) (fits 
       -- it is no browser
       module _ (other : s .browser ≡ false) where
         abbrev end : ℕ
-        end = base + inflightOf w + heldOf w
+        end = base + inflightCount w + heldCount w
 
         abbrev pending : List Entry
         pending = map entryOf (take (d .waiting) (drop (end + m) rows))
@@ -176,7 +177,7 @@ module _ (now : ℕ) (subs₀ rows₀ events₀ : List Row) (d₀ : Head) (fits 
             (if-false (dispatchBrowser now pending mine) (alone pending mine) (browses ∙ other))
 
         pass : Round now subs₀ rows₀ events₀ d₀ subs rows events d end (i + 1)
-        unfolding subOf
+        unfolding rowSub
         pass =
             let r = g .ready in
             let h = left in
@@ -200,35 +201,35 @@ module _ (now : ℕ) (subs₀ rows₀ events₀ : List Row) (d₀ : Head) (fits 
               said = whole-pass ∙ g .said;
             }
 
-      pub round-pass : (t : Sub) → t ≡ subOf (getD subs i []) → t .browser ≡ false → Round now subs₀ rows₀ events₀ d₀ subs rows events d (base + t .inflight + t .held) (i + 1)
-      unfolding subOf
+      pub round-pass : (t : Sub) → t ≡ rowSub (getD subs i []) → t .browser ≡ false → Round now subs₀ rows₀ events₀ d₀ subs rows events d (base + t .inflight + t .held) (i + 1)
+      unfolding rowSub
       round-pass t e other =
-          let q : t ≡ s = e ∙ ap subOf row-is in
+          let q : t ≡ s = e ∙ ap rowSub row-is in
           rw q (pass (sym (ap (λ (x : Sub). x .browser) q) ∙ other))
 
       -- it is a browser, and served
       module _ (shows : s .browser ≡ true) (t : Sub) (r : Head) (rows′ events′ : List Row) (lr : length rows′ ≡ length rows) (le : length events′ ≡ length events) (done : Done now base rows events s d rows′ events′ t r) where
-        abbrev k : Kept base (between base s d) s d t r
+        abbrev k : BrowserKept base (rowsBetween base s d) s d t r
         k = done .kept
 
-        m-is : between base s d ≡ m
+        m-is : rowsBetween base s d ≡ m
         m-is = let h = left in omega (arith, g .ready .rows)
 
         abbrev v : Shown
-        v = shown base (between base s d) s d rows events
+        v = shownAt base (rowsBetween base s d) s d rows events
 
         abbrev b : Browse
         b = dispatchBrowser now (v .pending) (v .sub)
 
         whole-served : whole now ws (i + 1) (base + t .inflight + t .held) r (set subs i (subWords t)) rows′ events′ ≡ whole now ws i base d subs rows events
-        unfolding shown subWords subOf
+        unfolding shownAt subWords rowSub
         whole-served =
-            let n : ℕ = between base s d in
+            let n : ℕ = rowsBetween base s d in
             let end : ℕ = base + s .inflight + s .held in
             let end′ : ℕ = base + t .inflight + t .held in
             let res : r .reserved ≡ d .reserved = ap (λ (x : Head). x .reserved) (k .head) in
             let spans : end + n + d .waiting ≡ d .used = omega (arith, m-is, left, g .ready .rows) in
-            let stored : subView queue (subOf (subWords t)) (take (t .inflight) (drop base rows′)) (take (t .held) (drop (base + t .inflight) rows′)) ≡ b .sub =
+            let stored : subView queue (rowSub (subWords t)) (take (t .inflight) (drop base rows′)) (take (t .held) (drop (base + t .inflight) rows′)) ≡ b .sub =
             ap (λ (x : Sub). subView queue x (take (t .inflight) (drop base rows′)) (take (t .held) (drop (base + t .inflight) rows′))) (round t) ∙ ap (λ (x : Shown). x .sub) (done .said) in
             let agrees : take n (drop end′ rows′) ≡ take n (drop end rows) =
             sym (take-take n (r .used - end′) (drop end′ rows′) (omega (arith, k .rows))) ∙ ap (λ (x : Shown). x .after) (done .said) ∙ take-take n (d .used - end) (drop end rows) (omega arith) in
@@ -240,11 +241,11 @@ module _ (now : ℕ) (subs₀ rows₀ events₀ : List Row) (d₀ : Head) (fits 
             (ap (λ (p : List Entry). met now p mine) waited ∙ if-true (dispatchBrowser now (v .pending) mine) (alone (v .pending) mine) (browses ∙ shows))
 
         -- the rows after the consumers': the reserved ones as they were, and those that wait
-        others-strict : LineStrict (d .reserved + d .waiting) ws subs i base rows → Strict base (between base s d) t r rows′
+        others-strict : LineStrict (d .reserved + d .waiting) ws subs i base rows → BrowserStrict base (rowsBetween base s d) t r rows′
             → all entryStrict (take (r .reserved + r .waiting) (drop (base + t .inflight + t .held + subRows post) rows′)) ≡ true
-        unfolding shown subOf
+        unfolding shownAt rowSub
         others-strict l z =
-            let n : ℕ = between base s d in
+            let n : ℕ = rowsBetween base s d in
             let c : ℕ = subRows post in
             let end : ℕ = base + s .inflight + s .held in
             let end′ : ℕ = base + t .inflight + t .held in
@@ -261,14 +262,14 @@ module _ (now : ℕ) (subs₀ rows₀ events₀ : List Row) (d₀ : Head) (fits 
             ap (all entryStrict) (take-add (r .reserved) (r .waiting) (drop (end′ + c) rows′))
             ∙ all-append entryStrict (take (r .reserved) (drop (end′ + c) rows′)) _ (ap (all entryStrict) kept ∙ all-left entryStrict (take (d .reserved) (drop (end + c) rows)) (take (d .waiting) (drop (d .reserved) (drop (end + c) rows))) old) (ap (all entryStrict) waits ∙ z .waiting)
           where
-            between-less : between base s d - subRows post ≡ d .reserved
+            between-less : rowsBetween base s d - subRows post ≡ d .reserved
             between-less = omega (arith, m-is)
 
         -- what serving it starts from
-        before-strict : LineStrict (d .reserved + d .waiting) ws subs i base rows → Strict base (between base s d) s d rows
-        unfolding subOf
+        before-strict : LineStrict (d .reserved + d .waiting) ws subs i base rows → BrowserStrict base (rowsBetween base s d) s d rows
+        unfolding rowSub
         before-strict l =
-            let n : ℕ = between base s d in
+            let n : ℕ = rowsBetween base s d in
             let c : ℕ = subRows post in
             let end : ℕ = base + s .inflight + s .held in
             let spans : end + n + d .waiting ≡ d .used = omega (arith, m-is, left, g .ready .rows) in
@@ -280,9 +281,9 @@ module _ (now : ℕ) (subs₀ rows₀ events₀ : List Row) (d₀ : Head) (fits 
             record { own = record { flying = o .flying; held = o .held }; waiting = ap (all entryStrict) waits ∙ all-right entryStrict (take (d .reserved) (drop (end + c) rows)) _ old }
 
         strict-served : LineStrict (d .reserved + d .waiting) ws subs i base rows → LineStrict (r .reserved + r .waiting) ws (set subs i (subWords t)) (i + 1) (base + t .inflight + t .held) rows′
-        unfolding shown subWords subOf
+        unfolding shownAt subWords rowSub
         strict-served l =
-            let n : ℕ = between base s d in
+            let n : ℕ = rowsBetween base s d in
             let end : ℕ = base + s .inflight + s .held in
             let end′ : ℕ = base + t .inflight + t .held in
             let agrees : take n (drop end′ rows′) ≡ take n (drop end rows) =
@@ -314,7 +315,7 @@ module _ (now : ℕ) (subs₀ rows₀ events₀ : List Row) (d₀ : Head) (fits 
                 waiting = omega (arith, k .waiting, o .waiting);
                 expired = k .expired ∙ o .expired;
                 dispatched = k .dispatched ∙ o .dispatched;
-                head = k .head ∙ ap (λ (x : Head). withWaiting (r .waiting) (moved x r)) (o .head);
+                head = k .head ∙ ap (λ (x : Head). withWaiting (r .waiting) (topicMoved x r)) (o .head);
               };
               ends = omega (arith, g .ends, ap subRows front ∙ rows-one (take i subs) (subWords t));
               nexts = ap (all nextFits) front ∙ all-end nextFits (take i subs) (subWords t) (g .nexts) (le-leb (t .«next_dseq») (2 ^ 62) (omega (arith, k .next, next-row, own-few)));
@@ -324,11 +325,11 @@ module _ (now : ℕ) (subs₀ rows₀ events₀ : List Row) (d₀ : Head) (fits 
               said = whole-served ∙ g .said;
             }
 
-      pub round-served : (x t : Sub) (r : Head) (subs′ rows′ events′ : List Row) → x ≡ subOf (getD subs i []) → x .browser ≡ true → subs′ ≡ set subs i (subWords t)
+      pub round-served : (x t : Sub) (r : Head) (subs′ rows′ events′ : List Row) → x ≡ rowSub (getD subs i []) → x .browser ≡ true → subs′ ≡ set subs i (subWords t)
           → length rows′ ≡ length rows → length events′ ≡ length events → Done now base rows events x d rows′ events′ t r
           → Round now subs₀ rows₀ events₀ d₀ subs′ rows′ events′ r (base + t .inflight + t .held) (i + 1)
       round-served x t r subs′ rows′ events′ e shows p lr le done =
-          let q : x ≡ s = e ∙ ap subOf row-is in
+          let q : x ≡ s = e ∙ ap rowSub row-is in
           rw p (served (sym (ap (λ (y : Sub). y .browser) q) ∙ shows) t r rows′ events′ lr le (rw q at done))
 
     -- all are done
@@ -350,7 +351,7 @@ module _ (now : ℕ) (subs₀ rows₀ events₀ : List Row) (d₀ : Head) (fits 
       kind-is : kindBy (d₀ .queue) ≡ queue
       kind-is = ap kindBy is-queue
 
-      abbrev same : {A : Type 0} (f : Head → A) → f d ≡ f (withWaiting (d .waiting) (moved d₀ d))
+      abbrev same : {A : Type 0} (f : Head → A) → f d ≡ f (withWaiting (d .waiting) (topicMoved d₀ d))
       same f = ap f (g .ready .head)
 
       base-is : base ≡ subRows (take (d₀ .consumers) subs)
@@ -402,7 +403,7 @@ module _ (now : ℕ) (subs₀ rows₀ events₀ : List Row) (d₀ : Head) (fits 
       unfolding subRows
       none-left = ap subRows (ap (λ (n : ℕ). drop n ws) all-done ∙ drop-length ws)
 
-      pub round-end : Leaves (browsed now) d₀ d subs₀ rows₀ events₀ subs rows events × Served d₀ d subs
+      pub round-end : Leaves (browsed now) d₀ d subs₀ rows₀ events₀ subs rows events × BrowsersServed d₀ d subs
       round-end =
           let r = g .ready in
           let z = none-left in

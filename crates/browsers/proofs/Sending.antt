@@ -12,18 +12,18 @@ use Rattle.model.specs.Model.{idOf}
 use Rattle.definition.specs.Types.{Id, Entry, message, null}
 use Rattle.definition.specs.Consumer.{inflightOf}
 use Rattle.definition.specs.Layout.{Row, inflightAt, eventWords}
+use Rattle.definition.proofs.Lists.{agree-later}
 use Rattle.table.specs.Table.{hasSeq, closeGap, flownRow}
 use Rattle.table.proofs.Rows.{flown-row}
-use Rattle.table.proofs.Lists.{agree-later}
 use Rattle.table.proofs.Laws.{close-after, close-length, remove-length, remove-after}
 use Rattle.consumers.specs.declared.Sub.{Sub}
 use Rattle.consumers.specs.Consumers.{creditOf, subView}
 use Rattle.state.specs.declared.Head.{Head}
 use Rattle.state.specs.State.{firstWaiting, withUsed, withEvents}
 use Rattle.state.proofs.Events.{events-after}
-use Rattle.topics.specs.Topics.{sentSub}
+use Rattle.topics.specs.Topics.{heldSent}
 use Rattle.topics.proofs.Turn.{lostSub}
-use Rattle.browsers.specs.Serving.{goneRows, leftRows, dropped, shown, ran, closedSub, between, Fine, Kept, Sending, Done}
+use Rattle.browsers.specs.Serving.{goneRows, leftRows, dropped, shownAt, browserRan, closedSub, rowsBetween, BrowserFine, BrowserKept, Sending, Done}
 use Rattle.browsers.proofs.Dropped.{gone-few}
 use Rattle.browsers.proofs.Turn.{lostHead, ran-stop, ran-finished, ran-closed, k-few, ran-lost, ran-sent, strict-lost, strict-sent}
 
@@ -32,7 +32,7 @@ pub none-held : (n : ℕ) (b : Bool) → (0 < n → b ≡ false) → b ≡ true 
 none-held zero b h e = omega arith
 none-held (suc n) b h e = absurd (false≢true (sym (h (omega arith)) ∙ e))
 
-pub sending-start : (now base : ℕ) (rows events : List Row) (s : Sub) (d : Head) → Fine (length rows) (length events) base s d now → Sending now base rows events s d rows events s d
+pub sending-start : (now base : ℕ) (rows events : List Row) (s : Sub) (d : Head) → BrowserFine (length rows) (length events) base s d now → Sending now base rows events s d rows events s d
 sending-start now base rows events s d f = record {
   fine = f;
   same-rows = refl;
@@ -46,11 +46,11 @@ sending-start now base rows events s d f = record {
 }
 
 module _ (now base : ℕ) (rows₀ events₀ : List Row) (s₀ : Sub) (d₀ : Head) (rows events : List Row) (s : Sub) (d : Head) (g : Sending now base rows₀ events₀ s₀ d₀ rows events s d) where
-  abbrev f : Fine (length rows) (length events) base s d now
+  abbrev f : BrowserFine (length rows) (length events) base s d now
   f = g .fine
 
   abbrev m : ℕ
-  m = between base s₀ d₀
+  m = rowsBetween base s₀ d₀
 
   abbrev row : Row
   row = getD rows (base + s .inflight) []
@@ -80,14 +80,14 @@ module _ (now base : ℕ) (rows₀ events₀ : List Row) (s₀ : Sub) (d₀ : He
     counted : lostHead k d .stats .expired ≡ d .stats .expired + k
     counted = let h = few-gone in omega arith
 
-    fine-lost : Fine (length rows) (length events) base (lostSub s) (lostHead k d) now
+    fine-lost : BrowserFine (length rows) (length events) base (lostSub s) (lostHead k d) now
     fine-lost =
         let h = few-gone in
         let c = counted in
         let r = f .rows in
         record { browser = f .browser; rows = omega arith; used = omega arith; room = f .room; events = omega arith; next = omega arith; expired = omega arith; clock = f .clock }
 
-    kept-lost : Kept base m s₀ d₀ (lostSub s) (lostHead k d)
+    kept-lost : BrowserKept base m s₀ d₀ (lostSub s) (lostHead k d)
     kept-lost =
         let q = g .kept in
         let h = few-gone in
@@ -129,7 +129,7 @@ module _ (now base : ℕ) (rows₀ events₀ : List Row) (s₀ : Sub) (d₀ : He
         })
 
     -- or it is sent
-    kept-sent : Kept base m s₀ d₀ (sentSub s) (withEvents (d .events + 1) d)
+    kept-sent : BrowserKept base m s₀ d₀ (heldSent s) (withEvents (d .events + 1) d)
     kept-sent = let q = g .kept in record {
       rows = omega (arith, q .rows);
       used = q .used;
@@ -142,14 +142,14 @@ module _ (now base : ℕ) (rows₀ events₀ : List Row) (s₀ : Sub) (d₀ : He
       head = ap (withEvents (d .events + 1)) (q .head);
     }
 
-    fine-sent : Fine (length rows) (length events) base (sentSub s) (withEvents (d .events + 1) d) now
+    fine-sent : BrowserFine (length rows) (length events) base (heldSent s) (withEvents (d .events + 1) d) now
     fine-sent = record { browser = f .browser; rows = omega arith; used = f .used; room = f .room; events = omega arith; next = omega arith; expired = f .expired; clock = f .clock }
 
-    pub sending-sent : (s′ : Sub) (d′ : Head) (events′ : List Row) (x : Row) → s′ ≡ sentSub s → d′ ≡ withEvents (d .events + 1) d
+    pub sending-sent : (s′ : Sub) (d′ : Head) (events′ : List Row) (x : Row) → s′ ≡ heldSent s → d′ ≡ withEvents (d .events + 1) d
         → events′ ≡ set events (d .events) (eventWords (message (id-of s) (entryOf row .seq) (entryOf row .redelivery)))
         → x ≡ flownRow (s .«next_dseq») row → length row ≡ 10 → expired (pos now) (entryOf row) ≡ false
         → Sending now base rows₀ events₀ s₀ d₀ (set rows (base + s .inflight) x) events′ s′ d′
-    unfolding shown subView
+    unfolding shownAt subView
     sending-sent s′ d′ events′ x o p q r n y =
         let flies : inflightAt x ≡ inflightOf (s .«next_dseq») (entryOf row) = ap inflightAt r ∙ flown-row (s .«next_dseq») row n in
         let e : Row = eventWords (message (id-of s) (entryOf row .seq) (entryOf row .redelivery)) in
@@ -167,7 +167,7 @@ module _ (now base : ℕ) (rows₀ events₀ : List Row) (s₀ : Sub) (d₀ : He
 
   -- ---- served
 
-  done-same : shown base m s d rows events ≡ ran now (shown base m s₀ d₀ rows₀ events₀) → Done now base rows₀ events₀ s₀ d₀ rows events s d
+  done-same : shownAt base m s d rows events ≡ browserRan now (shownAt base m s₀ d₀ rows₀ events₀) → Done now base rows₀ events₀ s₀ d₀ rows events s d
   done-same e = record { said = e; later = g .later; past = g .past; kept = g .kept; few = omega (arith, g .few); strict = g .strict }
 
   -- without credit

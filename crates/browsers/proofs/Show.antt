@@ -11,7 +11,7 @@ use Rattle.definition.specs.Types.{Entry, Event, Sub, null, withFinished}
 use Rattle.definition.specs.Consumer.{expired, hasCredit, zeroStats, _⊕_, addExpired, snapshot, withSnapshot, send, sent, sendNull, Browse, sameSeq, meetBrowser, closeBrowser, drainBrowser, dispatchBrowser}
 use Rattle.definition.specs.Layout.{Row, eventWords}
 use Rattle.definition.proofs.Local.{⊕-zero, ⊕-comm, ⊕-assoc, alone}
-use Rattle.browsers.specs.Serving.{Shown, stepped, ran}
+use Rattle.browsers.specs.Serving.{Shown, browserStepped, browserRan}
 
 -- what serving leaves, with counts and events before its own
 abbrev pub after : Stats → List Event → Browse → Browse
@@ -97,13 +97,13 @@ shown-eq : (v : Shown) (s : Sub) (p : List Entry) {c c′ : Stats} {l l′ : Lis
     (record { before = v .before; sub = s; after = v .after; pending = p; stats = c′; events = l′ })
 shown-eq v s p q r = λ j. record { before = v .before; sub = s; after = v .after; pending = p; stats = q j; events = r j }
 
-pub ran-rest : (now : ℕ) (v : Shown) → dispatchBrowser now (v .pending) (v .sub) ≡ alone (v .pending) (v .sub) → ran now v ≡ v
-ran-rest now v h = ap (λ (b : Browse). stepped b v) h ∙ shown-eq v (v .sub) (v .pending) (⊕-zero (v .stats)) (append-nil (v .events))
+pub ran-rest : (now : ℕ) (v : Shown) → dispatchBrowser now (v .pending) (v .sub) ≡ alone (v .pending) (v .sub) → browserRan now v ≡ v
+ran-rest now v h = ap (λ (b : Browse). browserStepped b v) h ∙ shown-eq v (v .sub) (v .pending) (⊕-zero (v .stats)) (append-nil (v .events))
 
 pub ran-turn : (now : ℕ) (c : Stats) (es : List Event) (p : List Entry) (s : Sub) (v : Shown) → dispatchBrowser now (v .pending) (v .sub) ≡ after c es (dispatchBrowser now p s)
-    → ran now (stepped (record { sub = s; pending = p; counts = c; events = es }) v) ≡ ran now v
+    → browserRan now (browserStepped (record { sub = s; pending = p; counts = c; events = es }) v) ≡ browserRan now v
 ran-turn now c es p s v h =
     let b : Browse = dispatchBrowser now p s in
     shown-eq v (b .sub) (b .pending) (⊕-assoc (v .stats) c (b .counts))
     (append-assoc (v .events) (map eventWords es) (map eventWords (b .events)) ∙ ap (λ (l : List Row). v .events ++ l) (sym (map-append eventWords es (b .events))))
-    ∙ ap (λ (x : Browse). stepped x v) (sym h)
+    ∙ ap (λ (x : Browse). browserStepped x v) (sym h)

@@ -29,11 +29,11 @@ use Rattle.state.specs.declared.Head.{Head}
 use Rattle.state.specs.State.{firstWaiting, withUsed, withEvents}
 use Rattle.state.proofs.Counts.{expired-plain}
 use Rattle.state.proofs.Events.{events-up-to}
-use Rattle.topics.specs.Topics.{Parts, partsOf, sentSub}
+use Rattle.topics.specs.Topics.{Parts, heldSent}
 use Rattle.topics.proofs.Parts.{held-first, parts-sent, first-strict}
 use Rattle.topics.proofs.Parts as Topics
 use Rattle.topics.proofs.Turn.{lostSub}
-use Rattle.browsers.specs.Serving.{goneRows, leftRows, dropped, Shown, showing, shown, stepped, ran, closedSub, Fine, Strict}
+use Rattle.browsers.specs.Serving.{goneRows, leftRows, dropped, Shown, showing, shownAt, browserStepped, browserRan, closedSub, BrowserFine, BrowserStrict}
 use Rattle.browsers.proofs.Show.{serve-stop, serve-finished, serve-closed, serve-lost, serve-sent, ran-rest, ran-turn}
 use Rattle.browsers.proofs.Dropped.{entries-left, entries-gone, waiting-rows, parts-gone, gone-few}
 
@@ -46,9 +46,9 @@ still-none : (b : Bool) (l m : List Entry) → b ≡ true → tpendingAt queue b
 still-none true l m e = refl
 still-none false l m e = ap (λ (b : Bool). tpendingAt queue b l) e ∙ sym (ap (λ (b : Bool). tpendingAt queue b m) e)
 
-module _ (now base m : ℕ) (s : Sub) (d : Head) (rows events : List Row) (fine : Fine (length rows) (length events) base s d now) (fits : base + s .inflight + s .held + m + d .waiting ≡ d .used) where
+module _ (now base m : ℕ) (s : Sub) (d : Head) (rows events : List Row) (fine : BrowserFine (length rows) (length events) base s d now) (fits : base + s .inflight + s .held + m + d .waiting ≡ d .used) where
   abbrev v : Shown
-  v = shown base m s d rows events
+  v = shownAt base m s d rows events
 
   abbrev held : List Row
   held = take (s .held) (drop (base + s .inflight) rows)
@@ -58,15 +58,15 @@ module _ (now base m : ℕ) (s : Sub) (d : Head) (rows events : List Row) (fine 
   later = take (d .used - (base + s .inflight + s .held)) (drop (base + s .inflight + s .held) rows)
 
   has : hasCredit (v .sub) ≡ creditOf s
-  unfolding shown
+  unfolding shownAt
   has = credit queue s (take (s .inflight) (drop base rows)) held (length-take-le (s .inflight) (drop base rows) (simp length-drop (omega arith)))
 
   snap : snapshot (v .sub) ≡ map entryOf held
-  unfolding shown subView
+  unfolding shownAt subView
   snap = ap (λ (b : Bool). Consumer.shown (browserAt queue b (map entryOf held))) (fine .browser)
 
   -- there is no credit
-  pub ran-stop : creditOf s ≡ false → ran now v ≡ v
+  pub ran-stop : creditOf s ≡ false → browserRan now v ≡ v
   ran-stop c = ran-rest now v (serve-stop now (v .pending) (v .sub) (has ∙ c))
 
   -- no row is held
@@ -74,12 +74,12 @@ module _ (now base m : ℕ) (s : Sub) (d : Head) (rows events : List Row) (fine 
     none : snapshot (v .sub) ≡ []
     none = let e : s .held ≡ 0 = omega arith in snap ∙ ap (λ (n : ℕ). map entryOf (take n (drop (base + s .inflight) rows))) e
 
-    pub ran-finished : s .finished ≡ true → ran now v ≡ v
-    unfolding shown subView
+    pub ran-finished : s .finished ≡ true → browserRan now v ≡ v
+    unfolding shownAt subView
     ran-finished h = ran-rest now v (serve-finished now (v .pending) (v .sub) none (has ∙ credited) h)
 
-    pub ran-closed : s .finished ≡ false → shown base m (closedSub s) (withEvents (d .events + 1) d) rows (set events (d .events) (eventWords (null (idOf (s .conn) (s .session) (s .value))))) ≡ ran now v
-    unfolding shown subView
+    pub ran-closed : s .finished ≡ false → shownAt base m (closedSub s) (withEvents (d .events + 1) d) rows (set events (d .events) (eventWords (null (idOf (s .conn) (s .session) (s .value))))) ≡ browserRan now v
+    unfolding shownAt subView
     ran-closed h =
         let told : Row = eventWords (null (idOf (s .conn) (s .session) (s .value))) in
         (λ i. record {
@@ -90,7 +90,7 @@ module _ (now base m : ℕ) (s : Sub) (d : Head) (rows events : List Row) (fine 
           stats = sym (⊕-zero (d .stats)) i;
           events = events-up-to (d .events) events told (omega arith) i;
         })
-        ∙ ap (λ (b : Consumer.Browse). stepped b v) (sym (serve-closed now (v .pending) (v .sub) none (has ∙ credited) h))
+        ∙ ap (λ (b : Consumer.Browse). browserStepped b v) (sym (serve-closed now (v .pending) (v .sub) none (has ∙ credited) h))
 
   -- a row is held
   module _ (more : 0 < s .held) (credited : creditOf s ≡ true) where
@@ -132,11 +132,11 @@ module _ (now base m : ℕ) (s : Sub) (d : Head) (rows events : List Row) (fine 
     pub k-few : k ≤ d .waiting
     k-few = gone-few (e .seq) d rows (firstWaiting d) k refl refl (omega arith) (omega arith)
 
-    shown-lost : shown base m (lostSub s) (lostHead k d) (closeGap (base + s .inflight) 1 (d .used - k) (leftRows (e .seq) d rows)) events
-        ≡ stepped
+    shown-lost : shownAt base m (lostSub s) (lostHead k d) (closeGap (base + s .inflight) 1 (d .used - k) (leftRows (e .seq) d rows)) events
+        ≡ browserStepped
         (record { sub = withSnapshot (map entryOf rest) (v .sub); pending = keep (λ f. not (sameSeq e f)) (v .pending); counts = addExpired (tally (sameSeq e) (v .pending)); events = [] })
         v
-    unfolding shown subView
+    unfolding shownAt subView
     shown-lost =
         let p = parts-gone (hasSeq (e .seq)) base (s .inflight) (s .held) m (d .waiting) (d .used) rows fits (omega arith) more k k-rows in
         let low : List Row = take m later in
@@ -158,7 +158,7 @@ module _ (now base m : ℕ) (s : Sub) (d : Head) (rows events : List Row) (fine 
         })
 
     -- strict words stay strict
-    pub strict-lost : Strict base m s d rows → Strict base m (lostSub s) (lostHead k d) (closeGap (base + s .inflight) 1 (d .used - k) (leftRows (e .seq) d rows))
+    pub strict-lost : BrowserStrict base m s d rows → BrowserStrict base m (lostSub s) (lostHead k d) (closeGap (base + s .inflight) 1 (d .used - k) (leftRows (e .seq) d rows))
     strict-lost z =
         let p = parts-gone (hasSeq (e .seq)) base (s .inflight) (s .held) m (d .waiting) (d .used) rows fits (omega arith) more k k-rows in
         let low : List Row = take m later in
@@ -173,7 +173,7 @@ module _ (now base m : ℕ) (s : Sub) (d : Head) (rows events : List Row) (fine 
           waiting = ap (λ (x : Parts). all entryStrict (drop m (x .after))) p ∙ ap (all entryStrict) (drop-at low left m size) ∙ all-keep entryStrict (λ r. not (hasSeq (e .seq) r)) (drop m later) (z .waiting);
         }
 
-    pub strict-sent : (x : Row) → x ≡ flownRow (s .«next_dseq») row → Strict base m s d rows → Strict base m (sentSub s) (withEvents (d .events + 1) d) (set rows (base + s .inflight) x)
+    pub strict-sent : (x : Row) → x ≡ flownRow (s .«next_dseq») row → BrowserStrict base m s d rows → BrowserStrict base m (heldSent s) (withEvents (d .events + 1) d) (set rows (base + s .inflight) x)
     strict-sent x is z =
         let h : base + s .inflight + s .held ≤ d .used = omega arith in
         let n : d .used ≤ length rows = omega arith in
@@ -184,9 +184,9 @@ module _ (now base m : ℕ) (s : Sub) (d : Head) (rows events : List Row) (fine 
         }
 
     pub ran-lost : expired (pos now) e ≡ true
-        → ran now (shown base m (lostSub s) (lostHead k d) (closeGap (base + s .inflight) 1 (d .used - k) (leftRows (e .seq) d rows)) events) ≡ ran now v
+        → browserRan now (shownAt base m (lostSub s) (lostHead k d) (closeGap (base + s .inflight) 1 (d .used - k) (leftRows (e .seq) d rows)) events) ≡ browserRan now v
     ran-lost x =
-        ap (ran now) shown-lost
+        ap (browserRan now) shown-lost
         ∙ ran-turn now (addExpired (tally (sameSeq e) (v .pending))) [] (keep (λ f. not (sameSeq e f)) (v .pending)) (withSnapshot (map entryOf rest) (v .sub)) v
         (serve-lost now (v .pending) (v .sub) e (map entryOf rest) first (has ∙ credited) x)
 
@@ -195,16 +195,16 @@ module _ (now base m : ℕ) (s : Sub) (d : Head) (rows events : List Row) (fine 
       abbrev said : Row
       said = eventWords (sent (v .sub) e)
 
-      shown-sent : shown base m (sentSub s) (withEvents (d .events + 1) d) (set rows (base + s .inflight) x) (set events (d .events) said)
-          ≡ stepped (record { sub = send e (withSnapshot (map entryOf rest) (v .sub)); pending = v .pending; counts = zeroStats; events = sent (v .sub) e ∷ [] }) v
-      unfolding shown subView
+      shown-sent : shownAt base m (heldSent s) (withEvents (d .events + 1) d) (set rows (base + s .inflight) x) (set events (d .events) said)
+          ≡ browserStepped (record { sub = send e (withSnapshot (map entryOf rest) (v .sub)); pending = v .pending; counts = zeroStats; events = sent (v .sub) e ∷ [] }) v
+      unfolding shownAt subView
       shown-sent =
           let p = parts-sent base (s .inflight) (s .held) (d .used) rows more (omega arith) (omega arith) x in
           let flying : List Row = take (s .inflight) (drop base rows) in
           let flown : map inflightAt (flying ++ (x ∷ [])) ≡ map inflightAt flying ++ (inflightOf (s .«next_dseq») e ∷ []) =
           map-append inflightAt flying (x ∷ []) ∙ ap (λ (y : Def.Inflight). map inflightAt flying ++ (y ∷ [])) flies in
           let next : Def.Sub = send e (withSnapshot (map entryOf rest) (v .sub)) in
-          ap (showing m (sentSub s) (d .stats) (take (d .events + 1) (set events (d .events) said))) p
+          ap (showing m (heldSent s) (d .stats) (take (d .events + 1) (set events (d .events) said))) p
           ∙ (λ i. record {
             before = take base rows;
             sub = Def.withBrowser (browsing i) (Def.withTpending (waiting i) (Def.withInflight (flown i) next));
@@ -215,8 +215,8 @@ module _ (now base m : ℕ) (s : Sub) (d : Head) (rows events : List Row) (fine 
           })
 
       pub ran-sent : expired (pos now) e ≡ false
-          → ran now (shown base m (sentSub s) (withEvents (d .events + 1) d) (set rows (base + s .inflight) x) (set events (d .events) said)) ≡ ran now v
+          → browserRan now (shownAt base m (heldSent s) (withEvents (d .events + 1) d) (set rows (base + s .inflight) x) (set events (d .events) said)) ≡ browserRan now v
       ran-sent y =
-          ap (ran now) shown-sent
+          ap (browserRan now) shown-sent
           ∙ ran-turn now zeroStats (sent (v .sub) e ∷ []) (v .pending) (send e (withSnapshot (map entryOf rest) (v .sub))) v
           (serve-sent now (v .pending) (v .sub) e (map entryOf rest) first (has ∙ credited) y)

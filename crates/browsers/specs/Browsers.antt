@@ -1,27 +1,22 @@
 -- What the first part of a queue's dispatch means: its browsers are served from their own snapshots. Assumes nothing.
 use mathlib.Core.Path.{_≡_}
-use mathlib.Core.Bool.{Bool, true}
+use mathlib.Core.Bool.{true}
 use mathlib.Core.List.{List}
-use Prim.Native.Nat.{ℕ, _+_, _≤_, _^_}
-use lib.Dec.{leb}
+use Prim.Native.Nat.{ℕ, _+_, _≤_}
 use lib.ListN.{take}
 use Rattle.definition.specs.Base.{all}
 use Rattle.definition.specs.Types.{Dest, withPending, withSubs}
 use Rattle.definition.specs.Destination.{Out, count, browsers}
-use Rattle.definition.specs.Words.{at}
 use Rattle.definition.specs.Layout.{Row}
+use Rattle.consumers.specs.Table.{nextFits}
 use Rattle.state.specs.declared.Head.{Head}
 
 -- `browsers` of the definitions, as a part of a call
 abbrev pub browsed : ℕ → Dest → Out
 browsed now t = let b = browsers now (t .subs) (t .pending) in record { dest = count (b .counts) (withPending (b .pending) (withSubs (b .subs) t)); events = b .events }
 
--- a consumer's next delivery number can still rise
-abbrev pub nextFits : Row → Bool
-nextFits w = leb (at 8 w) (2 ^ 62)
-
 -- what it promises besides: which numbers stay, and how far the others go
-pub record Served (d r : Head) (subs′ : List Row) : Type 0 where
+pub record BrowsersServed (d r : Head) (subs′ : List Row) : Type 0 where
   pub consumers : r .consumers ≡ d .consumers
   pub turn : r .turn ≡ d .turn
   pub reserved : r .reserved ≡ d .reserved

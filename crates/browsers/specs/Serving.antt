@@ -18,8 +18,8 @@ use Rattle.consumers.specs.declared.Sub.{Sub}
 use Rattle.consumers.specs.Consumers.{subView}
 use Rattle.consumers.specs.Seats.{OwnStrict}
 use Rattle.state.specs.declared.Head.{Head}
-use Rattle.state.specs.State.{firstWaiting, withStats, withWaiting, withUsed}
-use Rattle.topics.specs.Topics.{Parts, partsOf, moved}
+use Rattle.state.specs.State.{firstWaiting, withCounters, withWaiting, withUsed}
+use Rattle.topics.specs.Topics.{Parts, partsOf, topicMoved}
 
 -- ---- an expired entry that still waits
 
@@ -32,7 +32,7 @@ leftRows seq d rows = removeRows (hasSeq seq) (firstWaiting d) (d .used) (d .use
 
 -- so many of them have gone, and are counted as expired
 abbrev pub dropped : ℕ → Head → Head
-dropped k d = withStats (withExpiredBy (d .stats) k) (withWaiting (d .waiting - k) (withUsed (d .used - k) d))
+dropped k d = withCounters (withExpiredBy (d .stats) k) (withWaiting (d .waiting - k) (withUsed (d .used - k) d))
 
 -- ---- one browser
 
@@ -57,12 +57,12 @@ showing m s stats events p = record {
 }
 
 -- its rows begin at base
-unfoldable pub shown : ℕ → ℕ → Sub → Head → List Row → List Row → Shown
-shown base m s d rows events = showing m s (d .stats) (take (d .events) events) (partsOf base (s .inflight) (s .held) (d .used) rows)
+unfoldable pub shownAt : ℕ → ℕ → Sub → Head → List Row → List Row → Shown
+shownAt base m s d rows events = showing m s (d .stats) (take (d .events) events) (partsOf base (s .inflight) (s .held) (d .used) rows)
 
 -- with what serving it leaves
-abbrev pub stepped : Browse → Shown → Shown
-stepped b v = record {
+abbrev pub browserStepped : Browse → Shown → Shown
+browserStepped b v = record {
   before = v .before;
   sub = b .sub;
   after = v .after;
@@ -71,8 +71,8 @@ stepped b v = record {
   events = v .events ++ map eventWords (b .events);
 }
 
-abbrev pub ran : ℕ → Shown → Shown
-ran now v = stepped (dispatchBrowser now (v .pending) (v .sub)) v
+abbrev pub browserRan : ℕ → Shown → Shown
+browserRan now v = browserStepped (dispatchBrowser now (v .pending) (v .sub)) v
 
 -- the closing null has been sent
 abbrev pub closedSub : Sub → Sub
@@ -98,11 +98,11 @@ closedSub s = record {
 -- ---- its numbers
 
 -- the rows between its own and the waiting ones
-abbrev pub between : ℕ → Sub → Head → ℕ
-between base s d = d .used - (base + s .inflight + s .held + d .waiting)
+abbrev pub rowsBetween : ℕ → Sub → Head → ℕ
+rowsBetween base s d = d .used - (base + s .inflight + s .held + d .waiting)
 
 -- the counts lie within the tables, and no number runs out
-pub record Fine (nrows nevents base : ℕ) (s : Sub) (d : Head) (now : ℕ) : Type 0 where
+pub record BrowserFine (nrows nevents base : ℕ) (s : Sub) (d : Head) (now : ℕ) : Type 0 where
   pub browser : s .browser ≡ true
   pub rows : base + s .inflight + s .held + d .waiting ≤ d .used
   pub used : d .used ≤ 512
@@ -113,7 +113,7 @@ pub record Fine (nrows nevents base : ℕ) (s : Sub) (d : Head) (now : ℕ) : Ty
   pub clock : now ≤ 2 ^ 62
 
 -- what the numbers do while it is served, with m rows between its own and the waiting ones
-pub record Kept (base m : ℕ) (s : Sub) (d : Head) (t : Sub) (r : Head) : Type 0 where
+pub record BrowserKept (base m : ℕ) (s : Sub) (d : Head) (t : Sub) (r : Head) : Type 0 where
   pub rows : base + t .inflight + t .held + m + r .waiting ≡ r .used
   pub used : r .used ≤ d .used
   pub own : t .inflight + t .held ≤ s .inflight + s .held
@@ -122,30 +122,30 @@ pub record Kept (base m : ℕ) (s : Sub) (d : Head) (t : Sub) (r : Head) : Type 
   pub waiting : r .waiting ≤ d .waiting
   pub expired : r .stats .expired + r .waiting ≡ d .stats .expired + d .waiting
   pub dispatched : r .stats .dispatched ≡ d .stats .dispatched
-  pub head : r ≡ withWaiting (r .waiting) (moved d r)
+  pub head : r ≡ withWaiting (r .waiting) (topicMoved d r)
 
 -- the words in use of its rows and of those that wait are strict, with m rows between them
-pub record Strict (base m : ℕ) (s : Sub) (d : Head) (rows : List Row) : Type 0 where
+pub record BrowserStrict (base m : ℕ) (s : Sub) (d : Head) (rows : List Row) : Type 0 where
   pub own : OwnStrict base (s .inflight) (s .held) rows
   pub waiting : all entryStrict (drop m (partsOf base (s .inflight) (s .held) (d .used) rows .after)) ≡ true
 
 -- while its snapshot is sent: the definition says the same of what is there now as of what was there
 pub record Sending (now base : ℕ) (rows₀ events₀ : List Row) (s₀ : Sub) (d₀ : Head) (rows events : List Row) (s : Sub) (d : Head) : Type 0 where
-  pub fine : Fine (length rows) (length events) base s d now
+  pub fine : BrowserFine (length rows) (length events) base s d now
   pub same-rows : length rows ≡ length rows₀
   pub same-events : length events ≡ length events₀
-  pub said : ran now (shown base (between base s₀ d₀) s d rows events) ≡ ran now (shown base (between base s₀ d₀) s₀ d₀ rows₀ events₀)
+  pub said : browserRan now (shownAt base (rowsBetween base s₀ d₀) s d rows events) ≡ browserRan now (shownAt base (rowsBetween base s₀ d₀) s₀ d₀ rows₀ events₀)
   pub later : drop (d .events) events ≡ drop (d .events) events₀
   pub past : drop (d₀ .used) rows ≡ drop (d₀ .used) rows₀
-  pub kept : Kept base (between base s₀ d₀) s₀ d₀ s d
+  pub kept : BrowserKept base (rowsBetween base s₀ d₀) s₀ d₀ s d
   pub few : d .events + s .held ≤ d₀ .events + s₀ .held
-  pub strict : Strict base (between base s₀ d₀) s₀ d₀ rows₀ → Strict base (between base s₀ d₀) s d rows
+  pub strict : BrowserStrict base (rowsBetween base s₀ d₀) s₀ d₀ rows₀ → BrowserStrict base (rowsBetween base s₀ d₀) s d rows
 
 -- when it is served: it is as the definition has it
 pub record Done (now base : ℕ) (rows₀ events₀ : List Row) (s₀ : Sub) (d₀ : Head) (rows events : List Row) (s : Sub) (d : Head) : Type 0 where
-  pub said : shown base (between base s₀ d₀) s d rows events ≡ ran now (shown base (between base s₀ d₀) s₀ d₀ rows₀ events₀)
+  pub said : shownAt base (rowsBetween base s₀ d₀) s d rows events ≡ browserRan now (shownAt base (rowsBetween base s₀ d₀) s₀ d₀ rows₀ events₀)
   pub later : drop (d .events) events ≡ drop (d .events) events₀
   pub past : drop (d₀ .used) rows ≡ drop (d₀ .used) rows₀
-  pub kept : Kept base (between base s₀ d₀) s₀ d₀ s d
+  pub kept : BrowserKept base (rowsBetween base s₀ d₀) s₀ d₀ s d
   pub few : d .events + s .held ≤ d₀ .events + s₀ .held + 1
-  pub strict : Strict base (between base s₀ d₀) s₀ d₀ rows₀ → Strict base (between base s₀ d₀) s d rows
+  pub strict : BrowserStrict base (rowsBetween base s₀ d₀) s₀ d₀ rows₀ → BrowserStrict base (rowsBetween base s₀ d₀) s d rows

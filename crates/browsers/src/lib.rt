@@ -7,9 +7,8 @@ ghost use lib.ListN.{length};
 ghost use Rattle.consumers.specs.Consumers.{creditOf};
 ghost use Rattle.state.specs.Fits.{Fits, fits};
 ghost use Rattle.state.specs.Leaves.{Leaves, LeavesIf};
-ghost use Rattle.topics.specs.Topics.{sentSub};
-ghost use Rattle.browsers.specs.Browsers.{browsed, Served};
-ghost use Rattle.browsers.specs.Serving.{goneRows, leftRows, dropped, closedSub, Fine, Sending, Done};
+ghost use Rattle.browsers.specs.Browsers.{browsed, BrowsersServed};
+ghost use Rattle.browsers.specs.Serving.{goneRows, leftRows, dropped, closedSub, BrowserFine, Sending, Done};
 use consumers::Sub;
 use consumers::SubRow;
 use entry::Row;
@@ -36,19 +35,6 @@ fn drop_waiting(rows: &mut [Row], mut d: Head, seq: u64) -> Head
     d.count_expired(gone as u64)
 }
 
-// `Sub::send`: the first held row is the last in flight, and no pull waits.
-fn sent(mut s: Sub) -> Sub
-    requires { ⌜ (0 < s .held) × (s .inflight < 2 ^ 63) × (s .«next_dseq» < 2 ^ 63) ⌝ }
-    ensures { λ r. ⌜ r ≡ sentSub s ⌝ }
-{
-    s.next_dseq = s.next_dseq + 1;
-    s.inflight = s.inflight + 1;
-    s.held = s.held - 1;
-    s.pulling = false;
-    s.pull = 0;
-    s
-}
-
 // `Sub::send_null`, and the browser is finished.
 fn closed(mut s: Sub) -> Sub
     ensures { λ r. ⌜ r ≡ closedSub s ⌝ }
@@ -68,7 +54,7 @@ fn send_snapshot(
     before: Head,
     clock: u64,
 ) -> Left
-    requires { ⌜ Fine (length (now rows)) (length (now events)) base start before clock ⌝ }
+    requires { ⌜ BrowserFine (length (now rows)) (length (now events)) base start before clock ⌝ }
     ensures { λ r. ⌜ Sending clock base (now (rows .entry)) (now (events .entry)) start before (now (rows .exit)) (now (events .exit)) (r .sub) (r .head) ⌝ }
     ensures { λ r. ⌜ (0 < r .sub .held → creditOf (r .sub) ≡ false) ⌝ }
 {
@@ -89,7 +75,8 @@ fn send_snapshot(
         } else {
             d = state::push_message(events, d, s.conn, s.session, s.value, e.seq, e.redelivery);
             rows[first] = table::flown(row, s.next_dseq);
-            s = sent(s);
+            s.held = s.held - 1;
+            s = s.sent();
         }
     }
     Left { sub: s, head: d }
@@ -104,7 +91,7 @@ fn dispatch_browser(
     before: Head,
     clock: u64,
 ) -> Left
-    requires { ⌜ Fine (length (now rows)) (length (now events)) base start before clock ⌝ }
+    requires { ⌜ BrowserFine (length (now rows)) (length (now events)) base start before clock ⌝ }
     ensures { λ r. ⌜ Done clock base (now (rows .entry)) (now (events .entry)) start before (now (rows .exit)) (now (events .exit)) (r .sub) (r .head) ⌝ }
 {
     let r = send_snapshot(rows, events, base, start, before, clock);
@@ -132,7 +119,7 @@ fn serve_each(
     clock: u64,
 ) -> Head
     requires { ⌜ Fits (now subs) before (length (now rows)) (length (now events)) × (before .queue ≡ true) × (clock ≤ 2 ^ 62) ⌝ }
-    ensures { λ r. ⌜ Leaves (browsed clock) before r (now (subs .entry)) (now (rows .entry)) (now (events .entry)) (now (subs .exit)) (now (rows .exit)) (now (events .exit)) × Served before r (now (subs .exit)) ⌝ }
+    ensures { λ r. ⌜ Leaves (browsed clock) before r (now (subs .entry)) (now (rows .entry)) (now (events .entry)) (now (subs .exit)) (now (rows .exit)) (now (events .exit)) × BrowsersServed before r (now (subs .exit)) ⌝ }
 {
     let n = before.consumers;
     let mut d = before;
@@ -164,7 +151,7 @@ pub fn serve_browsers(
     d: Head,
     clock: u64,
 ) -> Head
-    ensures { λ r. ⌜ LeavesIf (fits (now (subs .entry)) d (length (now (rows .entry))) (length (now (events .entry))) && (leb clock (2 ^ 62) && d .queue)) (Served d r (now (subs .exit))) (browsed clock) d r (now (subs .entry)) (now (rows .entry)) (now (events .entry)) (now (subs .exit)) (now (rows .exit)) (now (events .exit)) ⌝ }
+    ensures { λ r. ⌜ LeavesIf (fits (now (subs .entry)) d (length (now (rows .entry))) (length (now (events .entry))) && (leb clock (2 ^ 62) && d .queue)) (BrowsersServed d r (now (subs .exit))) (browsed clock) d r (now (subs .entry)) (now (rows .entry)) (now (events .entry)) (now (subs .exit)) (now (rows .exit)) (now (events .exit)) ⌝ }
 {
     if entry::CLOCK_MOST < clock {
         return d;

@@ -2,39 +2,31 @@
 use Prim.Native.Nat.{ℕ, _+_, _≤_}
 use native.Mathlib.Omega.{arith}
 use mathlib.Core.Path.{_≡_, refl, sym, _∙_, ap, subst⁻¹}
-use mathlib.Core.Bool.{Bool, true, false, not, _&&_, _||_, true≢false}
+use mathlib.Core.Bool.{Bool, true, false, not, _||_, true≢false}
 use mathlib.Core.List.{List, [], _∷_, _++_, map}
 use lib.Dec.{eqb}
-use borrow.Author.Tests.{eqb-true, eqb-false, eq-eqb, ne-eqb}
+use borrow.Author.Tests.{eqb-true, eq-eqb}
 use Rattle.definition.specs.Base.{if_then_else_, keep, all, member}
 use Rattle.definition.specs.Types.{Entry, Inflight, Held, Sub, Dest}
 use Rattle.definition.specs.Consumer.{snapshot, redelivered}
-use Rattle.definition.specs.Calls.{Lengths, Call, enqueuing, joining, leaving, asking, unmarking, releasing, sweeping, clearing, adding, removing, testing, forgetting, discarding, missing, seqs, flying, rowsOf, held, consumerRows, allRows, sizesAgree, ownRefusal, rowsFor, freeRows, perform, used, refusal, refused, Result, call}
+use Rattle.definition.specs.Calls.{Lengths, Call, enqueuing, joining, leaving, asking, unmarking, releasing, sweeping, clearing, adding, removing, testing, forgetting, discarding, missing, seqs, flying, rowsOf, held, consumerRows, allRows, sizesAgree, ownRefusal, perform, used, refusal, refused, Result, call, brought}
 use Rattle.definition.specs.Queries.{bytesOf, bytesHeld}
 use Rattle.definition.proofs.Tests.{by-test, if-true, if-false, and-left, and-right, and-both, or-no-left, or-no-right}
-use Rattle.definition.proofs.Lists.{All}
+use Rattle.definition.proofs.Lists.{All, all-join, all-keep}
 use Rattle.definition.proofs.Reorder.{keep-yes, keep-no}
-use Rattle.definition.proofs.Sums.{sum, odd, agree-sum}
+use Rattle.definition.proofs.Sums.{sum, odd, agree-sum, like, one-like, odd-like}
 use Rattle.definition.proofs.Sound.{facts}
 use Rattle.definition.proofs.Made.{call-accepted}
 use Rattle.definition.proofs.Kept.{Accepted, accepted}
-use Rattle.bytes.specs.Claims.{enqueued, copied, sized, BytesMove, SizesStay}
-use Rattle.bytes.proofs.Rows.{join, mapped, Flies, Kept, Mine, Holds, Brings, performs}
-
-abbrev like : ℕ → ℕ → Entry → Bool
-like s size e = not (eqb s (e .seq)) || eqb size (e .size)
+use Rattle.words.proofs.Tests.{eqb-comm}
+use Rattle.bytes.specs.Claims.{hasCopy, sized, BytesMove, SizesStay}
+use Rattle.bytes.proofs.Rows.{mapped, Flies, Kept, Mine, Holds, Brings, performs}
 
 -- ---- one number taken out
 
 keep-all : (p : Entry → Bool) (l : List Entry) → all p l ≡ true → keep p l ≡ l
 keep-all p [] h = refl
 keep-all p (e ∷ l) h = keep-yes p e l (and-left (p e) _ h) ∙ ap (λ (k : List Entry). e ∷ k) (keep-all p l (and-right (p e) _ h))
-
-all-keep : (p q : Entry → Bool) (l : List Entry) → all q l ≡ true → all q (keep p l) ≡ true
-all-keep p q [] h = refl
-all-keep p q (e ∷ l) h = by-test (p e)
-    (λ c. ap (all q) (keep-yes p e l c) ∙ and-both (q e) _ (and-left (q e) _ h) (all-keep p q l (and-right (q e) _ h)))
-    (λ c. ap (all q) (keep-no p e l c) ∙ all-keep p q l (and-right (q e) _ h))
 
 -- a number that is not left out
 member-keep : (x : ℕ) (p : ℕ → Bool) (l : List Entry) → p x ≡ true → member x (seqs (keep (λ e. p (e .seq)) l)) ≡ member x (seqs l)
@@ -93,9 +85,6 @@ keep-keep p q (e ∷ l) = by-test (q e)
     (λ d. keep-no (λ f. not (p f || q f)) e l (rw d) ∙ keep-keep p q l ∙ sym (keep-no (λ f. not (p f)) e (keep (λ f. not (q f)) l) (ap not d)) ∙ ap (keep (λ f. not (p f))) (sym (keep-yes (λ f. not (q f)) e l (ap not c))))
     (λ d. keep-yes (λ f. not (p f || q f)) e l (rw (c, d)) ∙ ap (λ (k : List Entry). e ∷ k) (keep-keep p q l) ∙ sym (keep-yes (λ f. not (p f)) e (keep (λ f. not (q f)) l) (ap not d)) ∙ ap (keep (λ f. not (p f))) (sym (keep-yes (λ f. not (q f)) e l (ap not c)))))
 
-eqb-swap : (x y : ℕ) → eqb x y ≡ eqb y x
-eqb-swap x y = by-test (eqb x y) (λ c. c ∙ sym (eq-eqb y x (sym (eqb-true x y c)))) (λ c. c ∙ sym (ne-eqb y x (λ e. absurd (omega (arith, eqb-false x y c, e)))))
-
 -- those of l that are not among these
 abbrev rest : List Entry → List Entry → List Entry
 rest m l = keep (λ e. not (member (e .seq) (seqs m))) l
@@ -108,13 +97,13 @@ moves [] l h = omega (arith, ap bytesOf (keep-all (λ e. true) l (yes l)))
     yes (e ∷ k) = yes k
 moves (f ∷ m) l h = by-test (member (f .seq) (seqs m))
     (λ c. omega (arith, bytes-in f m c, ap bytesOf (keep-same (λ e. not (eqb (e .seq) (f .seq) || member (e .seq) (seqs m))) (λ e. not (member (e .seq) (seqs m))) (λ e. ap not (held-twice c e)) l), moves m l (h .1)))
-    (λ c. omega (arith, bytes-new f m c, moves m l (h .1), bytes-out (f .seq) (f .size) (rest m l) (member-keep (f .seq) (λ x. not (member x (seqs m))) l (ap not c) ∙ and-left (member (f .seq) (seqs l)) _ (h .0)) (all-keep (λ e. not (member (e .seq) (seqs m))) (like (f .seq) (f .size)) l (and-right (member (f .seq) (seqs l)) _ (h .0))), ap bytesOf (one-less)))
+    (λ c. omega (arith, bytes-new f m c, moves m l (h .1), bytes-out (f .seq) (f .size) (rest m l) (member-keep (f .seq) (λ x. not (member x (seqs m))) l (ap not c) ∙ and-left (member (f .seq) (seqs l)) _ (h .0)) (all-keep (like (f .seq) (f .size)) (λ e. not (member (e .seq) (seqs m))) l (and-right (member (f .seq) (seqs l)) _ (h .0))), ap bytesOf (one-less)))
   where
     held-twice : member (f .seq) (seqs m) ≡ true → (e : Entry) → (eqb (e .seq) (f .seq) || member (e .seq) (seqs m)) ≡ member (e .seq) (seqs m)
     held-twice c e = by-test (eqb (e .seq) (f .seq)) (λ d. rw d (sym (ap (λ (x : ℕ). member x (seqs m)) (eqb-true (e .seq) (f .seq) d) ∙ c))) (λ d. rw d)
 
     one-less : rest (f ∷ m) l ≡ keep (λ e. not (eqb (f .seq) (e .seq))) (rest m l)
-    one-less = keep-keep (λ e. eqb (e .seq) (f .seq)) (λ e. member (e .seq) (seqs m)) l ∙ keep-same (λ e. not (eqb (e .seq) (f .seq))) (λ e. not (eqb (f .seq) (e .seq))) (λ e. ap not (eqb-swap (e .seq) (f .seq))) (rest m l)
+    one-less = keep-keep (λ e. eqb (e .seq) (f .seq)) (λ e. member (e .seq) (seqs m)) l ∙ keep-same (λ e. not (eqb (e .seq) (f .seq))) (λ e. not (eqb (f .seq) (e .seq))) (λ e. ap not (eqb-comm (e .seq) (f .seq))) (rest m l)
 
 -- ---- every row of a destination
 
@@ -144,25 +133,15 @@ module _ (P : Entry → Type 0) (again : (e : Entry) → P e → P (redelivered 
   ours : (l : List Sub) → All (Mine P again) l → All P (consumerRows l)
   ours [] h = tt
   ours (s ∷ l) h =
-      join P (rowsOf s) (consumerRows l)
-      (join P (flying s) (s .tpending ++ snapshot s) (mapped (Flies P again) P (λ (i : Inflight). i .entry) (λ i p. p) (s .inflight) (h .0 .flies)) (join P (s .tpending) (snapshot s) (h .0 .waits) (h .0 .shows)))
+      all-join P (rowsOf s) (consumerRows l)
+      (all-join P (flying s) (s .tpending ++ snapshot s) (mapped (Flies P again) P (λ (i : Inflight). i .entry) (λ i p. p) (s .inflight) (h .0 .flies)) (all-join P (s .tpending) (snapshot s) (h .0 .waits) (h .0 .shows)))
       (ours l (h .1))
 
   to-rows : (t : Dest) → Holds P again t → All P (allRows t)
-  to-rows t h = join P (t .pending) (held t ++ consumerRows (t .subs)) (h .pending)
-      (join P (held t) (consumerRows (t .subs)) (mapped (Kept P again) P (λ (x : Held). x .entry) (λ x p. p) (t .reserved) (h .reserved)) (ours (t .subs) (h .subs)))
+  to-rows t h = all-join P (t .pending) (held t ++ consumerRows (t .subs)) (h .pending)
+      (all-join P (held t) (consumerRows (t .subs)) (mapped (Kept P again) P (λ (x : Held). x .entry) (λ x p. p) (t .reserved) (h .reserved)) (ours (t .subs) (h .subs)))
 
 -- ---- rows that agree
-
-odd-size : (x z : ℕ) (e : Entry) → odd x z e ≤ 0 → like x z e ≡ true
-unfolding odd
-odd-size x z e = by-test (eqb x (e .seq))
-    (λ c. rw c (by-test (eqb z (e .size)) (λ d h. d) (λ d. rw d (λ h. absurd (omega (arith, h))))))
-    (λ c. rw c (λ h. refl))
-
-odd-sizes : (x z : ℕ) (l : List Entry) → sum (odd x z) l ≤ 0 → all (like x z) l ≡ true
-odd-sizes x z [] h = refl
-odd-sizes x z (e ∷ l) h = and-both (like x z e) _ (odd-size x z e (omega (arith, h))) (odd-sizes x z l (omega (arith, h)))
 
 -- each of some rows of an agreeing list
 each : (l m : List Entry) → ((x : ℕ) → (z : ℕ) × (sum (odd x z) l ≤ 0)) → ((x z : ℕ) → sum (odd x z) m ≤ sum (odd x z) l) → ((x : ℕ) → member x (seqs m) ≡ true → member x (seqs l) ≡ true) → All (λ f. sized (f .seq) (f .size) l ≡ true) m
@@ -170,9 +149,9 @@ each l [] h g k = tt
 each l (e ∷ m) h g k =
     let r = h (e .seq) in
     let here : eqb (e .seq) (e .seq) ≡ true = eq-eqb (e .seq) (e .seq) refl in
-    let own : like (e .seq) (r .0) e ≡ true = odd-size (e .seq) (r .0) e (omega (arith, g (e .seq) (r .0), r .1)) in
+    let own : like (e .seq) (r .0) e ≡ true = one-like (e .seq) (r .0) e (omega (arith, g (e .seq) (r .0), r .1)) in
     let z : r .0 ≡ e .size = eqb-true (r .0) (e .size) (sym (ap (λ b. not b || eqb (r .0) (e .size)) here) ∙ own) in (
-      and-both (member (e .seq) (seqs l)) _ (k (e .seq) (ap (λ b. b || member (e .seq) (seqs m)) here)) (ap (λ (n : ℕ). all (like (e .seq) n) l) (sym z) ∙ odd-sizes (e .seq) (r .0) l (r .1)),
+      and-both (member (e .seq) (seqs l)) _ (k (e .seq) (ap (λ b. b || member (e .seq) (seqs m)) here)) (ap (λ (n : ℕ). all (like (e .seq) n) l) (sym z) ∙ odd-like (e .seq) (r .0) l (r .1)),
       each l m h (λ x y. omega (arith, g x y)) (λ x n. k x (by-test (eqb x (e .seq)) (λ c. rw c) (λ c. rw c n))),
     )
 
@@ -186,21 +165,21 @@ unfolding call
 after lent c t h = let z = call-accepted lent c t h in ap (λ (r : Result). r .dest) (if-true _ (refused (refusal lent c t) t) (eq-eqb (refusal lent c t) 0 z))
 
 -- by what it brings
-by-enqueued : (R : List Entry → Type 0) (c : Call) → R [] → ((e : Entry) (now : ℕ) → c ≡ enqueuing e now → R (e ∷ [])) → R (enqueued c)
-by-enqueued R (enqueuing e now) none one = one e now refl
-by-enqueued R (joining p now) none one = none
-by-enqueued R (leaving i last now) none one = none
-by-enqueued R (asking i q) none one = none
-by-enqueued R (unmarking i) none one = none
-by-enqueued R (releasing i now) none one = none
-by-enqueued R (sweeping now most) none one = none
-by-enqueued R clearing none one = none
-by-enqueued R (adding i) none one = none
-by-enqueued R (removing i now) none one = none
-by-enqueued R (testing i q) none one = none
-by-enqueued R (forgetting conn) none one = none
-by-enqueued R discarding none one = none
-by-enqueued R missing none one = none
+by-brought : (R : List Entry → Type 0) (c : Call) → R [] → ((e : Entry) (now : ℕ) → c ≡ enqueuing e now → R (e ∷ [])) → R (brought c)
+by-brought R (enqueuing e now) none one = one e now refl
+by-brought R (joining p now) none one = none
+by-brought R (leaving i last now) none one = none
+by-brought R (asking i q) none one = none
+by-brought R (unmarking i) none one = none
+by-brought R (releasing i now) none one = none
+by-brought R (sweeping now most) none one = none
+by-brought R clearing none one = none
+by-brought R (adding i) none one = none
+by-brought R (removing i now) none one = none
+by-brought R (testing i q) none one = none
+by-brought R (forgetting conn) none one = none
+by-brought R discarding none one = none
+by-brought R missing none one = none
 
 new-number : (e : Entry) (now : ℕ) (t : Dest) → ownRefusal t (enqueuing e now) ≡ 0 → member (e .seq) (seqs (allRows t)) ≡ false
 unfolding ownRefusal
@@ -212,7 +191,7 @@ new-like x z (e ∷ l) h = and-both (like x z e) _ (ap (λ b. not b || eqb z (e 
 
 module _ (lent : Lengths) (c : Call) (t : Dest) (h : call lent c t .refusal ≡ 0) where
   abbrev Comes : Entry → Type 0
-  Comes f = sized (f .seq) (f .size) (enqueued c ++ allRows t) ≡ true
+  Comes f = sized (f .seq) (f .size) (brought c ++ allRows t) ≡ true
 
   again : (e : Entry) → Comes e → Comes (redelivered e)
   again e p = p
@@ -224,21 +203,21 @@ module _ (lent : Lengths) (c : Call) (t : Dest) (h : call lent c t .refusal ≡ 
   unfolding taken
   is-new e now q = new-number e now t (ap (ownRefusal t) (sym q) ∙ taken .own)
 
-  agreed : sizesAgree (enqueued c ++ allRows t) ≡ true
+  agreed : sizesAgree (brought c ++ allRows t) ≡ true
   unfolding taken
   agreed =
       let s = facts t (taken .is-sound) .sizes in
-      by-enqueued (λ n. sizesAgree (n ++ allRows t) ≡ true) c s (λ e now q. and-both (all (like (e .seq) (e .size)) (allRows t)) _ (new-like (e .seq) (e .size) (allRows t) (is-new e now q)) s)
+      by-brought (λ n. sizesAgree (n ++ allRows t) ≡ true) c s (λ e now q. and-both (all (like (e .seq) (e .size)) (allRows t)) _ (new-like (e .seq) (e .size) (allRows t) (is-new e now q)) s)
 
   comes : All Comes (allRows (call lent c t .dest))
   comes =
-      let r = split Comes (enqueued c) (allRows t) (agree-each (enqueued c ++ allRows t) agreed) in
+      let r = split Comes (brought c) (allRows t) (agree-each (brought c ++ allRows t) agreed) in
       subst⁻¹ (λ (u : Dest). All Comes (allRows u)) (after lent c t h) (to-rows Comes again (used (perform t c .dest)) (same (performs Comes again t c (brings c (r .0)) (of-rows Comes again t (r .1)))))
     where
       same : Holds Comes again (perform t c .dest) → Holds Comes again (used (perform t c .dest))
       same g = record { pending = g .pending; reserved = g .reserved; subs = g .subs }
 
-      brings : (d : Call) → All Comes (enqueued d) → Brings Comes again d
+      brings : (d : Call) → All Comes (brought d) → Brings Comes again d
       brings (enqueuing e now) g = g .0
       brings (joining p now) g = tt
       brings (leaving i last now) g = tt
@@ -258,29 +237,29 @@ module _ (lent : Lengths) (c : Call) (t : Dest) (h : call lent c t .refusal ≡ 
   all-test p [] g = refl
   all-test p (a ∷ l) g = and-both (p a) _ (g .0) (all-test p l (g .1))
 
-  pub bytes : let u = call lent c t .dest in bytesHeld u + bytesOf (keep (λ e. not (copied u e)) (allRows t)) ≡ bytesHeld t + bytesOf (keep (copied u) (enqueued c))
-  bytes = by-enqueued (λ n. bytesOf (n ++ allRows t) ≡ bytesOf (allRows u) + bytesOf (rest (allRows u) (n ++ allRows t)) → bytesHeld u + bytesOf (rest (allRows u) (allRows t)) ≡ bytesHeld t + bytesOf (keep (copied u) n)) c
-      (λ m. omega (arith, m)) one (sym (moves (allRows u) (enqueued c ++ allRows t) comes))
+  pub bytes : let u = call lent c t .dest in bytesHeld u + bytesOf (keep (λ e. not (hasCopy u e)) (allRows t)) ≡ bytesHeld t + bytesOf (keep (hasCopy u) (brought c))
+  bytes = by-brought (λ n. bytesOf (n ++ allRows t) ≡ bytesOf (allRows u) + bytesOf (rest (allRows u) (n ++ allRows t)) → bytesHeld u + bytesOf (rest (allRows u) (allRows t)) ≡ bytesHeld t + bytesOf (keep (hasCopy u) n)) c
+      (λ m. omega (arith, m)) one (sym (moves (allRows u) (brought c ++ allRows t) comes))
     where
       u : Dest
       u = call lent c t .dest
 
-      one : (e : Entry) (now : ℕ) → c ≡ enqueuing e now → bytesOf (e ∷ allRows t) ≡ bytesOf (allRows u) + bytesOf (rest (allRows u) (e ∷ allRows t)) → bytesHeld u + bytesOf (rest (allRows u) (allRows t)) ≡ bytesHeld t + bytesOf (keep (copied u) (e ∷ []))
+      one : (e : Entry) (now : ℕ) → c ≡ enqueuing e now → bytesOf (e ∷ allRows t) ≡ bytesOf (allRows u) + bytesOf (rest (allRows u) (e ∷ allRows t)) → bytesHeld u + bytesOf (rest (allRows u) (allRows t)) ≡ bytesHeld t + bytesOf (keep (hasCopy u) (e ∷ []))
       one e now q m =
           let n = is-new e now q in
-          by-test (copied u e)
-          (λ d. omega (arith, m, bytes-new e (allRows t) n, ap bytesOf (keep-no (λ f. not (copied u f)) e (allRows t) (ap not d)), ap bytesOf (keep-yes (copied u) e [] d)))
+          by-test (hasCopy u e)
+          (λ d. omega (arith, m, bytes-new e (allRows t) n, ap bytesOf (keep-no (λ f. not (hasCopy u f)) e (allRows t) (ap not d)), ap bytesOf (keep-yes (hasCopy u) e [] d)))
           (λ d. omega (
             arith,
             m,
             bytes-new e (allRows t) n,
-            ap bytesOf (keep-yes (λ f. not (copied u f)) e (allRows t) (ap not d)),
+            ap bytesOf (keep-yes (λ f. not (hasCopy u f)) e (allRows t) (ap not d)),
             bytes-new e (rest (allRows u) (allRows t)) (member-keep (e .seq) (λ x. not (member x (seqs (allRows u)))) (allRows t) (ap not d) ∙ n),
-            ap bytesOf (keep-no (copied u) e [] d),
+            ap bytesOf (keep-no (hasCopy u) e [] d),
           ))
 
 pub bytes-move : BytesMove
 bytes-move lent c t h = bytes lent c t h
 
 pub sizes-stay : SizesStay
-sizes-stay lent c t h = all-test lent c t h (λ f. sized (f .seq) (f .size) (enqueued c ++ allRows t)) (allRows (call lent c t .dest)) (comes lent c t h)
+sizes-stay lent c t h = all-test lent c t h (λ f. sized (f .seq) (f .size) (brought c ++ allRows t)) (allRows (call lent c t .dest)) (comes lent c t h)

@@ -1,21 +1,21 @@
 -- What holds of every row, redelivered ones too, every call keeps; an enqueue needs it of its entry. Assumes nothing.
 use Prim.Native.Nat.{ℕ, zero, suc, _-_, _+_}
-use mathlib.Core.Path.{_≡_, refl, subst, subst⁻¹}
+use mathlib.Core.Path.{_≡_, refl, subst⁻¹}
 use mathlib.Core.Bool.{Bool, true, false, not, _&&_, _||_}
 use mathlib.Core.List.{List, [], _∷_, _++_, map}
 use mathlib.Core.Option.{Option, none, some}
 use lib.Dec.{leb, ltb, eqb}
-use lib.ListN.{length, set, drop}
+use lib.ListN.{length, drop}
 use lib.IntN.{ℤ, pos}
 use lib.Signed.{ltZ}
 use Rattle.audit.specs.Audit.{seen}
 use Rattle.definition.specs.Base.{if_then_else_, keep, nth, empty}
 use Rattle.definition.specs.Types.{Kind, queue, topic, Id, Entry, Inflight, Sub, Stats, Held, Audit, Dest, withPrefetch, withCursor, withPull, withGeneration, withTpending, withPending, withSubs, withIdle, withReserved}
-use Rattle.definition.specs.Consumer.{shown, addExpired, zeroStats, expired, selects, isBrowser, snapshot, withSnapshot, hasCredit, accepts, send, sendNull, redelivered, marked, free, removeInflight, bumped, redeliver, Ack, AckType, Delivered, Poison, Standard, Redelivered, Individual, Unmatched, Expired, Other, ackType, ackRange, ackLast, ackTransacted, ackPlain, ackSub, took, Step, meetTopic, drainTopic, atRest, Browse, sameSeq, meetBrowser, closeBrowser, drainBrowser, dispatchBrowser}
+use Rattle.definition.specs.Consumer.{shown, addExpired, zeroStats, expired, selects, isBrowser, snapshot, withSnapshot, hasCredit, accepts, send, sendNull, redelivered, freedAs, free, removeInflight, bumped, redeliver, Ack, AckType, Delivered, Poison, Standard, Redelivered, Individual, Unmatched, Expired, Other, ackType, ackRange, ackLast, ackTransacted, ackPlain, ackSub, took, Step, meetTopic, drainTopic, atRest, Browse, sameSeq, meetBrowser, closeBrowser, drainBrowser, dispatchBrowser}
 use Rattle.definition.specs.Destination.{Out, Answer, Look, look, Turn, given, visitAt, visit, scan, turns, rounds, Browsed, browsers, dispatchQueue, serveAll, dispatchTopic, dispatchBy, dispatch, count, isId, subOf, putSub, insert, touchIdle, holdBack, due, Trimmed, trim, fanOut, fanOutAll, stored, fannedOut, enqueueBy, Spec, room, joined, addSub, prefetchAt, setPrefetch, insertAll, holdBackAll, reinsert, heldBy, reservedOf, ackReserved, ackAt, ack, pulled, resumed, pullAt, pull, fired, timeoutAt, pullTimeout, wasDelivered, returnedFrom, reservedFrom, without, returning, dropSub, removeAt, removeSub, noTx, unmarked, returnReserved, Swept, sweepAt, sweepList, sweepSubs, sweepExpired, emptied, cleared, clear, testAt, isDuplicate, soonest}
 use Rattle.definition.specs.Calls.{acknowledge, pulling, timedOut, prefetching, ask, Call, enqueuing, joining, leaving, asking, unmarking, releasing, sweeping, clearing, adding, removing, testing, forgetting, discarding, missing, perform}
 use Rattle.definition.proofs.Tests.{by-if}
-use Rattle.definition.proofs.Lists.{All, all-put, all-find, none-some, some-inj}
+use Rattle.definition.proofs.Lists.{All, all-put, all-find, all-part, all-join, all-nth, all-set}
 
 -- a queue's browser served, anyone else as it is
 abbrev browsed : ℕ → List Entry → Sub → Browse
@@ -24,28 +24,10 @@ browsed now p s = if isBrowser s then dispatchBrowser now p s else record { sub 
 -- ---- lists
 
 module _ {A : Type 0} (P : A → Type 0) where
-  part : (p : A → Bool) (l : List A) → All P l → All P (keep p l)
-  part p [] h = tt
-  part p (a ∷ l) h = by-if (All P) (p a) (a ∷ keep p l) (keep p l) (λ c. (h .0, part p l (h .1))) (λ c. part p l (h .1))
-
-  pub join : (l m : List A) → All P l → All P m → All P (l ++ m)
-  join [] m h g = g
-  join (a ∷ l) m h g = (h .0, join l m (h .1) g)
-
   dropped : (n : ℕ) (l : List A) → All P l → All P (drop n l)
   dropped zero l h = h
   dropped (suc n) [] h = h
   dropped (suc n) (a ∷ l) h = dropped n l (h .1)
-
-  at-set : (l : List A) (i : ℕ) (a : A) → All P l → P a → All P (set l i a)
-  at-set [] i a h g = tt
-  at-set (b ∷ l) zero a h g = (g, h .1)
-  at-set (b ∷ l) (suc i) a h g = (h .0, at-set l i a (h .1) g)
-
-  at-nth : (i : ℕ) (l : List A) (a : A) → All P l → nth i l ≡ some a → P a
-  at-nth i [] a h e = absurd (none-some e)
-  at-nth zero (b ∷ l) a h e = subst P (some-inj e) (h .0)
-  at-nth (suc i) (b ∷ l) a h e = at-nth i l a (h .1) e
 
 pub mapped : {A B : Type 0} (P : A → Type 0) (Q : B → Type 0) (f : A → B) → ((a : A) → P a → Q (f a)) → (l : List A) → All P l → All Q (map f l)
 mapped P Q f g [] h = tt
@@ -73,7 +55,7 @@ module _ (P : Entry → Type 0) (again : (e : Entry) → P e → P (redelivered 
   -- ---- a consumer
 
   sends : (e : Entry) (s : Sub) → P e → Mine s → Mine (send e s)
-  sends e s p m = record { flies = join Flies (s .inflight) _ (m .flies) (p, tt); waits = m .waits; shows = m .shows }
+  sends e s p m = record { flies = all-join Flies (s .inflight) _ (m .flies) (p, tt); waits = m .waits; shows = m .shows }
 
   drains : (now : ℕ) (l : List Entry) (t : Step) → All P l → Mine (t .sub) → Mine (drainTopic now l t .sub)
   unfolding drainTopic meetTopic
@@ -101,7 +83,7 @@ module _ (P : Entry → Type 0) (again : (e : Entry) → P e → P (redelivered 
       (λ c. m)
   browse now (e ∷ es) b h m = by-if Browses (hasCredit (b .sub)) (drainBrowser now es (meetBrowser now e es b)) b
       (λ c. browse now es (meetBrowser now e es b) (h .1) (by-if Browses (expired (pos now) e) _ _
-      (λ d. record { sub = less; pending = part P (λ f. not (sameSeq e f)) (b .pending) (m .pending) })
+      (λ d. record { sub = less; pending = all-part P (λ f. not (sameSeq e f)) (b .pending) (m .pending) })
       (λ d. record { sub = sends e (withSnapshot es (b .sub)) (h .0) less; pending = m .pending })))
       (λ c. m)
     where
@@ -145,14 +127,14 @@ module _ (P : Entry → Type 0) (again : (e : Entry) → P e → P (redelivered 
 
   gives : (i : ℕ) (s : Sub) (l : Look) (t : Dest) (o : Option Entry) → Holds t → Mine s → All P (l .pending) → Chosen o → Holds (given i s l t o .dest)
   unfolding given Chosen
-  gives i s l t none h m p c = record { pending = p; reserved = h .reserved; subs = at-set Mine (t .subs) i _ (h .subs) (record { flies = m .flies; waits = m .waits; shows = m .shows }) }
-  gives i s l t (some e) h m p c = record { pending = p; reserved = h .reserved; subs = at-set Mine (t .subs) i _ (h .subs) (sends e (withCursor (l .cursor) s) c (record { flies = m .flies; waits = m .waits; shows = m .shows })) }
+  gives i s l t none h m p c = record { pending = p; reserved = h .reserved; subs = all-set Mine i (t .subs) _ (h .subs) (record { flies = m .flies; waits = m .waits; shows = m .shows }) }
+  gives i s l t (some e) h m p c = record { pending = p; reserved = h .reserved; subs = all-set Mine i (t .subs) _ (h .subs) (sends e (withCursor (l .cursor) s) c (record { flies = m .flies; waits = m .waits; shows = m .shows })) }
 
   visits : (now i : ℕ) (t : Dest) (o : Option Sub) → nth i (t .subs) ≡ o → Holds t → Holds (visitAt now i t o .dest)
   unfolding visitAt
   visits now i t none e h = h
   visits now i t (some s) e h = by-if (λ (x : Turn). Holds (x .dest)) (isBrowser s || not (hasCredit s)) _ _ (λ c. h)
-      (λ c. let r = looks now s (s .cursor) (t .pending) (h .pending) in gives i s (look now s (s .cursor) (t .pending)) t _ h (at-nth Mine i (t .subs) s (h .subs) e) (r .pending) (r .chosen))
+      (λ c. let r = looks now s (s .cursor) (t .pending) (h .pending) in gives i s (look now s (s .cursor) (t .pending)) t _ h (all-nth Mine i (t .subs) s (h .subs) e) (r .pending) (r .chosen))
 
   scans : (now : ℕ) (is : List ℕ) (t : Dest) → Holds t → Holds (scan now is t .dest)
   unfolding scan visit
@@ -191,7 +173,7 @@ module _ (P : Entry → Type 0) (again : (e : Entry) → P e → P (redelivered 
   trims : (now limit : ℕ) (l : List Entry) → All P l → All P (trim now limit l .list)
   unfolding trim
   trims now limit l h = by-if (λ (x : Trimmed). All P (x .list)) (eqb limit 0 || leb (length l) limit) _ _ (λ c. h)
-      (λ c. dropped P (length (keep (λ e. not (expired (pos now) e)) l) - limit) (keep (λ e. not (expired (pos now) e)) l) (part P (λ e. not (expired (pos now) e)) l h))
+      (λ c. dropped P (length (keep (λ e. not (expired (pos now) e)) l) - limit) (keep (λ e. not (expired (pos now) e)) l) (all-part P (λ e. not (expired (pos now) e)) l h))
 
   fans : (now limit : ℕ) (e : Entry) (l : List Sub) → P e → All Mine l → All Mine (fanOutAll now limit e l .subs)
   unfolding fanOutAll fanOut
@@ -209,10 +191,10 @@ module _ (P : Entry → Type 0) (again : (e : Entry) → P e → P (redelivered 
   keptRows s v a b f m = record { flies = f; waits = subst⁻¹ (All P) a (m .waits); shows = subst⁻¹ (All P) b (m .shows) }
 
   frees : (hit : Inflight → Bool) (tx : Bool) (s : Sub) → Mine s → Mine (free hit tx s)
-  frees hit tx s m = keptRows s (free hit tx s) refl refl (mapped Flies Flies (marked hit tx) (λ i p. by-if Flies (hit i) _ i (λ c. p) (λ c. p)) (s .inflight) (m .flies)) m
+  frees hit tx s m = keptRows s (free hit tx s) refl refl (mapped Flies Flies (freedAs hit tx) (λ i p. by-if Flies (hit i) _ i (λ c. p) (λ c. p)) (s .inflight) (m .flies)) m
 
   removes : (hit : Inflight → Bool) (s : Sub) → Mine s → Mine (removeInflight hit s)
-  removes hit s m = keptRows s (removeInflight hit s) refl refl (part Flies (λ i. not (hit i)) (s .inflight) (m .flies)) m
+  removes hit s m = keptRows s (removeInflight hit s) refl refl (all-part Flies (λ i. not (hit i)) (s .inflight) (m .flies)) m
 
   redelivers : (hit : Inflight → Bool) (s : Sub) → Mine s → Mine (redeliver hit s)
   redelivers hit s m = keptRows s (redeliver hit s) refl refl (mapped Flies Flies (bumped hit) (λ i p. by-if Flies (hit i) _ i (λ c. again (i .entry) p) (λ c. p)) (s .inflight) (m .flies)) m
@@ -255,7 +237,7 @@ module _ (P : Entry → Type 0) (again : (e : Entry) → P e → P (redelivered 
   acksReserved : (i : Id) (a : Ack) (t : Dest) (o : Option ℕ) → Holds t → Holds (ackReserved i a t o .dest)
   unfolding ackReserved
   acksReserved i a t none h = h
-  acksReserved i a t (some last) h = record { pending = h .pending; reserved = part Kept _ (t .reserved) (h .reserved); subs = h .subs }
+  acksReserved i a t (some last) h = record { pending = h .pending; reserved = all-part Kept _ (t .reserved) (h .reserved); subs = h .subs }
 
   acks : (now : ℕ) (i : Id) (a : Ack) (t : Dest) (o : Option Sub) → subOf i t ≡ o → Holds t → Holds (ackAt now i a t o .dest)
   unfolding ackAt
@@ -305,10 +287,10 @@ module _ (P : Entry → Type 0) (again : (e : Entry) → P e → P (redelivered 
 
   joins : (now : ℕ) (p : Spec) (t : Dest) → Holds t → Holds (joined now p t)
   joins now p t h =
-      let live = part P (λ e. not (expired (pos (due now t)) e)) (t .pending) (h .pending) in
+      let live = all-part P (λ e. not (expired (pos (due now t)) e)) (t .pending) (h .pending) in
       by-if (λ (d : Dest). Holds (withIdle none d)) (p .browser) _ _
-      (λ c. record { pending = live; reserved = h .reserved; subs = join Mine (t .subs) _ (h .subs) (record { flies = tt; waits = tt; shows = part P (λ e. selects (e .«match_word») (p .selector)) (keep (λ e. not (expired (pos (due now t)) e)) (t .pending)) live }, tt) })
-      (λ c. record { pending = h .pending; reserved = h .reserved; subs = join Mine (t .subs) _ (h .subs) (record { flies = tt; waits = tt; shows = tt }, tt) })
+      (λ c. record { pending = live; reserved = h .reserved; subs = all-join Mine (t .subs) _ (h .subs) (record { flies = tt; waits = tt; shows = all-part P (λ e. selects (e .«match_word») (p .selector)) (keep (λ e. not (expired (pos (due now t)) e)) (t .pending)) live }, tt) })
+      (λ c. record { pending = h .pending; reserved = h .reserved; subs = all-join Mine (t .subs) _ (h .subs) (record { flies = tt; waits = tt; shows = tt }, tt) })
 
   insertsAll : (l m : List Entry) → All P l → All P m → All P (insertAll l m)
   insertsAll [] m h g = g
@@ -321,7 +303,7 @@ module _ (P : Entry → Type 0) (again : (e : Entry) → P e → P (redelivered 
   reinserts : (now : ℕ) (es : List Entry) (t : Dest) → All P es → Holds t → Holds (reinsert now es t)
   unfolding reinsert
   reinserts now es t p h =
-      let live = part P (λ e. not (expired (pos (due now t)) e)) es p in
+      let live = all-part P (λ e. not (expired (pos (due now t)) e)) es p in
       record { pending = insertsAll (keep (λ e. not (expired (pos (due now t)) e)) es) (t .pending) live (h .pending); reserved = h .reserved; subs = mapped Mine Mine (holdBackAll (keep (λ e. not (expired (pos (due now t)) e)) es)) (backAll (keep (λ e. not (expired (pos (due now t)) e)) es)) (t .subs) (h .subs) }
 
   returned : (last : ℤ) (l : List Inflight) → All Flies l → All P (returnedFrom last l)
@@ -341,7 +323,7 @@ module _ (P : Entry → Type 0) (again : (e : Entry) → P e → P (redelivered 
   returns topic now s last t m h = h
   returns queue now s last t m h = by-if Holds (isBrowser s) t _ (λ c. h)
       (λ c. reinserts now (returnedFrom last (s .inflight)) (withReserved (t .reserved ++ reservedFrom (s .id) (s .inflight)) t) (returned last (s .inflight) (m .flies))
-      (record { pending = h .pending; reserved = join Kept (t .reserved) _ (h .reserved) (reservedOut (s .id) (s .inflight) (m .flies)); subs = h .subs }))
+      (record { pending = h .pending; reserved = all-join Kept (t .reserved) _ (h .reserved) (reservedOut (s .id) (s .inflight) (m .flies)); subs = h .subs }))
 
   leaves : (now : ℕ) (i : Id) (last : ℤ) (t : Dest) (o : Option Sub) → subOf i t ≡ o → Holds t → Holds (removeAt now i last t o .dest)
   unfolding removeAt
@@ -356,9 +338,9 @@ module _ (P : Entry → Type 0) (again : (e : Entry) → P e → P (redelivered 
   releases : (now : ℕ) (i : Id) (t : Dest) → Holds t → Holds (returnReserved now i t .dest)
   unfolding returnReserved
   releases now i t h =
-      let back = mapped P P redelivered again (reservedOf i t) (mapped Kept P (λ x. x .entry) (λ x p. p) (keep (heldBy i) (t .reserved)) (part Kept (heldBy i) (t .reserved) (h .reserved))) in
+      let back = mapped P P redelivered again (reservedOf i t) (mapped Kept P (λ x. x .entry) (λ x p. p) (keep (heldBy i) (t .reserved)) (all-part Kept (heldBy i) (t .reserved) (h .reserved))) in
       by-if (λ (x : Out). Holds (x .dest)) (empty (reservedOf i t)) _ _ (λ c. h)
-      (λ c. dispatches _ _ _ (reinserts now (map redelivered (reservedOf i t)) (withReserved (keep (λ x. not (heldBy i x)) (t .reserved)) t) back (record { pending = h .pending; reserved = part Kept (λ x. not (heldBy i x)) (t .reserved) (h .reserved); subs = h .subs })))
+      (λ c. dispatches _ _ _ (reinserts now (map redelivered (reservedOf i t)) (withReserved (keep (λ x. not (heldBy i x)) (t .reserved)) t) back (record { pending = h .pending; reserved = all-part Kept (λ x. not (heldBy i x)) (t .reserved) (h .reserved); subs = h .subs })))
 
   sweepsAt : (l : List Entry) (go : Entry → Swept) (o : Option Entry) → All P l → ((e : Entry) → All P (go e .list)) → All P (sweepAt l go o .list)
   unfolding sweepAt
@@ -368,7 +350,7 @@ module _ (P : Entry → Type 0) (again : (e : Entry) → P e → P (redelivered 
   sweepsList : (budget now : ℕ) (l : List Entry) → All P l → All P (sweepList budget now l .list)
   unfolding sweepList
   sweepsList zero now l h = h
-  sweepsList (suc budget) now l h = sweepsAt l (λ e. sweepList budget now (keep (λ f. not (eqb (f .seq) (e .seq))) l)) (soonest now l) h (λ e. sweepsList budget now (keep (λ f. not (eqb (f .seq) (e .seq))) l) (part P (λ f. not (eqb (f .seq) (e .seq))) l h))
+  sweepsList (suc budget) now l h = sweepsAt l (λ e. sweepList budget now (keep (λ f. not (eqb (f .seq) (e .seq))) l)) (soonest now l) h (λ e. sweepsList budget now (keep (λ f. not (eqb (f .seq) (e .seq))) l) (all-part P (λ f. not (eqb (f .seq) (e .seq))) l h))
 
   sweepsSubs : (budget now : ℕ) (l : List Sub) → All Mine l → All Mine (sweepSubs budget now l .subs)
   unfolding sweepSubs

@@ -11,14 +11,14 @@ use Rattle.calls.specs.declared.Call.{Call}
 use Rattle.callfile.specs.Blocks.{check}
 
 -- a number in so many bytes, the lowest first
-unfoldable pub bytesOf : ℕ → ℕ → List ℕ
-bytesOf zero n = []
-bytesOf (suc k) n = n % 256 ∷ bytesOf k (n / 256)
+unfoldable pub lowBytes : ℕ → ℕ → List ℕ
+lowBytes zero n = []
+lowBytes (suc k) n = n % 256 ∷ lowBytes k (n / 256)
 
 -- words of eight bytes
 unfoldable pub wordBytes : List ℕ → List ℕ
 wordBytes [] = []
-wordBytes (w ∷ ws) = bytesOf 8 w ++ wordBytes ws
+wordBytes (w ∷ ws) = lowBytes 8 w ++ wordBytes ws
 
 -- a call in its 72 bytes
 unfoldable pub callBytes : Call → List ℕ
@@ -29,11 +29,11 @@ unfoldable pub withCall : ℕ → Call → List ℕ → List ℕ
 withCall k c block = if leb 512 (length block) && leb k 6 then sets block (k * 72) (callBytes c) else block
 
 -- with a count, and then the check
-abbrev pub counted : ℕ → List ℕ → List ℕ
-counted n block = sets block 504 (bytesOf 4 n)
+abbrev pub withCount : ℕ → List ℕ → List ℕ
+withCount n block = sets block 504 (lowBytes 4 n)
 
-abbrev pub checked : List ℕ → List ℕ
-checked block = sets block 508 (bytesOf 4 (check block))
+abbrev pub withCheck : List ℕ → List ℕ
+withCheck block = sets block 508 (lowBytes 4 (check block))
 
 unfoldable pub sealed : ℕ → List ℕ → List ℕ
-sealed n block = if leb 512 (length block) then checked (counted n block) else block
+sealed n block = if leb 512 (length block) then withCheck (withCount n block) else block

@@ -3,7 +3,7 @@ ghost use mathlib.Core.Path.{_≡_};
 ghost use Prim.Native.Nat.{_+_, _%_, _≤_};
 ghost use lib.ListN.{length};
 ghost use Rattle.callfile.specs.Placed.{Puts};
-ghost use Rattle.callblocks.specs.Packed.{bytesOf, wordBytes, callBytes, withCall, sealed};
+ghost use Rattle.callblocks.specs.Packed.{lowBytes, wordBytes, callBytes, withCall, sealed};
 use calls::Call;
 
 // The bytes of a call, the place of the count, and that of the check.
@@ -22,7 +22,7 @@ fn low(n: u64) -> u8
 // A number in so many bytes, little-endian.
 fn put_bytes(block: &mut [u8], at: usize, size: usize, n: u64) -> usize
     requires { do ⌜ at + size ≤ (← ⟦block.len()⟧) ⌝ }
-    ensures { λ r. ⌜ Puts (bytesOf size n) at (now (block .entry)) r (now (block .exit)) ⌝ }
+    ensures { λ r. ⌜ Puts (lowBytes size n) at (now (block .entry)) r (now (block .exit)) ⌝ }
 {
     let mut left = size;
     let mut rest = n;

@@ -6,7 +6,7 @@ use mir.Val.{SFits}
 use Rattle.words.proofs.Words.{signed-unsigned, flag-of-word}
 use Rattle.definition.specs.Types.{Id, Event, letter, message, null}
 use Rattle.definition.specs.Layout.{eventWords}
-use Rattle.callfile.specs.Lines.{eventLine, eventAt, lineOf, wordsLine}
+use Rattle.callfile.specs.Lines.{eventLine, eventAt, eventLineOf, wordsLine}
 
 abbrev IdFits : Id → Type 0
 IdFits i = SFits w64 (i .session) × SFits w64 (i .value)
@@ -24,5 +24,5 @@ event-words (message i seq redelivery) f = rw (signed-unsigned (i .session) (f .
 event-words (null i) f = rw (signed-unsigned (i .session) (f .0), signed-unsigned (i .value) (f .1))
 
 pub event-line : (e : Event) → EventFits e → wordsLine (eventWords e) ≡ eventLine e
-unfolding lineOf
-event-line e f = ap lineOf (event-words e f)
+unfolding eventLineOf
+event-line e f = ap eventLineOf (event-words e f)

@@ -1,16 +1,15 @@
 -- Parts of a line put one after the other. Assumes nothing.
-use Prim.Native.Nat.{ℕ, suc, _+_, _-_, _≤_}
+use Prim.Native.Nat.{ℕ, suc, _+_, _≤_, _<_}
 use native.Mathlib.Nat.{add-zero, add-suc, suc-add, add-assoc}
+use native.Mathlib.Numerals.{add-one}
 use native.Mathlib.Omega.{arith}
 use mathlib.Core.Path.{_≡_, refl, sym, ap, _∙_}
 use mathlib.Core.Bool.{true, false}
 use mathlib.Core.List.{List, [], _∷_, _++_, append-assoc}
-use borrow.Author.Tests.{le-leb, lt-leb, leb-true, leb-false}
-use lib.Dec.{leb}
-use lib.ListN.{length, take, drop, set, length-append}
-use lib.Seq.{sets, sets-eq}
-use Rattle.words.proofs.Tests.{by-test}
-use Rattle.callfile.specs.Placed.{Puts, Line, room, placed, after}
+use borrow.Author.Tests.{leb-true, le-leb}
+use lib.ListN.{length, take, drop, set, length-append, getD}
+use lib.Seq.{sets, sets-eq, length-sets, take-suc}
+use Rattle.callfile.specs.Placed.{Puts, PutLine, lineRoom, linePlaced, placeAfter}
 
 sets-append : (p q l : List ℕ) (i : ℕ) → sets l i (p ++ q) ≡ sets (sets l i p) (i + length p) q
 sets-append [] q l i = ap (λ (k : ℕ). sets l k q) (sym (add-zero i))
@@ -29,20 +28,27 @@ then {p} {q} {at} {m} {r} {l} {l₁} {l₂} x y = record {
 pub nothing : (at : ℕ) (l : List ℕ) → Puts [] at l at l × (at ≤ at + 128)
 nothing at l = (record { text = refl; next = sym (add-zero at); same = refl }, omega arith)
 
+pub take-more : (l : List ℕ) (j : ℕ) → j < length l → take (j + 1) l ≡ take j l ++ (getD l j 0 ∷ [])
+take-more l j h = rw (add-one j, take-suc l j 0 h)
+
 -- ---- a whole line
 
-pub whole-line : {line l l′ : List ℕ} {at r : ℕ} → room at l ≡ true → Puts line at l r l′ × (r ≤ at + 128) → Line line at l r l′
-unfolding placed after
-whole-line {line} {l} {l′} {at} {r} t p =
-    let k : at + length line ≤ length l = omega (arith, p .0 .next, p .1, leb-true (at + 128) (length l) t) in
-    record { text = rw t (p .0 .text ∙ sets-eq line l at k ∙ append-assoc (take at l) line (drop (at + length line) l)); next = rw t (p .0 .next) }
+module _ {most : ℕ} where
+  pub whole-line : {line l l′ : List ℕ} {at r : ℕ} → lineRoom most at l ≡ true → Puts line at l r l′ × (r ≤ at + most) → PutLine most line at l r l′
+  unfolding linePlaced placeAfter
+  whole-line {line} {l} {l′} {at} {r} t p =
+      let k : at + length line ≤ length l = omega (arith, p .0 .next, p .1, leb-true (at + most) (length l) t) in
+      record { text = rw t (p .0 .text ∙ sets-eq line l at k ∙ append-assoc (take at l) line (drop (at + length line) l)); next = rw t (p .0 .next) }
 
-pub no-room : (line l : List ℕ) (at : ℕ) → room at l ≡ false → Line line at l at l
-unfolding placed after
-no-room line l at t = record { text = rw t; next = rw t }
+  pub no-room : (line l : List ℕ) (at : ℕ) → lineRoom most at l ≡ false → PutLine most line at l at l
+  unfolding linePlaced placeAfter
+  no-room line l at t = record { text = rw t; next = rw t }
 
--- the test of room, without a sum that wraps
-pub moved : (at n k : ℕ) → k ≤ n → leb at (n - k) ≡ leb (at + k) n
-moved at n k h = by-test (leb at (n - k))
-    (λ t. rw (t, le-leb (at + k) n (omega (arith, leb-true at (n - k) t))))
-    (λ t. rw (t, lt-leb (at + k) n (omega (arith, leb-false at (n - k) t))))
+  -- one that had room was put
+  pub line-puts : {line l l′ : List ℕ} {at r : ℕ} → at + most ≤ length l → length line ≤ most → PutLine most line at l r l′ → Puts line at l r l′
+  unfolding linePlaced placeAfter
+  line-puts {line} {l} {l′} {at} {r} h k p =
+      let t : lineRoom most at l ≡ true = le-leb (at + most) (length l) h in
+      let n : at + length line ≤ length l = omega arith in
+      let e : l′ ≡ sets l at line = rw t at (p .text) ∙ sym (sets-eq line l at n ∙ append-assoc (take at l) line (drop (at + length line) l)) in
+      record { text = e; next = rw t at (p .next); same = ap length e ∙ length-sets l at line }

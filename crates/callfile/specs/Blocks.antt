@@ -52,9 +52,9 @@ wordsAt at block =
     ∷ []
 
 -- a call of an unknown code
-abbrev pub noCall : Call
-noCall = newCall (2 ^ 64 - 1) (replicate 8 0)
+abbrev pub noSuchCall : Call
+noSuchCall = newCall (2 ^ 64 - 1) (replicate 8 0)
 
 -- call k, from 0
 unfoldable pub callAt : ℕ → List ℕ → Call
-callAt k block = if leb 512 (length block) && leb k 6 then newCall (wordAt (k * 72) block) (wordsAt (k * 72) block) else noCall
+callAt k block = if leb 512 (length block) && leb k 6 then newCall (wordAt (k * 72) block) (wordsAt (k * 72) block) else noSuchCall

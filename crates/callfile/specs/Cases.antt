@@ -5,37 +5,31 @@ use mathlib.Core.List.{List, [], _∷_, _++_}
 use lib.Dec.{eqb, T}
 use lib.ListN.{length, take, replicate}
 use lib.IntN.{pos, negsuc}
-use Rattle.words.specs.Pick.{every}
+use Rattle.words.specs.Pick.{every, sameNumbers}
 use Rattle.model.specs.Model.{newId}
 use Rattle.definition.specs.Types.{letter, message, null}
 use Rattle.calls.specs.declared.Call.{Call}
 use Rattle.callfile.specs.Blocks.{numberAt, wordAt, checkFrom, good, callsIn, callAt}
 use Rattle.callfile.specs.Lines.{digits, decimal, signedDecimal, callLine, eventLine, badLine, countersLine}
 
-abbrev same : List ℕ → List ℕ → Bool
-same [] [] = true
-same [] (y ∷ ys) = false
-same (x ∷ xs) [] = false
-same (x ∷ xs) (y ∷ ys) = eqb x y && same xs ys
-
 -- ---- blocks
 
 -- a number in so many bytes
-bytes : ℕ → ℕ → List ℕ
+unfoldable pub bytes : ℕ → ℕ → List ℕ
 bytes zero w = []
 bytes (suc n) w = w % 256 ∷ bytes n (w / 256)
 
 -- words of eight bytes
-words : List ℕ → List ℕ
+unfoldable pub words : List ℕ → List ℕ
 words [] = []
 words (w ∷ ws) = bytes 8 w ++ words ws
 
 -- 508 bytes with their check, and a difference to it
-checked : ℕ → List ℕ → List ℕ
-checked wrong body = body ++ bytes 4 (wrong + checkFrom 0 body)
+unfoldable pub checkedBlock : ℕ → List ℕ → List ℕ
+checkedBlock wrong body = body ++ bytes 4 (wrong + checkFrom 0 body)
 
 -- five calls of nine words: open, two enqueues, join, ack
-calls : List ℕ
+unfoldable pub calls : List ℕ
 calls =
     0 ∷ 0 ∷ 0 ∷ 100 ∷ 0 ∷ 0 ∷ 0 ∷ 0 ∷ 0
     ∷ 1 ∷ 5 ∷ 0 ∷ 1 ∷ 7 ∷ 0 ∷ 0 ∷ 10 ∷ 0
@@ -45,8 +39,8 @@ calls =
     ∷ []
 
 -- a block of them, with a count and a difference to the check
-block : ℕ → ℕ → List ℕ
-block count wrong = checked wrong (words calls ++ (replicate 144 0 ++ bytes 4 count))
+unfoldable pub block : ℕ → ℕ → List ℕ
+block count wrong = checkedBlock wrong (words calls ++ (replicate 144 0 ++ bytes 4 count))
 
 -- code and words in a row
 flat : Call → List ℕ
@@ -78,12 +72,12 @@ expected =
     ∷ []
 
 cases : List Bool
-unfolding numberAt wordAt checkFrom good callsIn callAt digits decimal callLine eventLine badLine countersLine bytes words checked calls block flat output expected
+unfolding numberAt wordAt checkFrom good callsIn callAt digits decimal callLine eventLine badLine countersLine bytes words checkedBlock calls block flat output expected
 cases =
     eqb (length (block 5 0)) 512
     ∷ eqb (callsIn (block 5 0) 512) 5
-    ∷ same (flat (callAt 0 (block 5 0))) (0 ∷ 0 ∷ 0 ∷ 100 ∷ 0 ∷ 0 ∷ 0 ∷ 0 ∷ 0 ∷ [])
-    ∷ same (flat (callAt 4 (block 5 0))) (4 ∷ 9 ∷ 1 ∷ 1 ∷ 1028 ∷ 0 ∷ 5 ∷ 31 ∷ 0 ∷ [])
+    ∷ sameNumbers (flat (callAt 0 (block 5 0))) (0 ∷ 0 ∷ 0 ∷ 100 ∷ 0 ∷ 0 ∷ 0 ∷ 0 ∷ 0 ∷ [])
+    ∷ sameNumbers (flat (callAt 4 (block 5 0))) (4 ∷ 9 ∷ 1 ∷ 1 ∷ 1028 ∷ 0 ∷ 5 ∷ 31 ∷ 0 ∷ [])
     ∷ eqb (callAt 7 (block 5 0) .code) (2 ^ 64 - 1)
     -- short, wrong check, count 0, 7 and 8
     ∷ eqb (callsIn (block 5 0) 511) 0
@@ -93,14 +87,14 @@ cases =
     ∷ eqb (callsIn (block 7 0) 512) 7
     ∷ eqb (callsIn (block 8 0) 512) 0
     -- numbers: 0, the last word, the least i64
-    ∷ same (decimal 0) (48 ∷ [])
-    ∷ same (decimal (2 ^ 64 - 1)) (49 ∷ 56 ∷ 52 ∷ 52 ∷ 54 ∷ 55 ∷ 52 ∷ 52 ∷ 48 ∷ 55 ∷ 51 ∷ 55 ∷ 48 ∷ 57 ∷ 53 ∷ 53 ∷ 49 ∷ 54 ∷ 49 ∷ 53 ∷ [])
-    ∷ same (signedDecimal (negsuc (2 ^ 63 - 1))) (45 ∷ 57 ∷ 50 ∷ 50 ∷ 51 ∷ 51 ∷ 55 ∷ 50 ∷ 48 ∷ 51 ∷ 54 ∷ 56 ∷ 53 ∷ 52 ∷ 55 ∷ 55 ∷ 53 ∷ 56 ∷ 48 ∷ 56 ∷ [])
+    ∷ sameNumbers (decimal 0) (48 ∷ [])
+    ∷ sameNumbers (decimal (2 ^ 64 - 1)) (49 ∷ 56 ∷ 52 ∷ 52 ∷ 54 ∷ 55 ∷ 52 ∷ 52 ∷ 48 ∷ 55 ∷ 51 ∷ 55 ∷ 48 ∷ 57 ∷ 53 ∷ 53 ∷ 49 ∷ 54 ∷ 49 ∷ 53 ∷ [])
+    ∷ sameNumbers (signedDecimal (negsuc (2 ^ 63 - 1))) (45 ∷ 57 ∷ 50 ∷ 50 ∷ 51 ∷ 51 ∷ 55 ∷ 50 ∷ 48 ∷ 51 ∷ 54 ∷ 56 ∷ 53 ∷ 52 ∷ 55 ∷ 55 ∷ 53 ∷ 56 ∷ 48 ∷ 56 ∷ [])
     -- x 30 -1 1, n 0 -2 3, b 10
-    ∷ same (eventLine (letter 30 (negsuc 0) true)) (120 ∷ 32 ∷ 51 ∷ 48 ∷ 32 ∷ 45 ∷ 49 ∷ 32 ∷ 49 ∷ 10 ∷ [])
-    ∷ same (eventLine (null (newId 0 (negsuc 1) (pos 3)))) (110 ∷ 32 ∷ 48 ∷ 32 ∷ 45 ∷ 50 ∷ 32 ∷ 51 ∷ 10 ∷ [])
-    ∷ same (badLine 10) (98 ∷ 32 ∷ 49 ∷ 48 ∷ 10 ∷ [])
-    ∷ same output expected
+    ∷ sameNumbers (eventLine (letter 30 (negsuc 0) true)) (120 ∷ 32 ∷ 51 ∷ 48 ∷ 32 ∷ 45 ∷ 49 ∷ 32 ∷ 49 ∷ 10 ∷ [])
+    ∷ sameNumbers (eventLine (null (newId 0 (negsuc 1) (pos 3)))) (110 ∷ 32 ∷ 48 ∷ 32 ∷ 45 ∷ 50 ∷ 32 ∷ 51 ∷ 10 ∷ [])
+    ∷ sameNumbers (badLine 10) (98 ∷ 32 ∷ 49 ∷ 48 ∷ 10 ∷ [])
+    ∷ sameNumbers output expected
     ∷ []
 
 all-right : T (every cases)

@@ -5,13 +5,13 @@ use mathlib.Core.Bool.{Bool, not}
 use mathlib.Core.List.{List, [], _∷_, _++_}
 use mathlib.Core.Option.{Option, none, some}
 use lib.Dec.{ltb, eqb}
-use lib.ListN.{getD}
 use lib.IntN.{ℤ, pos, negsuc}
 use mir.Val.{boolByte}
 use Rattle.words.specs.Pick.{if_then_else_}
 use Rattle.words.specs.Words.{signed}
 use Rattle.model.specs.Model.{idOf}
 use Rattle.definition.specs.Types.{Id, Stats, Event, letter, message, null}
+use Rattle.definition.specs.Words.{at}
 
 -- a number's decimal digits, the highest first: up to k + 1 of them
 unfoldable pub digits : ℕ → ℕ → List ℕ
@@ -55,32 +55,29 @@ eventLine (message i seq redelivery) = 100 ∷ (idFields i ++ (field seq ++ (sig
 eventLine (null i) = 110 ∷ (idFields i ++ newline)
 
 -- the event in the six words of an event list, by kind; none for words of another kind
-abbrev pub word : ℕ → List ℕ → ℕ
-word k ws = getD ws k 0
-
 abbrev pub letterAt : List ℕ → Event
-letterAt ws = letter (word 1 ws) (signed (word 2 ws)) (not (eqb (word 3 ws) 0))
+letterAt ws = letter (at 1 ws) (signed (at 2 ws)) (not (eqb (at 3 ws) 0))
 
 abbrev pub messageAt : List ℕ → Event
-messageAt ws = message (idOf (word 1 ws) (word 2 ws) (word 3 ws)) (word 4 ws) (signed (word 5 ws))
+messageAt ws = message (idOf (at 1 ws) (at 2 ws) (at 3 ws)) (at 4 ws) (signed (at 5 ws))
 
 abbrev pub nullAt : List ℕ → Event
-nullAt ws = null (idOf (word 1 ws) (word 2 ws) (word 3 ws))
+nullAt ws = null (idOf (at 1 ws) (at 2 ws) (at 3 ws))
 
 unfoldable pub eventAt : List ℕ → Option Event
 eventAt ws =
-    if eqb (word 0 ws) 1 then some (letterAt ws)
-    else if eqb (word 0 ws) 2 then some (messageAt ws)
-    else if eqb (word 0 ws) 3 then some (nullAt ws)
+    if eqb (at 0 ws) 1 then some (letterAt ws)
+    else if eqb (at 0 ws) 2 then some (messageAt ws)
+    else if eqb (at 0 ws) 3 then some (nullAt ws)
     else none
 
 -- its line; no line for none
-unfoldable pub lineOf : Option Event → List ℕ
-lineOf none = []
-lineOf (some e) = eventLine e
+unfoldable pub eventLineOf : Option Event → List ℕ
+eventLineOf none = []
+eventLineOf (some e) = eventLine e
 
 abbrev pub wordsLine : List ℕ → List ℕ
-wordsLine ws = lineOf (eventAt ws)
+wordsLine ws = eventLineOf (eventAt ws)
 
 -- `b` and the block's number
 unfoldable pub badLine : ℕ → List ℕ

@@ -14,18 +14,18 @@ pub record Puts (part : List ℕ) (at : ℕ) (out : List ℕ) (r : ℕ) (out′ 
   pub next : r ≡ at + length part
   pub same : length out′ ≡ length out
 
--- a line is put where there is room for the longest
-abbrev pub room : ℕ → List ℕ → Bool
-room at out = leb (at + 128) (length out)
+-- a line is put where there is room for so many bytes
+abbrev pub lineRoom : ℕ → ℕ → List ℕ → Bool
+lineRoom most at out = leb (at + most) (length out)
 
 -- the buffer with a line from `at` on, and the place after it; without room, as it was
-unfoldable pub placed : List ℕ → ℕ → List ℕ → List ℕ
-placed line at out = if room at out then take at out ++ (line ++ drop (at + length line) out) else out
+unfoldable pub linePlaced : ℕ → List ℕ → ℕ → List ℕ → List ℕ
+linePlaced most line at out = if lineRoom most at out then take at out ++ (line ++ drop (at + length line) out) else out
 
-unfoldable pub after : List ℕ → ℕ → List ℕ → ℕ
-after line at out = if room at out then at + length line else at
+unfoldable pub placeAfter : ℕ → List ℕ → ℕ → List ℕ → ℕ
+placeAfter most line at out = if lineRoom most at out then at + length line else at
 
 -- what putting a line leaves
-pub record Line (line : List ℕ) (at : ℕ) (out : List ℕ) (r : ℕ) (out′ : List ℕ) : Type 0 where
-  pub text : out′ ≡ placed line at out
-  pub next : r ≡ after line at out
+pub record PutLine (most : ℕ) (line : List ℕ) (at : ℕ) (out : List ℕ) (r : ℕ) (out′ : List ℕ) : Type 0 where
+  pub text : out′ ≡ linePlaced most line at out
+  pub next : r ≡ placeAfter most line at out

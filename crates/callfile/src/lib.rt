@@ -8,7 +8,7 @@ ghost use Rattle.words.specs.Words.{signed};
 ghost use Rattle.model.specs.Model.{idOf};
 ghost use Rattle.callfile.specs.Blocks.{byteAt, numberAt, wordAt, check, checkIn, callsIn, callAt};
 ghost use Rattle.callfile.specs.Lines.{decimal, field, signedField, wordField, idFields, callLine, eventLine, letterAt, messageAt, nullAt, wordsLine, badLine, countersLine};
-ghost use Rattle.callfile.specs.Placed.{Puts, Line};
+ghost use Rattle.callfile.specs.Placed.{Puts, PutLine};
 use calls::Call;
 use stats::Stats;
 
@@ -29,17 +29,11 @@ const MINUS_ONE: u64 = 18446744073709551615;
 
 // ---- blocks
 
-fn wide(b: u8) -> u64
-    ensures { λ r. ⌜ (r ≡ b) × (r < 256) ⌝ }
-{
-    b as u64
-}
-
 fn byte_at(block: &[u8], i: usize) -> u64
     requires { do ⌜ i < (← ⟦block.len()⟧) ⌝ }
     ensures { λ r. ⌜ (r ≡ byteAt i (now (block .entry))) × (r < 256) ⌝ }
 {
-    wide(block[i])
+    words::wide(block[i])
 }
 
 // The number of 4 bytes from a place on, little-endian.
@@ -181,14 +175,47 @@ fn put_id(out: &mut [u8], at: usize, conn: u64, session: u64, value: u64) -> usi
     put_signed(out, b, value)
 }
 
-// Whether there is room for a line.
-fn room(len: usize, at: usize) -> bool
-    ensures { λ r. ⌜ r ≡ leb (at + 128) len ⌝ }
+// Whether there is room for so many bytes.
+fn room(len: usize, at: usize, most: usize) -> bool
+    ensures { λ r. ⌜ r ≡ leb (at + most) len ⌝ }
 {
-    if len < LINE {
+    if len < most {
         return false;
     }
-    at <= len - LINE
+    at <= len - most
+}
+
+// A byte. Without room for it, nothing is put.
+pub fn put_byte(out: &mut [u8], at: usize, b: u8) -> usize
+    ensures { λ r. ⌜ PutLine 1 (b ∷ []) at (now (out .entry)) r (now (out .exit)) ⌝ }
+{
+    if !room(out.len(), at, 1) {
+        return at;
+    }
+    put(out, at, b)
+}
+
+fn put_each(out: &mut [u8], at: usize, part: &[u8]) -> usize
+    requires { ⌜ at + length (now part) ≤ length (now out) ⌝ }
+    ensures { λ r. ⌜ Puts (now (part .entry)) at (now (out .entry)) r (now (out .exit)) ⌝ }
+{
+    let mut next = at;
+    let mut i = 0;
+    while i < part.len() {
+        next = put(out, next, part[i]);
+        i += 1;
+    }
+    next
+}
+
+// Bytes, one after the other. Without room for all, nothing is put.
+pub fn put_all(out: &mut [u8], at: usize, part: &[u8]) -> usize
+    ensures { λ r. ⌜ PutLine (length (now (part .entry))) (now (part .entry)) at (now (out .entry)) r (now (out .exit)) ⌝ }
+{
+    if !room(out.len(), at, part.len()) {
+        return at;
+    }
+    put_each(out, at, part)
 }
 
 fn word_field(out: &mut [u8], at: usize, w: u64, minus: bool) -> usize
@@ -203,9 +230,9 @@ fn word_field(out: &mut [u8], at: usize, w: u64, minus: bool) -> usize
 
 // A space and a word, as a signed number or not. Without room for the longest line, nothing is put; and so below.
 pub fn put_word(out: &mut [u8], at: usize, w: u64, minus: bool) -> usize
-    ensures { λ r. ⌜ Line (wordField minus w) at (now (out .entry)) r (now (out .exit)) ⌝ }
+    ensures { λ r. ⌜ PutLine 128 (wordField minus w) at (now (out .entry)) r (now (out .exit)) ⌝ }
 {
-    if !room(out.len(), at) {
+    if !room(out.len(), at, LINE) {
         return at;
     }
     word_field(out, at, w, minus)
@@ -223,9 +250,9 @@ fn call_line(out: &mut [u8], at: usize, index: u64, refusal: u64, answer: u64) -
 
 // A call's line: index, refusal, answer.
 pub fn put_call(out: &mut [u8], at: usize, index: u64, refusal: u64, answer: u64) -> usize
-    ensures { λ r. ⌜ Line (callLine index refusal answer) at (now (out .entry)) r (now (out .exit)) ⌝ }
+    ensures { λ r. ⌜ PutLine 128 (callLine index refusal answer) at (now (out .entry)) r (now (out .exit)) ⌝ }
 {
-    if !room(out.len(), at) {
+    if !room(out.len(), at, LINE) {
         return at;
     }
     call_line(out, at, index, refusal, answer)
@@ -265,9 +292,9 @@ fn null_line(out: &mut [u8], at: usize, e: [u64; 6]) -> usize
 
 // The line of an event in its six words; words of another kind have none.
 pub fn put_event(out: &mut [u8], at: usize, e: [u64; 6]) -> usize
-    ensures { λ r. ⌜ Line (wordsLine e) at (now (out .entry)) r (now (out .exit)) ⌝ }
+    ensures { λ r. ⌜ PutLine 128 (wordsLine e) at (now (out .entry)) r (now (out .exit)) ⌝ }
 {
-    if !room(out.len(), at) {
+    if !room(out.len(), at, LINE) {
         return at;
     }
     let kind = e[0];
@@ -290,9 +317,9 @@ fn bad_line(out: &mut [u8], at: usize, block: u64) -> usize
 
 // The line of a block that ends the reading.
 pub fn put_bad(out: &mut [u8], at: usize, block: u64) -> usize
-    ensures { λ r. ⌜ Line (badLine block) at (now (out .entry)) r (now (out .exit)) ⌝ }
+    ensures { λ r. ⌜ PutLine 128 (badLine block) at (now (out .entry)) r (now (out .exit)) ⌝ }
 {
-    if !room(out.len(), at) {
+    if !room(out.len(), at, LINE) {
         return at;
     }
     bad_line(out, at, block)
@@ -313,9 +340,9 @@ fn counters_line(out: &mut [u8], at: usize, s: Stats) -> usize
 
 // The last line: the five counters.
 pub fn put_counters(out: &mut [u8], at: usize, s: Stats) -> usize
-    ensures { λ r. ⌜ Line (countersLine s) at (now (out .entry)) r (now (out .exit)) ⌝ }
+    ensures { λ r. ⌜ PutLine 128 (countersLine s) at (now (out .entry)) r (now (out .exit)) ⌝ }
 {
-    if !room(out.len(), at) {
+    if !room(out.len(), at, LINE) {
         return at;
     }
     counters_line(out, at, s)

@@ -7,11 +7,11 @@ use mathlib.Core.List.{List}
 use mathlib.Core.Option.{Option, some}
 use Rattle.definition.specs.Base.{is-some}
 use Rattle.definition.specs.Calls.{Call, argumentsOk}
-use Rattle.definition.specs.Words.{provided, read, inRange, decode}
+use Rattle.definition.specs.Words.{provided, read, rangedCall, decode}
 use Rattle.definition.proofs.Tests.{by-test, and-left, and-right}
 
 -- whether such words are arguments: flags and unused words, and ranges
-pub some-provided : (b : Bool) (c : Call) → is-some (inRange (provided b c)) ≡ (b && argumentsOk c)
+pub some-provided : (b : Bool) (c : Call) → is-some (rangedCall (provided b c)) ≡ (b && argumentsOk c)
 unfolding provided
 some-provided false c = refl
 some-provided true c = by-test (argumentsOk c) (λ e. rw e) (λ e. rw e)
@@ -25,7 +25,7 @@ pub record Decoded (code : ℕ) (ws : List ℕ) (b : Bool) (c : Call) : Type 0 w
 pub decoded : (code : ℕ) (ws : List ℕ) (b : Bool) (c : Call) → read code ws ≡ provided b c → is-some (decode code ws) ≡ true → Decoded code ws b c
 unfolding decode provided
 decoded code ws b c e t =
-    let s : (b && argumentsOk c) ≡ true = sym (some-provided b c) ∙ ap (λ (o : Option Call). is-some (inRange o)) (sym e) ∙ t in
+    let s : (b && argumentsOk c) ≡ true = sym (some-provided b c) ∙ ap (λ (o : Option Call). is-some (rangedCall o)) (sym e) ∙ t in
     let k : b ≡ true = and-left b (argumentsOk c) s in
     let a : argumentsOk c ≡ true = and-right b (argumentsOk c) s in
     record { call = rw (e, k, a); arguments = a; known = k }

@@ -13,8 +13,8 @@ use Rattle.words.specs.Words.{signed, int, isInt}
 use Rattle.words.proofs.Words.{int-signed}
 use Rattle.entry.specs.Entry.{bit, withRedelivery}
 use Rattle.definition.specs.Base.{is-some, all}
-use Rattle.definition.specs.Calls.{word, within, clockOk, idOk, optional, argumentsOk}
-use Rattle.definition.specs.Words.{at, idOf, entryOf, present, unusedFrom, shareOf, read, decode}
+use Rattle.definition.specs.Calls.{word, signedWithin, clockOk, idOk, optional, argumentsOk}
+use Rattle.definition.specs.Words.{at, idIn, entryIn, present, unusedFrom, shareOf, read, decode}
 use Rattle.definition.proofs.Tests.{by-test, and-left, and-right}
 use Rattle.calls.specs.Calls.{Words}
 use Rattle.calls.specs.Ranges.{enqueues, joins, acks, timed, prefetches, clocked, sweeps}
@@ -23,7 +23,7 @@ use Rattle.calls.proofs.Decoded.{some-provided}
 -- ---- words
 
 -- the number that a word holds is an i64
-pub within-signed : (w : ℕ) → w < 2 ^ 64 → within (2 ^ 63) (signed w) ≡ true
+pub within-signed : (w : ℕ) → w < 2 ^ 64 → signedWithin (2 ^ 63) (signed w) ≡ true
 within-signed w h = by-test (ltb w (2 ^ 63))
     (λ c. rw (c, c))
     (λ c.
@@ -31,7 +31,7 @@ within-signed w h = by-test (ltb w (2 ^ 63))
     rw (c, lt-ltb (2 ^ 64 - suc w) (2 ^ 63) (omega arith)))
 
 -- and an i32 where the test says so
-pub within-int : (w : ℕ) → w < 2 ^ 64 → within (2 ^ 31) (signed w) ≡ isInt w
+pub within-int : (w : ℕ) → w < 2 ^ 64 → signedWithin (2 ^ 31) (signed w) ≡ isInt w
 within-int w h = by-test (ltb w (2 ^ 63))
     (λ c.
     let k : w < 2 ^ 63 = ltb-true w (2 ^ 63) c in
@@ -52,10 +52,10 @@ module _ (ws : List ℕ) (h : Words ws) where
   pub word-ok : (k : ℕ) → word (at k ws) ≡ true
   word-ok k = lt-ltb (at k ws) (2 ^ 64) (h .word k)
 
-  pub signed-ok : (k : ℕ) → within (2 ^ 63) (signed (at k ws)) ≡ true
+  pub signed-ok : (k : ℕ) → signedWithin (2 ^ 63) (signed (at k ws)) ≡ true
   signed-ok k = within-signed (at k ws) (h .word k)
 
-  pub id-ok : idOk (idOf ws) ≡ true
+  pub id-ok : idOk (idIn ws) ≡ true
   id-ok = λ i. word-ok 0 i && (signed-ok 1 i && signed-ok 2 i)
 
   present-ok : (b : Bool) (k : ℕ) → optional word (present b (at k ws)) ≡ true
@@ -65,7 +65,7 @@ module _ (ws : List ℕ) (h : Words ws) where
   type-ok : ltb (at 3 ws % 256) 256 ≡ true
   type-ok = lt-ltb (at 3 ws % 256) 256 (omega arith)
 
-  int-ok : (k : ℕ) → within (2 ^ 31) (signed (at k ws)) ≡ isInt (at k ws)
+  int-ok : (k : ℕ) → signedWithin (2 ^ 31) (signed (at k ws)) ≡ isInt (at k ws)
   int-ok k = within-int (at k ws) (h .word k)
 
   -- no word is left after eight
@@ -92,7 +92,7 @@ module _ (ws : List ℕ) (h : Words ws) where
       ∙ (λ i. (ltb (at 3 ws) 4096 && ((bit (at 3 ws) 9 || eqb (at 4 ws) 0) && ((bit (at 3 ws) 10 || eqb (at 5 ws) 0) && unusedFrom 7 ws))) && (id-ok i && ((type-ok i && (present-ok (bit (at 3 ws) 9) 4 i && present-ok (bit (at 3 ws) 10) 5 i)) && clockOk (at 6 ws))))
       ∙ simp and-assoc
 
-  timed-ok : (unusedFrom 5 ws && (idOk (idOf ws) && (within (2 ^ 63) (signed (at 3 ws)) && clockOk (at 4 ws)))) ≡ timed ws
+  timed-ok : (unusedFrom 5 ws && (idOk (idIn ws) && (signedWithin (2 ^ 63) (signed (at 3 ws)) && clockOk (at 4 ws)))) ≡ timed ws
   unfolding timed
   timed-ok = λ i. unusedFrom 5 ws && (id-ok i && (signed-ok 3 i && clockOk (at 4 ws)))
 
@@ -108,7 +108,7 @@ module _ (ws : List ℕ) (h : Words ws) where
   unfolding decode read argumentsOk prefetches
   prefetch-range = some-provided _ _ ∙ (λ i. unusedFrom 5 ws && (id-ok i && (int-ok 3 i && clockOk (at 4 ws)))) ∙ simp and-assoc
 
-  clocked-ok : (unusedFrom 4 ws && (idOk (idOf ws) && clockOk (at 3 ws))) ≡ clocked ws
+  clocked-ok : (unusedFrom 4 ws && (idOk (idIn ws) && clockOk (at 3 ws))) ≡ clocked ws
   unfolding clocked
   clocked-ok = λ i. unusedFrom 4 ws && (id-ok i && clockOk (at 3 ws))
 
@@ -124,7 +124,7 @@ module _ (ws : List ℕ) (h : Words ws) where
   unfolding decode read argumentsOk sweeps
   sweep-range = some-provided _ _ ∙ simp and-assoc
 
-  numbered-ok : (unusedFrom 4 ws && (idOk (idOf ws) && word (at 3 ws))) ≡ unusedFrom 4 ws
+  numbered-ok : (unusedFrom 4 ws && (idOk (idIn ws) && word (at 3 ws))) ≡ unusedFrom 4 ws
   numbered-ok = (λ i. unusedFrom 4 ws && (id-ok i && word-ok 3 i)) ∙ and-true (unusedFrom 4 ws)
 
   pub timeout-range : is-some (decode 6 ws) ≡ unusedFrom 4 ws
@@ -139,7 +139,7 @@ module _ (ws : List ℕ) (h : Words ws) where
   unfolding decode read argumentsOk
   clear-range = some-provided _ _ ∙ and-true (unusedFrom 0 ws)
 
-  named-ok : (unusedFrom 3 ws && idOk (idOf ws)) ≡ unusedFrom 3 ws
+  named-ok : (unusedFrom 3 ws && idOk (idIn ws)) ≡ unusedFrom 3 ws
   named-ok = (λ i. unusedFrom 3 ws && id-ok i) ∙ and-true (unusedFrom 3 ws)
 
   pub unmark-range : is-some (decode 8 ws) ≡ unusedFrom 3 ws
@@ -157,13 +157,13 @@ module _ (ws : List ℕ) (h : Words ws) where
 -- ---- an entry
 
 -- the redelivery of words in range is the whole number
-pub entry-whole : (ws : List ℕ) → Words ws → is-some (decode 1 ws) ≡ true → withRedelivery (int (at 5 ws)) (entryOf ws) ≡ entryOf ws
+pub entry-whole : (ws : List ℕ) → Words ws → is-some (decode 1 ws) ≡ true → withRedelivery (int (at 5 ws)) (entryIn ws) ≡ entryIn ws
 unfolding enqueues
 entry-whole ws h t =
     let known : Bool = leb (at 2 ws) 1 && leb 1 (at 0 ws) && ltb (at 0 ws) (2 ^ 63) in
     let q : (known && isInt (at 5 ws) && ltb (at 7 ws) (2 ^ 32)) ≡ true = and-left (known && isInt (at 5 ws) && ltb (at 7 ws) (2 ^ 32)) (clockOk (at 6 ws)) (sym (enqueue-range ws h) ∙ t) in
     let p : (known && isInt (at 5 ws)) ≡ true = and-left (known && isInt (at 5 ws)) (ltb (at 7 ws) (2 ^ 32)) q in
-    ap (λ (z : ℤ). withRedelivery z (entryOf ws)) (int-signed (at 5 ws) (h .word 5) (and-right known (isInt (at 5 ws)) p))
+    ap (λ (z : ℤ). withRedelivery z (entryIn ws)) (int-signed (at 5 ws) (h .word 5) (and-right known (isInt (at 5 ws)) p))
 
 -- ---- an arm of the match on the code
 

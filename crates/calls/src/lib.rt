@@ -5,7 +5,7 @@ ghost use Prim.Native.Nat.{_%_};
 ghost use Rattle.words.specs.Words.{int};
 ghost use Rattle.entry.specs.Entry.{bit, withRedelivery};
 ghost use Rattle.definition.specs.Base.{is-some};
-ghost use Rattle.definition.specs.Words.{at, idOf, entryOf, unusedFrom, decode, openWords};
+ghost use Rattle.definition.specs.Words.{at, idIn, entryIn, unusedFrom, decode, openWords};
 ghost use Rattle.calls.specs.Calls.{newCall, Words};
 ghost use Rattle.calls.specs.Ranges.{enqueues, joins, acks, timed, prefetches, clocked, sweeps};
 use entry::Entry;
@@ -103,7 +103,7 @@ impl Call {
 
     // Words 0 to 2.
     pub fn id_of(self) -> Id
-        ensures { λ r. ⌜ r ≡ idOf (self .words) ⌝ }
+        ensures { λ r. ⌜ r ≡ idIn (self .words) ⌝ }
     {
         let w = self.words;
         Id::of_words(w[0], w[1], w[2])
@@ -111,8 +111,8 @@ impl Call {
 
     // The entry of an enqueue. Its redelivery is in the lower half of its word, which is the whole number where the words are in range.
     pub fn entry_of(self) -> Entry
-        ensures { λ r. ⌜ r ≡ withRedelivery (int (at 5 (self .words))) (entryOf (self .words)) ⌝ }
-        ensures { λ r. ⌜ (is-some (decode 1 (self .words)) ≡ true → r ≡ entryOf (self .words)) ⌝ }
+        ensures { λ r. ⌜ r ≡ withRedelivery (int (at 5 (self .words))) (entryIn (self .words)) ⌝ }
+        ensures { λ r. ⌜ (is-some (decode 1 (self .words)) ≡ true → r ≡ entryIn (self .words)) ⌝ }
     {
         let w = self.words;
         words_fit(w);

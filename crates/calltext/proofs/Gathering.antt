@@ -9,45 +9,45 @@ use Rattle.textwords.specs.declared.Stop.the-variants.{Remark}
 use Rattle.textwords.specs.Text.{run, plain, wordsOf}
 use Rattle.textwords.specs.declared.Number.the-variants.{Of, Bad}
 use Rattle.textwords.specs.Numbers.{numberOf}
-use Rattle.calltext.specs.Names.{placeOf}
-use Rattle.calltext.specs.Lines.{parsed, without, callOf, gather, named, callIn, lineCall}
+use Rattle.calltext.specs.Names.{namePlace}
+use Rattle.calltext.specs.Lines.{parsedCall, withoutCall, callOf, gatherCall, namedCall, callIn, lineCall}
 
 module _ (n : ℕ) (nine : List ℕ) where
-  pub gathered : gather n nine [] ≡ parsed 0 (callOf nine)
-  unfolding gather
+  pub gathered : gatherCall n nine [] ≡ parsedCall 0 (callOf nine)
+  unfolding gatherCall
   gathered = refl
 
   module _ (w : List ℕ) (ws : List (List ℕ)) where
-    pub too-many : n ≡ 9 → gather n nine (w ∷ ws) ≡ without 4
-    unfolding gather
+    pub too-many : n ≡ 9 → gatherCall n nine (w ∷ ws) ≡ withoutCall 4
+    unfolding gatherCall
     too-many e = rw (eq-eqb n 9 e)
 
-    pub no-number : (n ≡ 9 → ⊥) → numberOf w ≡ Bad → gather n nine (w ∷ ws) ≡ without 3
-    unfolding gather
+    pub no-number : (n ≡ 9 → ⊥) → numberOf w ≡ Bad → gatherCall n nine (w ∷ ws) ≡ withoutCall 3
+    unfolding gatherCall
     no-number h e = rw (ne-eqb n 9 h, e)
 
-    pub one-number : (n ≡ 9 → ⊥) → (v : ℕ) → numberOf w ≡ Of v → gather n nine (w ∷ ws) ≡ gather (n + 1) (set nine n v) ws
-    unfolding gather
+    pub one-number : (n ≡ 9 → ⊥) → (v : ℕ) → numberOf w ≡ Of v → gatherCall n nine (w ∷ ws) ≡ gatherCall (n + 1) (set nine n v) ws
+    unfolding gatherCall
     one-number h v e = rw (ne-eqb n 9 h, e)
 
 module _ (place : ℕ) (ws : List (List ℕ)) where
-  pub by-code : place < 16 → named place ws ≡ gather 1 (set (replicate 9 0) 0 place) ws
-  unfolding named
+  pub by-code : place < 16 → namedCall place ws ≡ gatherCall 1 (set (replicate 9 0) 0 place) ws
+  unfolding namedCall
   by-code h = rw (le-leb place 15 (omega arith))
 
-  pub by-raw : place ≡ 16 → named place ws ≡ gather 0 (replicate 9 0) ws
-  unfolding named
+  pub by-raw : place ≡ 16 → namedCall place ws ≡ gatherCall 0 (replicate 9 0) ws
+  unfolding namedCall
   by-raw e = rw (lt-leb place 15 (omega arith), eq-eqb place 16 e)
 
-  pub unknown : 16 < place → named place ws ≡ without 2
-  unfolding named
+  pub unknown : 16 < place → namedCall place ws ≡ withoutCall 2
+  unfolding namedCall
   unknown h = let n : place ≡ 16 → ⊥ = λ e. omega arith in rw (lt-leb place 15 (omega arith), ne-eqb place 16 n)
 
-pub no-call : callIn [] ≡ without 1
+pub no-call : callIn [] ≡ withoutCall 1
 unfolding callIn
 no-call = refl
 
-pub one-call : (w : List ℕ) (ws : List (List ℕ)) → callIn (w ∷ ws) ≡ named (placeOf w) ws
+pub one-call : (w : List ℕ) (ws : List (List ℕ)) → callIn (w ∷ ws) ≡ namedCall (namePlace w) ws
 unfolding callIn
 one-call w ws = refl
 

@@ -19,9 +19,9 @@ use Rattle.callfile.proofs.Sets.{sets-before, sets-after, sets-in}
 use Rattle.textwords.specs.declared.Stop.the-variants.{LineEnd}
 use Rattle.textwords.specs.Text.{run, wordsOf, sameText}
 use Rattle.textwords.proofs.Spaced.{solid, Solid, Solids, spaced, spaced-append, words-spaced, plain-spaced, line-ends}
-use Rattle.calltext.specs.Names.{names, nameAt, placeIn, placeOf, placeFor, kindAt, minusAt}
-use Rattle.calltext.specs.Lines.{parsed, callOf, gather, named, callIn, lineCall}
-use Rattle.calltext.specs.Shown.{shown, fields, shownFields, codeField, callText}
+use Rattle.calltext.specs.Names.{names, nameAt, placeIn, namePlace, codePlace, kindAt, minusAt}
+use Rattle.calltext.specs.Lines.{parsedCall, callOf, gatherCall, namedCall, callIn, lineCall}
+use Rattle.calltext.specs.Shown.{shownWords, fields, shownFields, codeField, callText}
 use Rattle.calltext.proofs.Tables.{values, value, value-from}
 use Rattle.calltext.proofs.Gathering.{gathered, one-number, by-code, by-raw, one-call}
 use Rattle.calltext.proofs.Showing.{place-known, place-raw, code-known, code-raw}
@@ -63,7 +63,7 @@ solids place k [] f = tt
 solids place k (w ∷ ws) f = (text-read (minusAt place k) w (f 0) .word, solids place (suc k) ws (λ j. f (suc j)))
 
 -- their numbers go to the places from m on
-gather-texts : (place k : ℕ) (ws : List ℕ) (m : ℕ) (nine : List ℕ) → m + length ws ≤ 9 → Fit ws → gather m nine (textsOf place k ws) ≡ parsed 0 (callOf (sets nine m ws))
+gather-texts : (place k : ℕ) (ws : List ℕ) (m : ℕ) (nine : List ℕ) → m + length ws ≤ 9 → Fit ws → gatherCall m nine (textsOf place k ws) ≡ parsedCall 0 (callOf (sets nine m ws))
 unfolding textsOf
 gather-texts place k [] m nine h f = gathered m nine
 gather-texts place k (w ∷ ws) m nine h f =
@@ -72,20 +72,20 @@ gather-texts place k (w ∷ ws) m nine h f =
 
 -- ---- the words that are not written are 0
 
-shown-within : (place : ℕ) (ws : List ℕ) (n : ℕ) → shown place ws n ≤ n
-unfolding shown
+shown-within : (place : ℕ) (ws : List ℕ) (n : ℕ) → shownWords place ws n ≤ n
+unfolding shownWords
 shown-within place ws zero = omega arith
 shown-within place ws (suc n) = by-test (eqb (kindAt place n) 0 && eqb (getD ws n 0) 0)
     (λ t. rw t (omega (arith, shown-within place ws n)))
     (λ t. rw t (omega arith))
 
-shown-rest : (place : ℕ) (ws : List ℕ) (n j : ℕ) → shown place ws n ≤ j → j < n → getD ws j 0 ≡ 0
-unfolding shown
+shown-rest : (place : ℕ) (ws : List ℕ) (n j : ℕ) → shownWords place ws n ≤ j → j < n → getD ws j 0 ≡ 0
+unfolding shownWords
 shown-rest place ws zero j h k = absurd (omega arith)
 shown-rest place ws (suc n) j h k = by-test (eqb (kindAt place n) 0 && eqb (getD ws n 0) 0)
     (λ t.
     let z : getD ws n 0 ≡ 0 = eqb-true (getD ws n 0) 0 (and-eq-true-iff (eqb (kindAt place n) 0) (eqb (getD ws n 0) 0) .0 t .1) in
-    let g : shown place ws n ≤ j = rw t at h in
+    let g : shownWords place ws n ≤ j = rw t at h in
     by-test (ltb j n)
     (λ u. shown-rest place ws n j g (ltb-true j n u))
     (λ u. let e : j ≡ n = omega (arith, ltb-false j n u) in ap (λ (i : ℕ). getD ws i 0) e ∙ z))
@@ -136,10 +136,10 @@ module _ (code n : ℕ) (ws : List ℕ) (eight : length ws ≡ 8) (low : n ≤ 8
 
 -- ---- names
 
-name-place : (k : ℕ) → k < 17 → placeOf (nameAt k) ≡ k
-unfolding names placeOf placeIn values sameText
+name-place : (k : ℕ) → k < 17 → namePlace (nameAt k) ≡ k
+unfolding names namePlace placeIn values sameText
 name-place k h =
-    sym (value (λ (j : ℕ). placeOf (nameAt j)) 0 17 k (values (λ (j : ℕ). j) 0 17) refl h) ∙ value (λ (j : ℕ). j) 0 17 k (values (λ (j : ℕ). j) 0 17) refl h
+    sym (value (λ (j : ℕ). namePlace (nameAt j)) 0 17 k (values (λ (j : ℕ). j) 0 17) refl h) ∙ value (λ (j : ℕ). j) 0 17 k (values (λ (j : ℕ). j) 0 17) refl h
 
 name-solid : (k : ℕ) → k < 17 → Solid (nameAt k)
 unfolding names values solid
@@ -152,24 +152,24 @@ name-solid k h = (
 
 -- a call's text without the end of the line
 unfoldable pub lineText : Call → List ℕ
-lineText c = nameAt (placeFor (c .code)) ++ (codeField (c .code) ++ shownFields (placeFor (c .code)) (c .words))
+lineText c = nameAt (codePlace (c .code)) ++ (codeField (c .code) ++ shownFields (codePlace (c .code)) (c .words))
 
 pub text-ends : (c : Call) → callText c ≡ lineText c ++ newline
 unfolding callText lineText
 text-ends c = simp append-assoc
 
-read-line : (place : ℕ) (ws : List (List ℕ)) → place < 17 → Solids ws → lineCall (nameAt place ++ spaced ws) ≡ named place ws
+read-line : (place : ℕ) (ws : List (List ℕ)) → place < 17 → Solids ws → lineCall (nameAt place ++ spaced ws) ≡ namedCall place ws
 unfolding lineCall
 read-line place ws h s =
     let n = name-solid place h in
-    ap (λ (t : List ℕ). callIn (wordsOf t)) (plain-spaced (nameAt place) ws n s) ∙ ap callIn (words-spaced (nameAt place) ws n s) ∙ one-call (nameAt place) ws ∙ ap (λ (p : ℕ). named p ws) (name-place place h)
+    ap (λ (t : List ℕ). callIn (wordsOf t)) (plain-spaced (nameAt place) ws n s) ∙ ap callIn (words-spaced (nameAt place) ws n s) ∙ one-call (nameAt place) ws ∙ ap (λ (p : ℕ). namedCall p ws) (name-place place h)
 
 module _ (c : Call) (fits : c .code < 2 ^ 64) (words : Words (c .words)) where
   place : ℕ
-  place = placeFor (c .code)
+  place = codePlace (c .code)
 
   count : ℕ
-  count = shown place (c .words) 8
+  count = shownWords place (c .words) 8
 
   within : count ≤ 8
   unfolding count
@@ -187,11 +187,11 @@ module _ (c : Call) (fits : c .code < 2 ^ 64) (words : Words (c .words)) where
   fit : Fit (take count (c .words))
   fit = fit-take count (c .words) (words .word)
 
-  gathers : gather 1 (set (replicate 9 0) 0 (c .code)) texts ≡ parsed 0 c
+  gathers : gatherCall 1 (set (replicate 9 0) 0 (c .code)) texts ≡ parsedCall 0 c
   unfolding nine texts count
   gathers =
       let n = length-take-le count (c .words) (omega (arith, within, words .eight)) in
-      gather-texts place 0 (take count (c .words)) 1 (set (replicate 9 0) 0 (c .code)) (omega (arith, n, within)) fit ∙ ap (parsed 0) (nine-call (c .code) count (c .words) (words .eight) within (λ j a b. shown-rest place (c .words) 8 j a b))
+      gather-texts place 0 (take count (c .words)) 1 (set (replicate 9 0) 0 (c .code)) (omega (arith, n, within)) fit ∙ ap (parsedCall 0) (nine-call (c .code) count (c .words) (words .eight) within (λ j a b. shown-rest place (c .words) 8 j a b))
 
   shown-text : shownFields place (c .words) ≡ spaced texts
   unfolding texts count
@@ -219,18 +219,18 @@ module _ (c : Call) (fits : c .code < 2 ^ 64) (words : Words (c .words)) where
       (λ t. rw t (ap (λ (l : List ℕ). nameAt place ++ l) (rw (code-known (c .code) (ltb-true (c .code) 16 t)) shown-text)))
       (λ t. rw t (ap (λ (l : List ℕ). nameAt place ++ l) (rw (code-raw (c .code) (ltb-false (c .code) 16 t)) (ap (λ (l : List ℕ). field (c .code) ++ l) shown-text))))
 
-  after-named : named place after ≡ parsed 0 c
+  after-named : namedCall place after ≡ parsedCall 0 c
   unfolding place after
   after-named = by-test (ltb (c .code) 16)
       (λ t.
       let h : c .code < 16 = ltb-true (c .code) 16 t in
-      rw t (ap (λ (k : ℕ). named k texts) (sym (place-known (c .code) h)) ∙ by-code (c .code) texts h ∙ gathers))
+      rw t (ap (λ (k : ℕ). namedCall k texts) (sym (place-known (c .code) h)) ∙ by-code (c .code) texts h ∙ gathers))
       (λ t.
       let p : place ≡ 16 = sym (place-raw (c .code) (ltb-false (c .code) 16 t)) in
       rw t (by-raw place (decimal (c .code) ∷ texts) p ∙ one-number 0 (replicate 9 0) (decimal (c .code)) texts (λ e. omega arith) (c .code) (text-read false (c .code) fits .number) ∙ gathers))
 
   -- what is written is read
-  pub line-back : lineCall (lineText c) ≡ parsed 0 c
+  pub line-back : lineCall (lineText c) ≡ parsedCall 0 c
   line-back = ap lineCall line-words ∙ read-line place after place-low after-solid ∙ after-named
 
   -- and the line ends where the call's text does

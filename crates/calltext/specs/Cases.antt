@@ -9,9 +9,9 @@ use Rattle.callfile.specs.Lines.{digits, decimal}
 use Rattle.textwords.specs.Text.{run, pieces, full, wordsOf, plain, sameText}
 use Rattle.textwords.specs.Numbers.{digitsAfter, unsignedOf, negated, numberOf}
 use Rattle.calltext.specs.declared.Parsed.{Parsed}
-use Rattle.calltext.specs.Names.{names, placeIn, placeOf, placeFor, kinds}
-use Rattle.calltext.specs.Lines.{gather, named, callIn, lineCall}
-use Rattle.calltext.specs.Shown.{shown, fields, codeField, callText}
+use Rattle.calltext.specs.Names.{names, placeIn, namePlace, codePlace, kinds}
+use Rattle.calltext.specs.Lines.{gatherCall, namedCall, callIn, lineCall}
+use Rattle.calltext.specs.Shown.{shownWords, fields, codeField, callText}
 
 -- what a line is, and its call's code and words
 is : Parsed → ℕ → ℕ → List ℕ → Bool
@@ -21,7 +21,7 @@ zeros : List ℕ
 zeros = 0 ∷ 0 ∷ 0 ∷ 0 ∷ 0 ∷ 0 ∷ 0 ∷ 0 ∷ []
 
 cases : List Bool
-unfolding digits decimal run pieces full wordsOf plain sameText digitsAfter unsignedOf negated numberOf names placeIn placeOf placeFor kinds gather named callIn lineCall shown fields codeField callText is zeros
+unfolding digits decimal run pieces full wordsOf plain sameText digitsAfter unsignedOf negated numberOf names placeIn namePlace codePlace kinds gatherCall namedCall callIn lineCall shownWords fields codeField callText is zeros
 cases =
     -- open 0 0 100 0
     is (lineCall (111 ∷ 112 ∷ 101 ∷ 110 ∷ 32 ∷ 48 ∷ 32 ∷ 48 ∷ 32 ∷ 49 ∷ 48 ∷ 48 ∷ 32 ∷ 48 ∷ [])) 0 0 (0 ∷ 0 ∷ 100 ∷ 0 ∷ 0 ∷ 0 ∷ 0 ∷ 0 ∷ [])

@@ -11,17 +11,17 @@ use Rattle.textwords.specs.declared.Number.the-variants.{Of, Bad}
 use Rattle.textwords.specs.Text.{wordsOf, plain}
 use Rattle.textwords.specs.Numbers.{numberOf}
 use Rattle.calltext.specs.declared.Parsed.{Parsed}
-use Rattle.calltext.specs.Names.{RAW, placeOf}
+use Rattle.calltext.specs.Names.{RAW, namePlace}
 
 -- what a line can be: 0 a call, 1 empty, 2 of an unknown name, 3 with what is no number of 64 bits, 4 with more than eight words
-abbrev pub parsed : ℕ → Call → Parsed
-parsed kind c = record { kind = kind; call = c }
+abbrev pub parsedCall : ℕ → Call → Parsed
+parsedCall kind c = record { kind = kind; call = c }
 
-abbrev pub noCall : Call
-noCall = newCall 0 (replicate 8 0)
+abbrev pub zeroCall : Call
+zeroCall = newCall 0 (replicate 8 0)
 
-abbrev pub without : ℕ → Parsed
-without kind = parsed kind noCall
+abbrev pub withoutCall : ℕ → Parsed
+withoutCall kind = parsedCall kind zeroCall
 
 -- the code and the eight words of nine numbers
 abbrev pub callOf : List ℕ → Call
@@ -38,22 +38,22 @@ callOf nine =
     ∷ [])
 
 -- what is done with a number
-abbrev pub withNumber : Number → (ℕ → Parsed) → Parsed
-withNumber Bad f = without 3
-withNumber (Of v) f = f v
+abbrev pub callNumber : Number → (ℕ → Parsed) → Parsed
+callNumber Bad f = withoutCall 3
+callNumber (Of v) f = f v
 
 -- the words of a line go to the places from n on; those that are missing stay 0
-unfoldable pub gather : ℕ → List ℕ → List (List ℕ) → Parsed
-gather n nine [] = parsed 0 (callOf nine)
-gather n nine (w ∷ ws) = if eqb n 9 then without 4 else withNumber (numberOf w) (λ v. gather (n + 1) (set nine n v) ws)
+unfoldable pub gatherCall : ℕ → List ℕ → List (List ℕ) → Parsed
+gatherCall n nine [] = parsedCall 0 (callOf nine)
+gatherCall n nine (w ∷ ws) = if eqb n 9 then withoutCall 4 else callNumber (numberOf w) (λ v. gatherCall (n + 1) (set nine n v) ws)
 
 -- a name gives the code; `raw` leaves it to the first number
-unfoldable pub named : ℕ → List (List ℕ) → Parsed
-named place ws = if leb place 15 then gather 1 (set (replicate 9 0) 0 place) ws else if eqb place RAW then gather 0 (replicate 9 0) ws else without 2
+unfoldable pub namedCall : ℕ → List (List ℕ) → Parsed
+namedCall place ws = if leb place 15 then gatherCall 1 (set (replicate 9 0) 0 place) ws else if eqb place RAW then gatherCall 0 (replicate 9 0) ws else withoutCall 2
 
 unfoldable pub callIn : List (List ℕ) → Parsed
-callIn [] = without 1
-callIn (w ∷ ws) = named (placeOf w) ws
+callIn [] = withoutCall 1
+callIn (w ∷ ws) = namedCall (namePlace w) ws
 
 unfoldable pub lineCall : List ℕ → Parsed
 lineCall line = callIn (wordsOf (plain line))

@@ -57,12 +57,12 @@ unfoldable pub placeIn : List (List ℕ) → ℕ → List ℕ → ℕ
 placeIn [] k word = k
 placeIn (n ∷ ns) k word = if sameText word n then k else placeIn ns (suc k) word
 
-unfoldable pub placeOf : List ℕ → ℕ
-placeOf word = placeIn names 0 word
+unfoldable pub namePlace : List ℕ → ℕ
+namePlace word = placeIn names 0 word
 
 -- the name of a code
-unfoldable pub placeFor : ℕ → ℕ
-placeFor code = if leb code 15 then code else RAW
+unfoldable pub codePlace : ℕ → ℕ
+codePlace code = if leb code 15 then code else RAW
 
 -- what a word holds, eight to a name: 0 nothing, 1 an unsigned number, 2 a signed one
 unfoldable pub kinds : List ℕ

@@ -1,14 +1,12 @@
 // Calls as lines of text: a name and its numbers.
 ghost use mathlib.Core.Path.{_≡_};
-ghost use mathlib.Core.List.{[], _∷_};
 ghost use Prim.Native.Nat.{_+_, _*_, _<_, _≤_};
 ghost use lib.ListN.{length, getD, drop};
 ghost use Rattle.textwords.specs.Text.{wordsOf, sameText};
-ghost use Rattle.callfile.specs.Placed.{Puts};
-ghost use Rattle.callfile.specs.Lines.{wordField};
-ghost use Rattle.calltext.specs.Names.{nameAt, placeOf, placeFor, kindAt};
-ghost use Rattle.calltext.specs.Lines.{parsed, without, callOf, gather, named, callIn, lineCall};
-ghost use Rattle.calltext.specs.Shown.{shown, fields, shownFields, codeField, callText, Text};
+ghost use Rattle.callfile.specs.Placed.{Puts, PutLine};
+ghost use Rattle.calltext.specs.Names.{nameAt, namePlace, codePlace, kindAt};
+ghost use Rattle.calltext.specs.Lines.{parsedCall, withoutCall, callOf, gatherCall, namedCall, callIn, lineCall};
+ghost use Rattle.calltext.specs.Shown.{shownWords, fields, codeField, callText};
 use calls::Call;
 use textwords::Number;
 use textwords::Stop;
@@ -474,7 +472,7 @@ fn is_name(word: &[u8], place: usize) -> bool
 
 // The place of a name, or 17.
 fn place_of(word: &[u8]) -> usize
-    ensures { λ r. ⌜ r ≡ placeOf (now (word .entry)) ⌝ }
+    ensures { λ r. ⌜ r ≡ namePlace (now (word .entry)) ⌝ }
 {
     let mut k = 0;
     while k < 17 {
@@ -489,7 +487,7 @@ fn place_of(word: &[u8]) -> usize
 // ---- from a line to a call
 
 fn without_call(kind: u64) -> Parsed
-    ensures { λ r. ⌜ r ≡ without kind ⌝ }
+    ensures { λ r. ⌜ r ≡ withoutCall kind ⌝ }
 {
     Parsed {
         kind,
@@ -498,7 +496,7 @@ fn without_call(kind: u64) -> Parsed
 }
 
 fn call_of(n: [u64; 9]) -> Parsed
-    ensures { λ r. ⌜ r ≡ parsed 0 (callOf n) ⌝ }
+    ensures { λ r. ⌜ r ≡ parsedCall 0 (callOf n) ⌝ }
 {
     let words = [n[1], n[2], n[3], n[4], n[5], n[6], n[7], n[8]];
     Parsed {
@@ -510,7 +508,7 @@ fn call_of(n: [u64; 9]) -> Parsed
 // The words from a place on, as numbers from the n-th on.
 fn gather_from(text: &[u8], from: usize, first: usize, start: [u64; 9]) -> Parsed
     requires { do ⌜ (from ≤ (← ⟦text.len()⟧)) × (first ≤ 9) ⌝ }
-    ensures { λ r. ⌜ r ≡ gather first start (wordsOf (drop from (now (text .entry)))) ⌝ }
+    ensures { λ r. ⌜ r ≡ gatherCall first start (wordsOf (drop from (now (text .entry)))) ⌝ }
 {
     let mut nine = start;
     let mut n = first;
@@ -533,7 +531,7 @@ fn gather_from(text: &[u8], from: usize, first: usize, start: [u64; 9]) -> Parse
 // The words after a name.
 fn named_from(text: &[u8], from: usize, place: usize) -> Parsed
     requires { do ⌜ from ≤ (← ⟦text.len()⟧) ⌝ }
-    ensures { λ r. ⌜ r ≡ named place (wordsOf (drop from (now (text .entry)))) ⌝ }
+    ensures { λ r. ⌜ r ≡ namedCall place (wordsOf (drop from (now (text .entry)))) ⌝ }
 {
     let mut nine = [0u64; 9];
     if place < RAW {
@@ -569,14 +567,6 @@ pub fn parse(line: &[u8]) -> Parsed
 
 // ---- from a call to a line
 
-fn put(out: &mut [u8], at: usize, b: u8) -> usize
-    requires { do ⌜ at < (← ⟦out.len()⟧) ⌝ }
-    ensures { λ r. ⌜ Puts (b ∷ []) at (now (out .entry)) r (now (out .exit)) ⌝ }
-{
-    out[at] = b;
-    at + 1
-}
-
 // Byte j of the name at a place.
 fn name_byte(place: usize, j: usize) -> u8
     requires { ⌜ (place < 17) × (j < length (nameAt place)) ⌝ }
@@ -593,7 +583,7 @@ fn put_name(out: &mut [u8], at: usize, place: usize) -> usize
     let mut next = at;
     let mut j = 0;
     while j < n {
-        next = put(out, next, name_byte(place, j));
+        next = callfile::put_byte(out, next, name_byte(place, j));
         j += 1;
     }
     next
@@ -601,7 +591,7 @@ fn put_name(out: &mut [u8], at: usize, place: usize) -> usize
 
 // The place of the name of a code.
 fn place_for(code: u64) -> usize
-    ensures { λ r. ⌜ (r ≡ placeFor code) × (r < 17) ⌝ }
+    ensures { λ r. ⌜ (r ≡ codePlace code) × (r < 17) ⌝ }
 {
     if code < 16 {
         return code as usize;
@@ -631,7 +621,7 @@ fn kind_at(place: usize, k: usize) -> u8
 // How many words are written.
 fn shown_words(place: usize, w: [u64; 8]) -> usize
     requires { ⌜ place < 17 ⌝ }
-    ensures { λ r. ⌜ (r ≡ shown place w 8) × (r ≤ 8) ⌝ }
+    ensures { λ r. ⌜ (r ≡ shownWords place w 8) × (r ≤ 8) ⌝ }
 {
     let mut n = 8;
     while 0 < n {
@@ -671,12 +661,12 @@ fn text_line(out: &mut [u8], at: usize, c: Call) -> usize
     let b = put_code(out, a, code);
     let n = shown_words(place, words);
     let d = put_fields(out, b, place, words, n);
-    put(out, d, b'\n')
+    callfile::put_byte(out, d, b'\n')
 }
 
 // A call as a line of text. Without room for 512 bytes, nothing is put.
 pub fn put_text(out: &mut [u8], at: usize, c: Call) -> usize
-    ensures { λ r. ⌜ Text (callText c) at (now (out .entry)) r (now (out .exit)) ⌝ }
+    ensures { λ r. ⌜ PutLine 512 (callText c) at (now (out .entry)) r (now (out .exit)) ⌝ }
 {
     if out.len() < 512 {
         return at;

@@ -2,7 +2,7 @@
 -- rows of the consumers, and sums over them. Assumes nothing.
 use mathlib.Core.Path.{_≡_, refl, sym, ap, ap₂, _∙_}
 use mathlib.Core.Bool.{Bool, true, false, _&&_, and-eq-true-iff}
-use mathlib.Core.List.{List, [], _∷_, _++_, append-nil, append-assoc, map, map-append}
+use mathlib.Core.List.{List, [], _∷_, _++_, append-assoc, map, map-append}
 use mathlib.Core.Option.{none, some}
 use Prim.Native.Nat.{ℕ, zero, suc, _+_, _-_, _≤_, _<_}
 use native.Mathlib.Nat.{not-suc-le-zero, le-of-suc-le-suc}
@@ -13,18 +13,20 @@ use lib.ListN.{length, take, drop, getD, length-map, length-append, length-drop}
 use lib.Seq.{slice, take-add, take-at, take-take, length-take-le, length-slice}
 use Rattle.entry.specs.Entry.{entryOf}
 use Rattle.definition.specs.Base.{if_then_else_, is-some, tally, all}
-use Rattle.definition.specs.Types.{Kind, queue, topic, Entry, Inflight}
+use Rattle.definition.specs.Types.{Kind, queue, topic, Entry}
 use Rattle.definition.specs.Types as Def
-use Rattle.definition.specs.Consumer.{hasCredit, accepts, isBrowser, shown}
+use Rattle.definition.specs.Consumer.{hasCredit, accepts, isBrowser}
 use Rattle.definition.specs.Destination.{holdBack, cleared, emptied, heldRows}
 use Rattle.definition.specs.Calls.{rowsOf, consumerRows, seqs}
 use Rattle.definition.specs.Queries.{isQueue}
 use Rattle.definition.specs.Words.{at}
-use Rattle.definition.specs.Layout.{Row, flag, inflightAt, inflightOf, heldOf, browserAt, tpendingAt, subAt, eachSub, subsAt, subRows}
+use Rattle.definition.specs.Layout.{Row, flag, inflightAt, inflightCount, heldCount, browserAt, tpendingAt, subAt, eachSub, subsAt, subRows}
+use Rattle.definition.proofs.Stored.{flying-rows, holding}
+use Rattle.definition.proofs.Tests.{by-if}
 use Rattle.consumers.specs.declared.Sub.{Sub}
-use Rattle.consumers.specs.Consumers.{subOf, subView, creditOf, acceptsOf}
+use Rattle.consumers.specs.Consumers.{rowSub, subView, creditOf, acceptsOf}
 use Rattle.consumers.proofs.View.{sub-at, inflight-loaded}
-use Rattle.consumers.specs.Table.{takenOut, removed, onFirst, heldBackRow, clearedRow, takes, heldBy, keptRows, fitting}
+use Rattle.consumers.specs.Table.{takenOut, subRemoved, onFirst, heldBackRow, clearedRow, takesEntry, heldCounted, keptRows, fitting}
 
 -- ---- one consumer
 
@@ -36,15 +38,15 @@ pub credit : (k : Kind) (s : Sub) (f h : List Row) → length f ≡ s .inflight 
 unfolding hasCredit subView creditOf
 credit k s f h e = simp (waiting, length-map f inflightAt, e)
 
-pub credit-at : (k : Kind) (w : Row) (f h : List Row) → length f ≡ inflightOf w → hasCredit (subAt k w f h) ≡ creditOf (subOf w)
-credit-at k w f h e = ap hasCredit (sub-at k w f h) ∙ credit k (subOf w) f h (e ∙ sym (inflight-loaded w))
+pub credit-at : (k : Kind) (w : Row) (f h : List Row) → length f ≡ inflightCount w → hasCredit (subAt k w f h) ≡ creditOf (rowSub w)
+credit-at k w f h e = ap hasCredit (sub-at k w f h) ∙ credit k (rowSub w) f h (e ∙ sym (inflight-loaded w))
 
 pub accepts-sub : (k : Kind) (s : Sub) (f h : List Row) (e : Entry) → accepts (subView k s f h) e ≡ acceptsOf s e
 unfolding accepts subView acceptsOf
 accepts-sub k s f h e = refl
 
-pub accepts-at : (k : Kind) (w : Row) (f h : List Row) (e : Entry) → accepts (subAt k w f h) e ≡ acceptsOf (subOf w) e
-accepts-at k w f h e = ap (λ (s : Def.Sub). accepts s e) (sub-at k w f h) ∙ accepts-sub k (subOf w) f h e
+pub accepts-at : (k : Kind) (w : Row) (f h : List Row) (e : Entry) → accepts (subAt k w f h) e ≡ acceptsOf (rowSub w) e
+accepts-at k w f h e = ap (λ (s : Def.Sub). accepts s e) (sub-at k w f h) ∙ accepts-sub k (rowSub w) f h e
 
 browsing : (k : Kind) (b : Bool) (l : List Entry) → is-some (browserAt k b l) ≡ b
 browsing k false l = refl
@@ -82,15 +84,15 @@ on-length f (suc n) (w ∷ ws) = ap suc (on-length f n ws)
 pub hold-back-rows : (seq : ℕ) (ws : List Row) → subRows (map (heldBackRow seq) ws) ≡ subRows ws
 unfolding subRows heldBackRow
 hold-back-rows seq [] = refl
-hold-back-rows seq (w ∷ ws) = ap (λ (n : ℕ). inflightOf w + (heldOf w + n)) (hold-back-rows seq ws)
+hold-back-rows seq (w ∷ ws) = ap (λ (n : ℕ). inflightCount w + (heldCount w + n)) (hold-back-rows seq ws)
 
 pub hold-back-subs : (k : Kind) (seq : ℕ) (ws rows : List Row) → subsAt k (map (heldBackRow seq) ws) rows ≡ map (holdBack seq) (subsAt k ws rows)
 unfolding eachSub subAt heldBackRow
 hold-back-subs k seq [] rows = refl
 hold-back-subs k seq (w ∷ ws) rows =
-    let f : List Row = take (inflightOf w) rows in
-    let h : List Row = take (heldOf w) (drop (inflightOf w) rows) in
-    ap (λ (l : List Def.Sub). holdBack seq (subAt k w f h) ∷ l) (hold-back-subs k seq ws (drop (heldOf w) (drop (inflightOf w) rows)))
+    let f : List Row = take (inflightCount w) rows in
+    let h : List Row = take (heldCount w) (drop (inflightCount w) rows) in
+    ap (λ (l : List Def.Sub). holdBack seq (subAt k w f h) ∷ l) (hold-back-subs k seq ws (drop (heldCount w) (drop (inflightCount w) rows)))
 
 pub clear-rows : (ws : List Row) → subRows (map clearedRow ws) ≡ 0
 unfolding subRows clearedRow
@@ -101,8 +103,8 @@ pub clear-subs : (k : Kind) (ws rows after : List Row) → subsAt k (map cleared
 unfolding eachSub subAt clearedRow
 clear-subs k [] rows after = refl
 clear-subs k (w ∷ ws) rows after =
-    let h : List Row = take (heldOf w) (drop (inflightOf w) rows) in
-    let r : subsAt k (map clearedRow ws) after ≡ map cleared (subsAt k ws (drop (heldOf w) (drop (inflightOf w) rows))) = clear-subs k ws (drop (heldOf w) (drop (inflightOf w) rows)) after in
+    let h : List Row = take (heldCount w) (drop (inflightCount w) rows) in
+    let r : subsAt k (map clearedRow ws) after ≡ map cleared (subsAt k ws (drop (heldCount w) (drop (inflightCount w) rows))) = clear-subs k ws (drop (heldCount w) (drop (inflightCount w) rows)) after in
     rw (r, no-browser k (flag (at 6 w)) (map entryOf h), no-pending k (flag (at 6 w)))
 
 -- the same of the first n of the table
@@ -113,8 +115,8 @@ pub clear-first : (k : Kind) (n : ℕ) (ws rows after : List Row) → subsAt k (
 clear-first k n ws rows after = ap (λ (l : List Row). subsAt k l after) (on-first clearedRow n ws) ∙ clear-subs k (take n ws) rows after
 
 -- one taken out of the first n
-pub removed-first : (at n : ℕ) (ws : List Row) → at < n → n ≤ length ws → take (n - 1) (removed at n ws) ≡ take at (take n ws) ++ drop (suc at) (take n ws)
-unfolding removed takenOut
+pub removed-first : (at n : ℕ) (ws : List Row) → at < n → n ≤ length ws → take (n - 1) (subRemoved at n ws) ≡ take at (take n ws) ++ drop (suc at) (take n ws)
+unfolding subRemoved takenOut
 removed-first at n ws h g =
     let a : List Row = take at ws in
     let b : List Row = slice (suc at) n ws in
@@ -124,26 +126,16 @@ removed-first at n ws h g =
     ∙ take-at (a ++ b) (drop (n - 1) ws) (n - 1) l
     ∙ ap (λ (x : List Row). x ++ b) (sym (take-take at n ws (omega arith))))
 
-pub tally-subs : (k : Kind) (e : Entry) (ws rows : List Row) → tally (λ s. accepts s e) (subsAt k ws rows) ≡ tally (takes e) ws
-unfolding eachSub subAt accepts acceptsOf subOf
+pub tally-subs : (k : Kind) (e : Entry) (ws rows : List Row) → tally (λ s. accepts s e) (subsAt k ws rows) ≡ tally (takesEntry e) ws
+unfolding eachSub subAt accepts acceptsOf rowSub
 tally-subs k e [] rows = refl
-tally-subs k e (w ∷ ws) rows = ap (λ (n : ℕ). (if takes e w then 1 else 0) + n) (tally-subs k e ws (drop (heldOf w) (drop (inflightOf w) rows)))
+tally-subs k e (w ∷ ws) rows = ap (λ (n : ℕ). (if takesEntry e w then 1 else 0) + n) (tally-subs k e ws (drop (heldCount w) (drop (inflightCount w) rows)))
 
 -- ---- the rows of the consumers
 
-flown : (f : List Row) → map (λ (i : Inflight). i .entry) (map inflightAt f) ≡ map entryOf f
-flown [] = refl
-flown (r ∷ f) = ap (λ (l : List Entry). entryOf r ∷ l) (flown f)
-
-holding : (k : Kind) (b : Bool) (l : List Entry) → tpendingAt k b l ++ shown (browserAt k b l) ≡ l
-holding queue true l = refl
-holding queue false l = append-nil l
-holding topic true l = append-nil l
-holding topic false l = append-nil l
-
 pub rows-of-sub : (k : Kind) (w : Row) (f h : List Row) → rowsOf (subAt k w f h) ≡ map entryOf (f ++ h)
 unfolding subAt
-rows-of-sub k w f h = ap₂ (λ (x y : List Entry). x ++ y) (flown f) (holding k (flag (at 6 w)) (map entryOf h)) ∙ sym (map-append entryOf f h)
+rows-of-sub k w f h = ap₂ (λ (x y : List Entry). x ++ y) (flying-rows f) (holding k (flag (at 6 w)) (map entryOf h)) ∙ sym (map-append entryOf f h)
 
 pub rows-of-length : (k : Kind) (w : Row) (f h : List Row) → length (rowsOf (subAt k w f h)) ≡ length f + length h
 rows-of-length k w f h = ap length (rows-of-sub k w f h) ∙ length-map (f ++ h) entryOf ∙ length-append f h
@@ -152,8 +144,8 @@ pub consumer-rows : (k : Kind) (ws rows : List Row) → consumerRows (subsAt k w
 unfolding eachSub subRows
 consumer-rows k [] rows = refl
 consumer-rows k (w ∷ ws) rows =
-    let a : ℕ = inflightOf w in
-    let b : ℕ = heldOf w in
+    let a : ℕ = inflightCount w in
+    let b : ℕ = heldCount w in
     let f : List Row = take a rows in
     let h : List Row = take b (drop a rows) in
     let r : List Row = take (subRows ws) (drop b (drop a rows)) in
@@ -178,15 +170,23 @@ pub held-subs : (k : Kind) (ws rows : List Row) → subRows ws ≤ length rows �
 unfolding eachSub subAt subRows keptRows
 held-subs k [] rows h = refl
 held-subs k (w ∷ ws) rows h =
-    let a : ℕ = inflightOf w in
-    let b : ℕ = heldOf w in
+    let a : ℕ = inflightCount w in
+    let b : ℕ = heldCount w in
     let l : List Row = take b (drop a rows) in
     let one : length (map inflightAt (take a rows)) ≡ a = length-map (take a rows) inflightAt ∙ length-take-le a rows (omega arith) in
     let all : length (map entryOf l) ≡ b = length-map l entryOf ∙ length-take-le b (drop a rows) (simp length-drop (omega arith)) in
-    let two : length (tpendingAt k (flag (at 6 w)) (map entryOf l)) ≡ heldBy (isQueue k) w =
+    let two : length (tpendingAt k (flag (at 6 w)) (map entryOf l)) ≡ heldCounted (isQueue k) w =
     pending-length k (flag (at 6 w)) (map entryOf l) ∙ ap (λ (n : ℕ). if isQueue k && flag (at 6 w) then 0 else n) all in
     let three : heldRows (subsAt k ws (drop b (drop a rows))) ≡ keptRows (isQueue k) ws = held-subs k ws (drop b (drop a rows)) (simp length-drop (omega arith)) in
     λ i. one i + two i + three i
+
+-- what counts of the consumers' rows is some of them
+pub kept-few : (q : Bool) (ws : List Row) → keptRows q ws ≤ subRows ws
+unfolding keptRows subRows
+kept-few q [] = omega arith
+kept-few q (w ∷ ws) =
+    let one : heldCounted q w ≤ heldCount w = by-if (λ (n : ℕ). n ≤ heldCount w) (q && flag (at 6 w)) 0 (heldCount w) (λ _. omega arith) (λ _. omega arith) in
+    omega (arith, one, kept-few q ws)
 
 -- ---- counts that fit together
 

@@ -10,9 +10,9 @@ use lib.Seq.{drop-cons, drop-drop, drop-length, take-suc, take-suc-set, take-tak
 use Rattle.definition.specs.Base.{all, every}
 use Rattle.definition.specs.Types.{Kind}
 use Rattle.definition.specs.Types as Def
-use Rattle.definition.specs.Layout.{Row, inflightOf, heldOf, subAt, eachSub, subsAt, subRows, entryStrict, wordsStrict, subStrict, subsStrict, tablesStrict}
+use Rattle.definition.specs.Layout.{Row, inflightCount, heldCount, subAt, eachSub, subsAt, subRows, entryStrict, wordsStrict, subStrict, subsStrict, tablesStrict}
 use Rattle.definition.proofs.Tests.{and-left, and-right, and-both}
-use Rattle.consumers.specs.Consumers.{subOf, subView}
+use Rattle.consumers.specs.Consumers.{rowSub, subView}
 use Rattle.consumers.specs.Seats.{OwnStrict}
 use Rattle.consumers.proofs.View.{sub-at, each-agree, subs-append, subs-agree, rows-append, inflight-loaded, held-loaded, front-drop}
 use Rattle.consumers.proofs.Strict.{SubStrict, strict-sub, sub-strict, strict-append, strict-agree, tables-strict, strict-tables}
@@ -26,33 +26,33 @@ stored-next subs i x h = ap (λ (n : ℕ). take n (set subs i x)) (add-one i) �
 pub same-next : (subs : List Row) (i : ℕ) → i < length subs → take (i + 1) subs ≡ take i subs ++ (getD subs i [] ∷ [])
 same-next subs i h = ap (λ (n : ℕ). take n subs) (add-one i) ∙ take-suc subs i [] h
 
-pub rows-one : (pre : List Row) (x : Row) → subRows (pre ++ (x ∷ [])) ≡ subRows pre + inflightOf x + heldOf x
+pub rows-one : (pre : List Row) (x : Row) → subRows (pre ++ (x ∷ [])) ≡ subRows pre + inflightCount x + heldCount x
 unfolding subRows
 rows-one pre x = omega (arith, rows-append pre (x ∷ []))
 
 -- the rows before base are as they were, and the one more is y
 pub subs-done : (k : Kind) (pre : List Row) (x : Row) (base : ℕ) (rows rows′ : List Row) (y : Def.Sub) → base ≡ subRows pre → take base rows′ ≡ take base rows
-    → subView k (subOf x) (take (inflightOf x) (drop base rows′)) (take (heldOf x) (drop (base + inflightOf x) rows′)) ≡ y
+    → subView k (rowSub x) (take (inflightCount x) (drop base rows′)) (take (heldCount x) (drop (base + inflightCount x) rows′)) ≡ y
     → subsAt k (pre ++ (x ∷ [])) rows′ ≡ subsAt k pre rows ++ (y ∷ [])
 unfolding eachSub
 subs-done k pre x base rows rows′ y ends low is =
-    let f : List Row = take (inflightOf x) (drop base rows′) in
+    let f : List Row = take (inflightCount x) (drop base rows′) in
     let first : subsAt k pre rows′ ≡ subsAt k pre rows = subs-agree k pre base rows′ rows (omega arith) low in
-    let mine : subAt k x f (take (heldOf x) (drop (inflightOf x) (drop base rows′))) ≡ y =
-    ap (λ (l : List Row). subAt k x f (take (heldOf x) l)) (drop-drop (inflightOf x) base rows′) ∙ sub-at k x f (take (heldOf x) (drop (base + inflightOf x) rows′)) ∙ is in
+    let mine : subAt k x f (take (heldCount x) (drop (inflightCount x) (drop base rows′))) ≡ y =
+    ap (λ (l : List Row). subAt k x f (take (heldCount x) l)) (drop-drop (inflightCount x) base rows′) ∙ sub-at k x f (take (heldCount x) (drop (base + inflightCount x) rows′)) ∙ is in
     subs-append k pre (x ∷ []) rows′
     ∙ ap₂ (λ (l : List Def.Sub) (n : ℕ). l ++ subsAt k (x ∷ []) (drop n rows′)) first (sym ends)
     ∙ ap (λ (z : Def.Sub). subsAt k pre rows ++ (z ∷ [])) mine
 
 -- and its words are strict
 pub strict-done : (pre : List Row) (x : Row) (base : ℕ) (rows rows′ : List Row) → base ≡ subRows pre → take base rows′ ≡ take base rows → subsStrict pre rows ≡ true
-    → SubStrict x (take (inflightOf x) (drop base rows′)) (take (heldOf x) (drop (base + inflightOf x) rows′)) → subsStrict (pre ++ (x ∷ [])) rows′ ≡ true
+    → SubStrict x (take (inflightCount x) (drop base rows′)) (take (heldCount x) (drop (base + inflightCount x) rows′)) → subsStrict (pre ++ (x ∷ [])) rows′ ≡ true
 unfolding eachSub
 strict-done pre x base rows rows′ ends low s t =
-    let f : List Row = take (inflightOf x) (drop base rows′) in
-    let h : List Row = take (heldOf x) (drop (inflightOf x) (drop base rows′)) in
+    let f : List Row = take (inflightCount x) (drop base rows′) in
+    let h : List Row = take (heldCount x) (drop (inflightCount x) (drop base rows′)) in
     let own : subStrict x f h ≡ true =
-    ap (λ (l : List Row). subStrict x f (take (heldOf x) l)) (drop-drop (inflightOf x) base rows′) ∙ strict-sub x f (take (heldOf x) (drop (base + inflightOf x) rows′)) t in
+    ap (λ (l : List Row). subStrict x f (take (heldCount x) l)) (drop-drop (inflightCount x) base rows′) ∙ strict-sub x f (take (heldCount x) (drop (base + inflightCount x) rows′)) t in
     let mine : subsStrict (x ∷ []) (drop base rows′) ≡ true = and-both (subStrict x f h) true own refl in
     strict-append pre (x ∷ []) rows′
     ∙ and-both (subsStrict pre rows′) _ (strict-agree pre base rows′ rows (omega arith) low ∙ s) (ap (λ (n : ℕ). subsStrict (x ∷ []) (drop n rows′)) (sym ends) ∙ mine)
@@ -64,21 +64,21 @@ module _ (ws : List Row) (i : ℕ) (more : i < length ws) where
   w = getD ws i []
 
   -- the rows that are left: those of the next consumer, and the rest
-  pub left-size : subRows (drop i ws) ≡ subOf w .inflight + (subOf w .held + subRows (drop (suc i) ws))
-  unfolding subRows subOf
+  pub left-size : subRows (drop i ws) ≡ rowSub w .inflight + (rowSub w .held + subRows (drop (suc i) ws))
+  unfolding subRows rowSub
   left-size = ap subRows (drop-cons ws i [] more)
 
   -- what is read of the next consumer, whose rows begin at base, and of the rest
   module _ {A : Type 0} (of : Row → List Row → List Row → A) where
     each-next : (base : ℕ) (rows : List Row) → eachSub of (drop i ws) (drop base rows)
-        ≡ of w (take (inflightOf w) (drop base rows)) (take (heldOf w) (drop (base + inflightOf w) rows)) ∷ eachSub of (drop (suc i) ws) (drop (base + inflightOf w + heldOf w) rows)
+        ≡ of w (take (inflightCount w) (drop base rows)) (take (heldCount w) (drop (base + inflightCount w) rows)) ∷ eachSub of (drop (suc i) ws) (drop (base + inflightCount w + heldCount w) rows)
     unfolding eachSub
     each-next base rows =
-        let f : List Row = take (inflightOf w) (drop base rows) in
-        let one : drop (inflightOf w) (drop base rows) ≡ drop (base + inflightOf w) rows = drop-drop (inflightOf w) base rows in
-        let two : drop (heldOf w) (drop (inflightOf w) (drop base rows)) ≡ drop (base + inflightOf w + heldOf w) rows = ap (drop (heldOf w)) one ∙ drop-drop (heldOf w) (base + inflightOf w) rows in
+        let f : List Row = take (inflightCount w) (drop base rows) in
+        let one : drop (inflightCount w) (drop base rows) ≡ drop (base + inflightCount w) rows = drop-drop (inflightCount w) base rows in
+        let two : drop (heldCount w) (drop (inflightCount w) (drop base rows)) ≡ drop (base + inflightCount w + heldCount w) rows = ap (drop (heldCount w)) one ∙ drop-drop (heldCount w) (base + inflightCount w) rows in
         ap (λ (l : List Row). eachSub of l (drop base rows)) (drop-cons ws i [] more)
-        ∙ ap₂ (λ (l m : List Row). of w f (take (heldOf w) l) ∷ eachSub of (drop (suc i) ws) m) one two
+        ∙ ap₂ (λ (l m : List Row). of w f (take (heldCount w) l) ∷ eachSub of (drop (suc i) ws) m) one two
 
     -- the rest, whose rows stand further down with n of them as they were
     each-rest : (n end end′ : ℕ) (rows rows′ : List Row) → subRows (drop (suc i) ws) ≤ n → take n (drop end′ rows′) ≡ take n (drop end rows)
@@ -87,17 +87,17 @@ module _ (ws : List Row) (i : ℕ) (more : i < length ws) where
         ap (λ (m : ℕ). eachSub of (drop m ws) (drop end′ rows′)) (add-one i) ∙ each-agree of (drop (suc i) ws) n (drop end′ rows′) (drop end rows) h q
 
   pub subs-next : (k : Kind) (base : ℕ) (rows : List Row) → subsAt k (drop i ws) (drop base rows)
-      ≡ subView k (subOf w) (take (inflightOf w) (drop base rows)) (take (heldOf w) (drop (base + inflightOf w) rows)) ∷ subsAt k (drop (suc i) ws) (drop (base + inflightOf w + heldOf w) rows)
+      ≡ subView k (rowSub w) (take (inflightCount w) (drop base rows)) (take (heldCount w) (drop (base + inflightCount w) rows)) ∷ subsAt k (drop (suc i) ws) (drop (base + inflightCount w + heldCount w) rows)
   subs-next k base rows =
       each-next (subAt k) base rows
-      ∙ ap (λ (s : Def.Sub). s ∷ subsAt k (drop (suc i) ws) (drop (base + inflightOf w + heldOf w) rows)) (sub-at k w (take (inflightOf w) (drop base rows)) (take (heldOf w) (drop (base + inflightOf w) rows)))
+      ∙ ap (λ (s : Def.Sub). s ∷ subsAt k (drop (suc i) ws) (drop (base + inflightCount w + heldCount w) rows)) (sub-at k w (take (inflightCount w) (drop base rows)) (take (heldCount w) (drop (base + inflightCount w) rows)))
 
   pub strict-next : (base : ℕ) (rows : List Row) → subsStrict (drop i ws) (drop base rows) ≡ true
-      → SubStrict w (take (inflightOf w) (drop base rows)) (take (heldOf w) (drop (base + inflightOf w) rows)) × (subsStrict (drop (suc i) ws) (drop (base + inflightOf w + heldOf w) rows) ≡ true)
+      → SubStrict w (take (inflightCount w) (drop base rows)) (take (heldCount w) (drop (base + inflightCount w) rows)) × (subsStrict (drop (suc i) ws) (drop (base + inflightCount w + heldCount w) rows) ≡ true)
   strict-next base rows h =
-      let f : List Row = take (inflightOf w) (drop base rows) in
-      let l : List Row = take (heldOf w) (drop (base + inflightOf w) rows) in
-      let both : (subStrict w f l && subsStrict (drop (suc i) ws) (drop (base + inflightOf w + heldOf w) rows)) ≡ true = sym (ap every (each-next subStrict base rows)) ∙ h in
+      let f : List Row = take (inflightCount w) (drop base rows) in
+      let l : List Row = take (heldCount w) (drop (base + inflightCount w) rows) in
+      let both : (subStrict w f l && subsStrict (drop (suc i) ws) (drop (base + inflightCount w + heldCount w) rows)) ≡ true = sym (ap every (each-next subStrict base rows)) ∙ h in
       (sub-strict w f l (and-left (subStrict w f l) _ both), and-right (subStrict w f l) _ both)
 
   pub subs-rest : (k : Kind) (n end end′ : ℕ) (rows rows′ : List Row) → subRows (drop (suc i) ws) ≤ n → take n (drop end′ rows′) ≡ take n (drop end rows)
@@ -138,12 +138,12 @@ module _ (n : ℕ) (ws subs : List Row) (i base : ℕ) (rows : List Row) (more :
   pub line-words : wordsStrict here ≡ true
   line-words = strict-next ws i more base rows (l .left) .0 .words
 
-  pub line-own : OwnStrict base (inflightOf here) (heldOf here) rows
+  pub line-own : OwnStrict base (inflightCount here) (heldCount here) rows
   line-own = let p = strict-next ws i more base rows (l .left) .0 in record { flying = p .flying; held = p .held }
 
   -- it is x now, with its rows from base on; m rows after them are as they were; n′ rows after those of the consumers are strict
   pub line-step : (subs′ : List Row) (x : Row) (rows′ : List Row) (m end end′ n′ : ℕ) → take (i + 1) subs′ ≡ take i subs ++ (x ∷ []) → base ≡ subRows (take i subs)
-      → end ≡ base + inflightOf here + heldOf here → wordsStrict x ≡ true → OwnStrict base (inflightOf x) (heldOf x) rows′ → take base rows′ ≡ take base rows
+      → end ≡ base + inflightCount here + heldCount here → wordsStrict x ≡ true → OwnStrict base (inflightCount x) (heldCount x) rows′ → take base rows′ ≡ take base rows
       → subRows (drop (suc i) ws) ≤ m → take m (drop end′ rows′) ≡ take m (drop end rows) → all entryStrict (take n′ (drop (end′ + subRows (drop (suc i) ws)) rows′)) ≡ true
       → LineStrict n′ ws subs′ (i + 1) end′ rows′
   line-step subs′ x rows′ m end end′ n′ front ends e words o low few high others = record {
@@ -153,14 +153,14 @@ module _ (n : ℕ) (ws subs : List Row) (i base : ℕ) (rows : List Row) (more :
   }
 
   -- the rows after those of the consumers, in the old places
-  pub line-others : (end : ℕ) → end ≡ base + inflightOf here + heldOf here → all entryStrict (take n (drop (end + subRows (drop (suc i) ws)) rows)) ≡ true
+  pub line-others : (end : ℕ) → end ≡ base + inflightCount here + heldCount here → all entryStrict (take n (drop (end + subRows (drop (suc i) ws)) rows)) ≡ true
   line-others end e =
       let from : end + subRows (drop (suc i) ws) ≡ base + subRows (drop i ws) = omega (arith, left-size ws i more, inflight-loaded here, held-loaded here) in
       ap (λ (j : ℕ). all entryStrict (take n (drop j rows))) from ∙ l .others
 
   -- all of these are as they were
   pub line-turn : (subs′ : List Row) (x : Row) (rows′ : List Row) (m end end′ : ℕ) → take (i + 1) subs′ ≡ take i subs ++ (x ∷ []) → base ≡ subRows (take i subs)
-      → end ≡ base + inflightOf here + heldOf here → wordsStrict x ≡ true → OwnStrict base (inflightOf x) (heldOf x) rows′ → take base rows′ ≡ take base rows
+      → end ≡ base + inflightCount here + heldCount here → wordsStrict x ≡ true → OwnStrict base (inflightCount x) (heldCount x) rows′ → take base rows′ ≡ take base rows
       → subRows (drop (suc i) ws) + n ≤ m → take m (drop end′ rows′) ≡ take m (drop end rows)
       → LineStrict n ws subs′ (i + 1) end′ rows′
   line-turn subs′ x rows′ m end end′ front ends e words o low few high =

@@ -54,6 +54,14 @@ on-turn f i l now h q =
     ∙ ap (λ (x : List Row). x ++ drop (suc i) l) (sym (ap (map f) (take-suc l i [] h) ∙ map-append f (take i l) (getD l i [] ∷ [])))
     ∙ ap (λ (m : ℕ). map f (take m l) ++ drop m l) (sym (add-one i))
 
+-- past the first n nothing is changed
+pub on-past : (f : Row → Row) (n m : ℕ) (ws : List Row) → n ≤ m → drop m (onFirst f n ws) ≡ drop m ws
+unfolding onFirst
+on-past f zero m ws h = refl
+on-past f (suc n) m [] h = refl
+on-past f (suc n) zero (w ∷ ws) h = absurd (omega arith)
+on-past f (suc n) (suc m) (w ∷ ws) h = on-past f n m ws (omega arith)
+
 -- the first n are those that there are
 same-take : (n : ℕ) (l : List Row) → take (min n (length l)) l ≡ take n l
 same-take zero l = rw (zero-min (length l))

@@ -15,7 +15,7 @@ use Rattle.definition.specs.Types.{Kind}
 use Rattle.definition.specs.Types as Def
 use Rattle.definition.specs.Destination.{isId, without}
 use Rattle.definition.specs.Layout.{Row, idAt, subAt, eachSub, subsAt}
-use Rattle.consumers.specs.declared.Found.the-variants.{At, Nothing}
+use Rattle.entry.specs.declared.Found.the-variants.{At, Nothing}
 use Rattle.consumers.specs.Seats.{subIn}
 use Rattle.consumers.specs.Table.{positionFrom}
 use Rattle.consumers.proofs.View.{subs-nth}

@@ -1,17 +1,17 @@
 -- That the words in use are strict: of the consumers in parts, at a place, and after a store. Assumes nothing.
-use mathlib.Core.Path.{_≡_, refl, sym, ap, ap₂, _∙_}
+use mathlib.Core.Path.{_≡_, refl, sym, ap, _∙_}
 use mathlib.Core.Bool.{Bool, true, false, _&&_}
 use mathlib.Core.List.{List, [], _∷_, _++_, map}
-use Prim.Native.Nat.{ℕ, zero, suc, _+_, _≤_, _<_}
+use Prim.Native.Nat.{ℕ, suc, _+_, _≤_, _<_}
 use native.Mathlib.Omega.{arith}
 use lib.ListN.{length, take, drop, getD, set}
 use lib.Seq.{length-take-le, drop-at, set-split, take-add}
 use mir.Val.{boolByte}
 use Rattle.definition.specs.Base.{all, every}
-use Rattle.definition.specs.Words.{at}
-use Rattle.definition.specs.Layout.{Row, inflightOf, heldOf, eachSub, subRows, isMark, entryStrict, flyingStrict, wordsStrict, subStrict, subsStrict, tablesStrict}
+use Rattle.definition.specs.Layout.{Row, inflightCount, heldCount, eachSub, subRows, isMark, entryStrict, flyingStrict, wordsStrict, subStrict, subsStrict, tablesStrict}
 use Rattle.definition.proofs.Tests.{and-left, and-right, and-both}
 use Rattle.definition.proofs.Lists.{all-append}
+pub use Rattle.definition.proofs.Lists.{all-first, all-rest, all-left, all-right, all-weaker}
 use Rattle.consumers.specs.declared.Sub.{Sub}
 use Rattle.consumers.specs.Consumers.{subWords}
 use Rattle.consumers.specs.Seats.{flyingIn, heldIn, afterIn}
@@ -24,30 +24,6 @@ every-append : (l m : List Bool) → every (l ++ m) ≡ (every l && every m)
 every-append [] m = refl
 every-append (true ∷ l) m = every-append l m
 every-append (false ∷ l) m = refl
-
-module _ {A : Type 0} (p : A → Bool) where
-  pub all-first : (n : ℕ) (l : List A) → all p l ≡ true → all p (take n l) ≡ true
-  all-first zero l h = refl
-  all-first (suc n) [] h = refl
-  all-first (suc n) (x ∷ l) h = and-both (p x) (all p (take n l)) (and-left (p x) _ h) (all-first n l (and-right (p x) _ h))
-
-  pub all-rest : (n : ℕ) (l : List A) → all p l ≡ true → all p (drop n l) ≡ true
-  all-rest zero l h = h
-  all-rest (suc n) [] h = refl
-  all-rest (suc n) (x ∷ l) h = all-rest n l (and-right (p x) _ h)
-
-  pub all-left : (l m : List A) → all p (l ++ m) ≡ true → all p l ≡ true
-  all-left [] m h = refl
-  all-left (x ∷ l) m h = and-both (p x) (all p l) (and-left (p x) _ h) (all-left l m (and-right (p x) _ h))
-
-  pub all-right : (l m : List A) → all p (l ++ m) ≡ true → all p m ≡ true
-  all-right [] m h = h
-  all-right (x ∷ l) m h = all-right l m (and-right (p x) _ h)
-
--- what holds wherever p does
-pub all-weaker : {A : Type 0} (p q : A → Bool) → ((x : A) → p x ≡ true → q x ≡ true) → (l : List A) → all p l ≡ true → all q l ≡ true
-all-weaker p q f [] h = refl
-all-weaker p q f (x ∷ l) h = and-both (q x) (all q l) (f x (and-left (p x) _ h)) (all-weaker p q f l (and-right (p x) _ h))
 
 pub all-map : {A B : Type 0} (p : B → Bool) (q : A → Bool) (f : A → B) → ((x : A) → q x ≡ true → p (f x) ≡ true) → (l : List A) → all q l ≡ true → all p (map f l) ≡ true
 all-map p q f g [] h = refl
@@ -101,7 +77,7 @@ pub strict-before : (ws a c : List Row) → subRows ws ≤ length a → subsStri
 strict-before ws a c h = ap every (each-before subStrict ws a c h)
 
 -- a consumer with its rows, those before it and those after it
-pub strict-around : (w : Row) (f h : List Row) → length f ≡ inflightOf w → length h ≡ heldOf w
+pub strict-around : (w : Row) (f h : List Row) → length f ≡ inflightCount w → length h ≡ heldCount w
     → (ws vs a c : List Row) → length a ≡ subRows ws → subsStrict (ws ++ w ∷ vs) (a ++ (f ++ (h ++ c))) ≡ (subsStrict ws a && (subStrict w f h && subsStrict vs c))
 strict-around w f h p q ws vs a c e = ap every (each-around subStrict w f h p q ws vs a c e) ∙ every-append (eachSub subStrict ws a) (subStrict w f h ∷ eachSub subStrict vs c)
 
@@ -122,7 +98,7 @@ strict-at ws rows i b h =
 
 -- another consumer in the place, with other rows, on other rows after it
 pub strict-put : (ws rows : List Row) (i : ℕ) (w : Row) (f h c : List Row) → i < length ws → subRows (take i ws) ≤ length rows
-    → length f ≡ inflightOf w → length h ≡ heldOf w → StrictAt ws rows i → SubStrict w f h → subsStrict (drop (suc i) ws) c ≡ true
+    → length f ≡ inflightCount w → length h ≡ heldCount w → StrictAt ws rows i → SubStrict w f h → subsStrict (drop (suc i) ws) c ≡ true
     → subsStrict (set ws i w) (take (subRows (take i ws)) rows ++ (f ++ (h ++ c))) ≡ true
 strict-put ws rows i w f h c b e p q s t r =
     let n : ℕ = subRows (take i ws) in
@@ -132,7 +108,7 @@ strict-put ws rows i w f h c b e p q s t r =
     ∙ and-both (subsStrict (take i ws) a) _ (strict-front (take i ws) n rows (omega arith) ∙ s .before) (and-both (subStrict w f h) _ (strict-sub w f h t) r)
 
 -- another consumer with the same rows
-pub strict-reword : (ws rows : List Row) (i : ℕ) (w : Row) → i < length ws → inflightOf w ≡ inflightOf (getD ws i []) → heldOf w ≡ heldOf (getD ws i [])
+pub strict-reword : (ws rows : List Row) (i : ℕ) (w : Row) → i < length ws → inflightCount w ≡ inflightCount (getD ws i []) → heldCount w ≡ heldCount (getD ws i [])
     → wordsStrict w ≡ true → subsStrict ws rows ≡ true → subsStrict (set ws i w) rows ≡ true
 strict-reword ws rows i w b p q s h =
     let g = strict-at ws rows i b h in
@@ -161,8 +137,8 @@ pub strict-entries : (ws rows : List Row) → subsStrict ws rows ≡ true → al
 unfolding eachSub subRows
 strict-entries [] rows h = refl
 strict-entries (w ∷ ws) rows h =
-    let a : ℕ = inflightOf w in
-    let b : ℕ = heldOf w in
+    let a : ℕ = inflightCount w in
+    let b : ℕ = heldCount w in
     let n : ℕ = subRows ws in
     let f : List Row = take a rows in
     let l : List Row = take b (drop a rows) in
@@ -202,13 +178,13 @@ held-back-strict seq w f h = refl
 pub strict-held-back : (seq : ℕ) (ws rows : List Row) → subsStrict (map (heldBackRow seq) ws) rows ≡ subsStrict ws rows
 unfolding eachSub heldBackRow subStrict wordsStrict
 strict-held-back seq [] rows = refl
-strict-held-back seq (w ∷ ws) rows = ap (λ (x : Bool). subStrict w (take (inflightOf w) rows) (take (heldOf w) (drop (inflightOf w) rows)) && x) (strict-held-back seq ws (drop (heldOf w) (drop (inflightOf w) rows)))
+strict-held-back seq (w ∷ ws) rows = ap (λ (x : Bool). subStrict w (take (inflightCount w) rows) (take (heldCount w) (drop (inflightCount w) rows)) && x) (strict-held-back seq ws (drop (heldCount w) (drop (inflightCount w) rows)))
 
 pub strict-cleared : (ws rows after : List Row) → subsStrict ws rows ≡ true → subsStrict (map clearedRow ws) after ≡ true
 unfolding eachSub clearedRow subStrict wordsStrict
 strict-cleared [] rows after h = refl
 strict-cleared (w ∷ ws) rows after h =
-    let f : List Row = take (inflightOf w) rows in
-    let l : List Row = take (heldOf w) (drop (inflightOf w) rows) in
+    let f : List Row = take (inflightCount w) rows in
+    let l : List Row = take (heldCount w) (drop (inflightCount w) rows) in
     let own = sub-strict w f l (and-left (subStrict w f l) _ h) in
     and-both (subStrict (clearedRow w) [] []) _ (strict-sub (clearedRow w) [] [] (record { words = own .words; flying = refl; held = refl })) (strict-cleared ws _ after (and-right (subStrict w f l) _ h))

@@ -10,8 +10,8 @@ use lib.Seq.{slice}
 use Rattle.model.specs.declared.Id.{Id}
 use Rattle.model.specs.Model.{sameId}
 use Rattle.definition.specs.Base.{tally, all}
-use Rattle.definition.specs.Layout.{Row, idAt, inflightOf, heldOf, subRows}
-use Rattle.consumers.specs.declared.Found.the-variants.{At, Nothing}
+use Rattle.definition.specs.Layout.{Row, idAt, inflightCount, heldCount, subRows}
+use Rattle.entry.specs.declared.Found.the-variants.{At, Nothing}
 use Rattle.consumers.specs.Table.{positionFrom, keptBy, keptRows}
 use Rattle.consumers.proofs.Lists.{first-next, first-ended, capped}
 
@@ -25,7 +25,7 @@ module _ (i n : ℕ) (l : List Row) (h : i < min n (length l)) where
   unfolding positionFrom
   position-next id t = rw (first-next i n l [] h, t) (ap (λ (m : ℕ). positionFrom m id (slice (i + 1) n l)) (sym (add-one i)))
 
-  pub rows-next : subRows (slice i n l) ≡ inflightOf (getD l i []) + (heldOf (getD l i []) + subRows (slice (i + 1) n l))
+  pub rows-next : subRows (slice i n l) ≡ inflightCount (getD l i []) + (heldCount (getD l i []) + subRows (slice (i + 1) n l))
   unfolding subRows
   rows-next = rw (first-next i n l [] h)
 

@@ -10,35 +10,35 @@ use lib.Seq.{length-take-le, take-nil, take-at, drop-at, take-append-le, take-ta
 use Rattle.definition.specs.Base.{nth}
 use Rattle.definition.specs.Types.{Kind}
 use Rattle.definition.specs.Types as Def
-use Rattle.definition.specs.Layout.{Row, inflightOf, heldOf, subAt, eachSub, subsAt, subRows}
+use Rattle.definition.specs.Layout.{Row, inflightCount, heldCount, subAt, eachSub, subsAt, subRows}
 use Rattle.consumers.specs.declared.Sub.{Sub}
-use Rattle.consumers.specs.Consumers.{subOf, subWords, subView}
+use Rattle.consumers.specs.Consumers.{rowSub, subWords, subView}
 use Rattle.consumers.specs.Seats.{fromIn, flyingIn, heldIn, afterIn, subIn}
 use Rattle.consumers.proofs.Words.{round}
 
 -- ---- one consumer
 
-pub sub-at : (k : Kind) (w : Row) (f h : List Row) → subAt k w f h ≡ subView k (subOf w) f h
-unfolding subAt subView subOf
+pub sub-at : (k : Kind) (w : Row) (f h : List Row) → subAt k w f h ≡ subView k (rowSub w) f h
+unfolding subAt subView rowSub
 sub-at k w f h = refl
 
 pub sub-stored : (k : Kind) (s : Sub) (f h : List Row) → subAt k (subWords s) f h ≡ subView k s f h
 sub-stored k s f h = sub-at k (subWords s) f h ∙ ap (λ (x : Sub). subView k x f h) (round s)
 
-pub inflight-stored : (s : Sub) → inflightOf (subWords s) ≡ s .inflight
+pub inflight-stored : (s : Sub) → inflightCount (subWords s) ≡ s .inflight
 unfolding subWords
 inflight-stored s = refl
 
-pub held-stored : (s : Sub) → heldOf (subWords s) ≡ s .held
+pub held-stored : (s : Sub) → heldCount (subWords s) ≡ s .held
 unfolding subWords
 held-stored s = refl
 
-pub inflight-loaded : (w : Row) → subOf w .inflight ≡ inflightOf w
-unfolding subOf
+pub inflight-loaded : (w : Row) → rowSub w .inflight ≡ inflightCount w
+unfolding rowSub
 inflight-loaded w = refl
 
-pub held-loaded : (w : Row) → subOf w .held ≡ heldOf w
-unfolding subOf
+pub held-loaded : (w : Row) → rowSub w .held ≡ heldCount w
+unfolding rowSub
 held-loaded w = refl
 
 -- ---- how many rows
@@ -49,7 +49,7 @@ rows-append [] vs = omega arith
 rows-append (w ∷ ws) vs = omega (arith, rows-append ws vs)
 
 pub rows-split : (ws : List Row) (i : ℕ) → i < length ws
-    → subRows ws ≡ subRows (take i ws) + (inflightOf (getD ws i []) + (heldOf (getD ws i []) + subRows (drop (suc i) ws)))
+    → subRows ws ≡ subRows (take i ws) + (inflightCount (getD ws i []) + (heldCount (getD ws i []) + subRows (drop (suc i) ws)))
 unfolding subRows
 rows-split ws i h = ap subRows (split-at ws i [] h) ∙ rows-append (take i ws) (getD ws i [] ∷ drop (suc i) ws)
 
@@ -60,19 +60,19 @@ rows-take [] (suc i) = omega arith
 rows-take (w ∷ ws) (suc i) = omega (arith, rows-take ws i)
 
 pub rows-next : (ws : List Row) (i : ℕ) → i < length ws
-    → subRows (take (suc i) ws) ≡ subRows (take i ws) + (inflightOf (getD ws i []) + heldOf (getD ws i []))
+    → subRows (take (suc i) ws) ≡ subRows (take i ws) + (inflightCount (getD ws i []) + heldCount (getD ws i []))
 unfolding subRows
 rows-next [] i h = absurd (not-suc-le-zero h)
 rows-next (w ∷ ws) zero h = omega arith
 rows-next (w ∷ ws) (suc i) h = omega (arith, rows-next ws i (le-of-suc-le-suc h))
 
 pub rows-set : (ws : List Row) (i : ℕ) (w : Row) → i < length ws
-    → subRows (set ws i w) ≡ subRows (take i ws) + (inflightOf w + (heldOf w + subRows (drop (suc i) ws)))
+    → subRows (set ws i w) ≡ subRows (take i ws) + (inflightCount w + (heldCount w + subRows (drop (suc i) ws)))
 unfolding subRows
 rows-set ws i w h = ap subRows (set-split ws i w h) ∙ rows-append (take i ws) (w ∷ drop (suc i) ws)
 
 pub rows-gone : (ws : List Row) (i : ℕ) → i < length ws
-    → subRows (take i ws ++ drop (suc i) ws) + (inflightOf (getD ws i []) + heldOf (getD ws i [])) ≡ subRows ws
+    → subRows (take i ws ++ drop (suc i) ws) + (inflightCount (getD ws i []) + heldCount (getD ws i [])) ≡ subRows ws
 rows-gone ws i h = omega (arith, rows-append (take i ws) (drop (suc i) ws), rows-split ws i h)
 
 -- ---- the consumers in parts, whatever is read of each with its rows
@@ -105,19 +105,19 @@ module _ {A : Type 0} (of : Row → List Row → List Row → A) where
   unfolding eachSub subRows
   each-append [] vs rows = refl
   each-append (w ∷ ws) vs rows =
-      let f : List Row = take (inflightOf w) rows in
-      let h : List Row = take (heldOf w) (drop (inflightOf w) rows) in
-      let r : List Row = drop (heldOf w) (drop (inflightOf w) rows) in
+      let f : List Row = take (inflightCount w) rows in
+      let h : List Row = take (heldCount w) (drop (inflightCount w) rows) in
+      let r : List Row = drop (heldCount w) (drop (inflightCount w) rows) in
       ap (λ (l : List A). of w f h ∷ l)
-      (each-append ws vs r ∙ ap (λ (l : List Row). eachSub of ws r ++ eachSub of vs l) (drop-three (inflightOf w) (heldOf w) (subRows ws) rows))
+      (each-append ws vs r ∙ ap (λ (l : List Row). eachSub of ws r ++ eachSub of vs l) (drop-three (inflightCount w) (heldCount w) (subRows ws) rows))
 
   -- no row past the consumers' own is looked at
   pub each-front : (ws : List Row) (n : ℕ) (rows : List Row) → subRows ws ≤ n → eachSub of ws (take n rows) ≡ eachSub of ws rows
   unfolding eachSub subRows
   each-front [] n rows h = refl
   each-front (w ∷ ws) n rows h =
-      let a : ℕ = inflightOf w in
-      let b : ℕ = heldOf w in
+      let a : ℕ = inflightCount w in
+      let b : ℕ = heldCount w in
       let m : ℕ = n - a - b in
       let e : a + (n - a) ≡ n = omega arith in
       let g : b + m ≡ n - a = omega arith in
@@ -137,14 +137,14 @@ module _ {A : Type 0} (of : Row → List Row → List Row → A) where
   each-before ws a c h = each-agree ws (subRows ws) (a ++ c) a (omega arith) (take-append-le (subRows ws) a c h)
 
   -- a consumer with its rows, those before it and those after it
-  module _ (w : Row) (f h : List Row) (p : length f ≡ inflightOf w) (q : length h ≡ heldOf w) where
+  module _ (w : Row) (f h : List Row) (p : length f ≡ inflightCount w) (q : length h ≡ heldCount w) where
     each-cons : (vs c : List Row) → eachSub of (w ∷ vs) (f ++ (h ++ c)) ≡ of w f h ∷ eachSub of vs c
     unfolding eachSub
     each-cons vs c =
-        let d : drop (inflightOf w) (f ++ (h ++ c)) ≡ h ++ c = drop-at f (h ++ c) (inflightOf w) p in
-        let one : take (inflightOf w) (f ++ (h ++ c)) ≡ f = take-at f (h ++ c) (inflightOf w) p in
-        let two : take (heldOf w) (drop (inflightOf w) (f ++ (h ++ c))) ≡ h = ap (take (heldOf w)) d ∙ take-at h c (heldOf w) q in
-        let three : drop (heldOf w) (drop (inflightOf w) (f ++ (h ++ c))) ≡ c = ap (drop (heldOf w)) d ∙ drop-at h c (heldOf w) q in
+        let d : drop (inflightCount w) (f ++ (h ++ c)) ≡ h ++ c = drop-at f (h ++ c) (inflightCount w) p in
+        let one : take (inflightCount w) (f ++ (h ++ c)) ≡ f = take-at f (h ++ c) (inflightCount w) p in
+        let two : take (heldCount w) (drop (inflightCount w) (f ++ (h ++ c))) ≡ h = ap (take (heldCount w)) d ∙ take-at h c (heldCount w) q in
+        let three : drop (heldCount w) (drop (inflightCount w) (f ++ (h ++ c))) ≡ c = ap (drop (heldCount w)) d ∙ drop-at h c (heldCount w) q in
         λ i. of w (one i) (two i) ∷ eachSub of vs (three i)
 
     pub each-around : (ws vs a c : List Row) → length a ≡ subRows ws → eachSub of (ws ++ w ∷ vs) (a ++ (f ++ (h ++ c))) ≡ eachSub of ws a ++ of w f h ∷ eachSub of vs c
@@ -186,7 +186,7 @@ module _ {A : Type 0} (of : Row → List Row → List Row → A) where
 
   -- another consumer in the place, with other rows; the rows before are as they were, and the later consumers see what they saw
   pub each-put : (ws rows : List Row) (i : ℕ) (w : Row) (f h c : List Row) → i < length ws → subRows (take i ws) ≤ length rows
-      → length f ≡ inflightOf w → length h ≡ heldOf w → eachSub of (drop (suc i) ws) c ≡ eachSub of (drop (suc i) ws) (afterIn ws rows i)
+      → length f ≡ inflightCount w → length h ≡ heldCount w → eachSub of (drop (suc i) ws) c ≡ eachSub of (drop (suc i) ws) (afterIn ws rows i)
       → eachSub of (set ws i w) (take (subRows (take i ws)) rows ++ (f ++ (h ++ c))) ≡ set (eachSub of ws rows) i (of w f h)
   each-put ws rows i w f h c b e p q r =
       let n : ℕ = subRows (take i ws) in
@@ -197,7 +197,7 @@ module _ {A : Type 0} (of : Row → List Row → List Row → A) where
       ∙ sym (each-set ws rows i (of w f h) b)
 
   -- another consumer with the same rows
-  pub each-reword : (ws rows : List Row) (i : ℕ) (w : Row) → i < length ws → inflightOf w ≡ inflightOf (getD ws i []) → heldOf w ≡ heldOf (getD ws i [])
+  pub each-reword : (ws rows : List Row) (i : ℕ) (w : Row) → i < length ws → inflightCount w ≡ inflightCount (getD ws i []) → heldCount w ≡ heldCount (getD ws i [])
       → eachSub of (set ws i w) rows ≡ set (eachSub of ws rows) i (of w (flyingIn ws rows i) (heldIn ws rows i))
   unfolding eachSub
   each-reword ws rows i w b p q =
@@ -245,7 +245,7 @@ module _ (k : Kind) where
   pub subs-before : (ws a c : List Row) → subRows ws ≤ length a → subsAt k ws (a ++ c) ≡ subsAt k ws a
   subs-before = each-before (subAt k)
 
-  pub subs-around : (w : Row) (f h : List Row) → length f ≡ inflightOf w → length h ≡ heldOf w
+  pub subs-around : (w : Row) (f h : List Row) → length f ≡ inflightCount w → length h ≡ heldCount w
       → (ws vs a c : List Row) → length a ≡ subRows ws → subsAt k (ws ++ w ∷ vs) (a ++ (f ++ (h ++ c))) ≡ subsAt k ws a ++ subAt k w f h ∷ subsAt k vs c
   subs-around = each-around (subAt k)
 
@@ -264,11 +264,11 @@ module _ (k : Kind) where
   subs-set = each-set (subAt k)
 
   pub subs-put : (ws rows : List Row) (i : ℕ) (w : Row) (f h c : List Row) → i < length ws → subRows (take i ws) ≤ length rows
-      → length f ≡ inflightOf w → length h ≡ heldOf w → subsAt k (drop (suc i) ws) c ≡ subsAt k (drop (suc i) ws) (afterIn ws rows i)
+      → length f ≡ inflightCount w → length h ≡ heldCount w → subsAt k (drop (suc i) ws) c ≡ subsAt k (drop (suc i) ws) (afterIn ws rows i)
       → subsAt k (set ws i w) (take (subRows (take i ws)) rows ++ (f ++ (h ++ c))) ≡ set (subsAt k ws rows) i (subAt k w f h)
   subs-put = each-put (subAt k)
 
-  pub subs-reword : (ws rows : List Row) (i : ℕ) (w : Row) → i < length ws → inflightOf w ≡ inflightOf (getD ws i []) → heldOf w ≡ heldOf (getD ws i [])
+  pub subs-reword : (ws rows : List Row) (i : ℕ) (w : Row) → i < length ws → inflightCount w ≡ inflightCount (getD ws i []) → heldCount w ≡ heldCount (getD ws i [])
       → subsAt k (set ws i w) rows ≡ set (subsAt k ws rows) i (subAt k w (flyingIn ws rows i) (heldIn ws rows i))
   subs-reword = each-reword (subAt k)
 
@@ -284,20 +284,20 @@ pub rows-parts : (ws rows : List Row) (i : ℕ) → take (subRows (take i ws)) r
 rows-parts ws rows i =
     let n : ℕ = subRows (take i ws) in
     let w : Row = getD ws i [] in
-    ap (λ (x : List Row). take n rows ++ (flyingIn ws rows i ++ x)) (take-append-drop (heldOf w) (drop (inflightOf w) (drop n rows)))
-    ∙ ap (λ (x : List Row). take n rows ++ x) (take-append-drop (inflightOf w) (drop n rows))
+    ap (λ (x : List Row). take n rows ++ (flyingIn ws rows i ++ x)) (take-append-drop (heldCount w) (drop (inflightCount w) (drop n rows)))
+    ∙ ap (λ (x : List Row). take n rows ++ x) (take-append-drop (inflightCount w) (drop n rows))
     ∙ take-append-drop n rows
 
 module _ (ws rows : List Row) (i : ℕ) (b : i < length ws) (r : subRows ws ≤ length rows) where
-  pub flying-length : length (flyingIn ws rows i) ≡ inflightOf (getD ws i [])
+  pub flying-length : length (flyingIn ws rows i) ≡ inflightCount (getD ws i [])
   flying-length =
       let s = rows-split ws i b in
-      length-take-le (inflightOf (getD ws i [])) (fromIn ws rows i) (simp length-drop (omega arith))
+      length-take-le (inflightCount (getD ws i [])) (fromIn ws rows i) (simp length-drop (omega arith))
 
-  pub held-length : length (heldIn ws rows i) ≡ heldOf (getD ws i [])
+  pub held-length : length (heldIn ws rows i) ≡ heldCount (getD ws i [])
   held-length =
       let s = rows-split ws i b in
-      length-take-le (heldOf (getD ws i [])) (drop (inflightOf (getD ws i [])) (fromIn ws rows i)) (simp length-drop (omega arith))
+      length-take-le (heldCount (getD ws i [])) (drop (inflightCount (getD ws i [])) (fromIn ws rows i)) (simp length-drop (omega arith))
 
 drop-four : (a b c e : ℕ) (l : List Row) → drop e (drop c (drop b (drop a l))) ≡ drop (a + (b + (c + e))) l
 drop-four a b c e l = drop-three b c e (drop a l) ∙ drop-drop (b + (c + e)) a l
@@ -306,20 +306,20 @@ drop-four a b c e l = drop-three b c e (drop a l) ∙ drop-drop (b + (c + e)) a 
 pub after-all : (ws rows : List Row) (i : ℕ) → i < length ws → drop (subRows ws) rows ≡ drop (subRows (drop (suc i) ws)) (afterIn ws rows i)
 after-all ws rows i b =
     ap (λ (n : ℕ). drop n rows) (rows-split ws i b)
-    ∙ sym (drop-four (subRows (take i ws)) (inflightOf (getD ws i [])) (heldOf (getD ws i [])) (subRows (drop (suc i) ws)) rows)
+    ∙ sym (drop-four (subRows (take i ws)) (inflightCount (getD ws i [])) (heldCount (getD ws i [])) (subRows (drop (suc i) ws)) rows)
 
 pub after-put : (ws rows : List Row) (i : ℕ) (w : Row) (f h c : List Row) → i < length ws → subRows (take i ws) ≤ length rows
-    → length f ≡ inflightOf w → length h ≡ heldOf w
+    → length f ≡ inflightCount w → length h ≡ heldCount w
     → drop (subRows (set ws i w)) (take (subRows (take i ws)) rows ++ (f ++ (h ++ c))) ≡ drop (subRows (drop (suc i) ws)) c
 after-put ws rows i w f h c b e p q =
     let n : ℕ = subRows (take i ws) in
     let m : ℕ = subRows (drop (suc i) ws) in
     let l : List Row = take n rows ++ (f ++ (h ++ c)) in
     ap (λ (j : ℕ). drop j l) (rows-set ws i w b)
-    ∙ sym (drop-four n (inflightOf w) (heldOf w) m l)
-    ∙ ap (λ (x : List Row). drop m (drop (heldOf w) (drop (inflightOf w) x))) (drop-at (take n rows) (f ++ (h ++ c)) n (length-take-le n rows e))
-    ∙ ap (λ (x : List Row). drop m (drop (heldOf w) x)) (drop-at f (h ++ c) (inflightOf w) p)
-    ∙ ap (drop m) (drop-at h c (heldOf w) q)
+    ∙ sym (drop-four n (inflightCount w) (heldCount w) m l)
+    ∙ ap (λ (x : List Row). drop m (drop (heldCount w) (drop (inflightCount w) x))) (drop-at (take n rows) (f ++ (h ++ c)) n (length-take-le n rows e))
+    ∙ ap (λ (x : List Row). drop m (drop (heldCount w) x)) (drop-at f (h ++ c) (inflightCount w) p)
+    ∙ ap (drop m) (drop-at h c (heldCount w) q)
 
 pub after-gone : (ws rows : List Row) (i : ℕ) (c : List Row) → subRows (take i ws) ≤ length rows
     → drop (subRows (take i ws ++ drop (suc i) ws)) (take (subRows (take i ws)) rows ++ c) ≡ drop (subRows (drop (suc i) ws)) c

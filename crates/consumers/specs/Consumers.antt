@@ -1,9 +1,9 @@
 -- A consumer by value, and the row of sixteen words that holds it. Assumes nothing.
-use Prim.Native.Nat.{ℕ, _-_, min}
+use Prim.Native.Nat.{ℕ, _+_, _-_, _^_}
 use mathlib.Core.Bool.{Bool, false, not, _&&_}
 use mathlib.Core.List.{List, [], _∷_, map}
 use mathlib.Core.Option.{none, some}
-use lib.Dec.{ltb, eqb}
+use lib.Dec.{ltb, leb, eqb}
 use mir.Val.{boolByte}
 use Rattle.words.specs.Pick.{if_then_else_}
 use Rattle.entry.specs.Entry.{entryOf, selects}
@@ -16,8 +16,8 @@ use Rattle.definition.specs.Layout.{Row, flag, inflightAt, browserAt, tpendingA
 use Rattle.consumers.specs.declared.Sub.{Sub}
 
 -- a consumer's words, by value
-unfoldable pub subOf : Row → Sub
-subOf w = record {
+unfoldable pub rowSub : Row → Sub
+rowSub w = record {
   conn = at 0 w;
   session = at 1 w;
   value = at 2 w;
@@ -72,3 +72,17 @@ localOf s producer = s .«no_local» && (not (eqb producer 0) && eqb producer (s
 
 unfoldable pub acceptsOf : Sub → Entry → Bool
 acceptsOf s e = if localOf s (e .producer) then false else selects (e .«match_word») (s .selector)
+
+-- ---- one changed
+
+-- so many held
+abbrev pub withHeld : ℕ → Sub → Sub
+withHeld x s = record { conn = s .conn; session = s .session; value = s .value; prefetch = s .prefetch; selector = s .selector; «next_dseq» = s .«next_dseq»; cursor = s .cursor; pull = s .pull; generation = s .generation; freed = s .freed; inflight = s .inflight; held = x; «no_local» = s .«no_local»; browser = s .browser; finished = s .finished; pulling = s .pulling }
+
+-- Sub::send: one more in flight, and no pull waits
+abbrev pub sentSub : Sub → Sub
+sentSub s = record { conn = s .conn; session = s .session; value = s .value; prefetch = s .prefetch; selector = s .selector; «next_dseq» = s .«next_dseq» + 1; cursor = s .cursor; pull = 0; generation = s .generation; freed = s .freed; inflight = s .inflight + 1; held = s .held; «no_local» = s .«no_local»; browser = s .browser; finished = s .finished; pulling = false }
+
+-- where both numbers can rise
+unfoldable pub sentOf : Sub → Sub
+sentOf s = if leb (s .«next_dseq») (2 ^ 63) && leb (s .inflight) (2 ^ 63) then sentSub s else s

@@ -7,7 +7,7 @@ use lib.ListN.{take, drop, getD}
 use Rattle.definition.specs.Base.{all}
 use Rattle.definition.specs.Types.{Kind}
 use Rattle.definition.specs.Types as Def
-use Rattle.definition.specs.Layout.{Row, inflightOf, heldOf, subAt, subRows, entryStrict, flyingStrict}
+use Rattle.definition.specs.Layout.{Row, inflightCount, heldCount, subAt, subRows, entryStrict, flyingStrict}
 
 -- the rows from its first one on
 abbrev pub fromIn : List Row → List Row → ℕ → List Row
@@ -15,13 +15,13 @@ fromIn ws rows i = drop (subRows (take i ws)) rows
 
 -- its rows in flight, those that it holds, and those after them
 abbrev pub flyingIn : List Row → List Row → ℕ → List Row
-flyingIn ws rows i = take (inflightOf (getD ws i [])) (fromIn ws rows i)
+flyingIn ws rows i = take (inflightCount (getD ws i [])) (fromIn ws rows i)
 
 abbrev pub heldIn : List Row → List Row → ℕ → List Row
-heldIn ws rows i = take (heldOf (getD ws i [])) (drop (inflightOf (getD ws i [])) (fromIn ws rows i))
+heldIn ws rows i = take (heldCount (getD ws i [])) (drop (inflightCount (getD ws i [])) (fromIn ws rows i))
 
 abbrev pub afterIn : List Row → List Row → ℕ → List Row
-afterIn ws rows i = drop (heldOf (getD ws i [])) (drop (inflightOf (getD ws i [])) (fromIn ws rows i))
+afterIn ws rows i = drop (heldCount (getD ws i [])) (drop (inflightCount (getD ws i [])) (fromIn ws rows i))
 
 -- the consumer
 abbrev pub subIn : Kind → List Row → List Row → ℕ → Def.Sub

@@ -1,5 +1,5 @@
 -- The table of consumers, a row of sixteen words each: what the functions on its first n rows answer and leave. Assumes nothing.
-use Prim.Native.Nat.{ℕ, suc, _+_, _-_, min}
+use Prim.Native.Nat.{ℕ, suc, _+_, _-_, _^_, min}
 use mathlib.Core.Bool.{Bool, true, false, _&&_}
 use mathlib.Core.List.{List, [], _∷_, _++_, map}
 use lib.Dec.{leb, ltb}
@@ -10,10 +10,10 @@ use Rattle.entry.specs.declared.Entry.{Entry}
 use Rattle.model.specs.declared.Id.{Id}
 use Rattle.model.specs.Model.{sameId}
 use Rattle.definition.specs.Words.{at}
-use Rattle.definition.specs.Layout.{Row, flag, idAt, inflightOf, heldOf}
-use Rattle.consumers.specs.declared.Found.{Found}
-use Rattle.consumers.specs.declared.Found.the-variants.{At, Nothing}
-use Rattle.consumers.specs.Consumers.{subOf, acceptsOf}
+use Rattle.definition.specs.Layout.{Row, flag, idAt, inflightCount, heldCount}
+use Rattle.entry.specs.declared.Found.{Found}
+use Rattle.entry.specs.declared.Found.the-variants.{At, Nothing}
+use Rattle.consumers.specs.Consumers.{rowSub, acceptsOf}
 
 -- `position`: the first with that identifier, where the first of all stands at i
 unfoldable pub positionFrom : ℕ → Id → List Row → Found
@@ -25,8 +25,8 @@ unfoldable pub takenOut : ℕ → ℕ → List Row → List Row
 takenOut at n ws = take at ws ++ (slice (suc at) n ws ++ drop (n - 1) ws)
 
 -- outside the first n, or where there are not so many, nothing is taken out
-unfoldable pub removed : ℕ → ℕ → List Row → List Row
-removed at n ws = if leb n (length ws) && ltb at n then takenOut at n ws else ws
+unfoldable pub subRemoved : ℕ → ℕ → List Row → List Row
+subRemoved at n ws = if leb n (length ws) && ltb at n then takenOut at n ws else ws
 
 -- f put to each of the first n
 unfoldable pub onFirst : (Row → Row) → ℕ → List Row → List Row
@@ -47,15 +47,15 @@ unfoldable pub clearedRow : Row → Row
 clearedRow w = set (set (set (sixteen w) 13 0) 14 0) 15 0
 
 -- whether it accepts an entry
-abbrev pub takes : Entry → Row → Bool
-takes e w = acceptsOf (subOf w) e
+abbrev pub takesEntry : Entry → Row → Bool
+takesEntry e w = acceptsOf (rowSub w) e
 
 -- what it holds that is no snapshot of a queue, and that with what it has in flight
-abbrev pub heldBy : Bool → Row → ℕ
-heldBy queue w = if queue && flag (at 6 w) then 0 else heldOf w
+abbrev pub heldCounted : Bool → Row → ℕ
+heldCounted queue w = if queue && flag (at 6 w) then 0 else heldCount w
 
 abbrev pub keptBy : Bool → Row → ℕ
-keptBy queue w = inflightOf w + heldBy queue w
+keptBy queue w = inflightCount w + heldCounted queue w
 
 unfoldable pub keptRows : Bool → List Row → ℕ
 keptRows queue [] = 0
@@ -64,3 +64,7 @@ keptRows queue (w ∷ ws) = keptBy queue w + keptRows queue ws
 -- freed within in flight, and numbers that can still rise
 unfoldable pub fitting : Row → Bool
 fitting w = leb (at 13 w) (at 14 w) && (leb (at 8 w) 72057594037927937 && leb (at 12 w) 72057594037927937)
+
+-- its next delivery number can rise by a full table, and more
+abbrev pub nextFits : Row → Bool
+nextFits w = leb (at 8 w) (2 ^ 62)

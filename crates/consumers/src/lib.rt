@@ -5,11 +5,14 @@ ghost use Prim.Native.Nat.{_+_, _-_, _<_, _≤_, min};
 ghost use lib.ListN.{length, getD, set, take};
 ghost use Rattle.model.specs.Model.{idOf, sameId};
 ghost use Rattle.definition.specs.Base.{tally, all};
+ghost use Rattle.definition.specs.Destination as Destination;
 ghost use Rattle.definition.specs.Words.{at};
-ghost use Rattle.definition.specs.Layout.{idAt, inflightOf, heldOf, subRows};
-ghost use Rattle.consumers.specs.Consumers.{subOf, subWords, creditOf, localOf, acceptsOf};
-ghost use Rattle.consumers.specs.Table.{sixteen, positionFrom, takenOut, removed, heldBackRow, clearedRow, onFirst, takes, heldBy, keptBy, keptRows, fitting};
+ghost use Rattle.definition.specs.Layout.{idAt, heldAt, inflightCount, heldCount, subRows};
+ghost use Rattle.consumers.specs.Consumers.{rowSub, subWords, creditOf, localOf, acceptsOf, sentOf};
+ghost use Rattle.consumers.specs.Table.{sixteen, positionFrom, takenOut, subRemoved, heldBackRow, clearedRow, onFirst, takesEntry, heldCounted, keptBy, keptRows, fitting};
 use entry::Entry;
+use entry::Found;
+use entry::Row;
 use model::Id;
 
 pub type SubRow = [u64; 16];
@@ -35,6 +38,9 @@ pub const HELD: usize = 15;
 // No counter, delivery number or generation is above 65,536 * 2^40 + 1.
 const NUMBER_MOST: u64 = 72057594037927937;
 
+// Above 2^63 a number does not rise.
+const RISING_MOST: u64 = 9223372036854775808;
+
 // The identifier is kept as its three words. `pull` is read where `pulling` is set.
 pub struct Sub {
     pub conn: u64,
@@ -55,20 +61,11 @@ pub struct Sub {
     pub pulling: bool,
 }
 
-pub enum Found {
-    At(usize),
-    Nothing,
-}
-
 impl Sub {
     pub fn id(self) -> Id
         ensures { λ r. ⌜ r ≡ idOf (self .conn) (self .session) (self .value) ⌝ }
     {
-        Id {
-            conn: self.conn,
-            session: words::signed_of(self.session),
-            value: words::signed_of(self.value),
-        }
+        Id::of_words(self.conn, self.session, self.value)
     }
 
     // What counts against prefetch.
@@ -112,9 +109,26 @@ impl Sub {
         }
         entry::selects(e.match_word, self.selector)
     }
+
+    // `Sub::send`: one more in flight, and no pull waits. Where a number cannot rise, nothing.
+    pub fn sent(mut self) -> Sub
+        ensures { λ r. ⌜ r ≡ sentOf self ⌝ }
+    {
+        if RISING_MOST < self.next_dseq {
+            return self;
+        }
+        if RISING_MOST < self.inflight as u64 {
+            return self;
+        }
+        self.next_dseq = self.next_dseq + 1;
+        self.inflight = self.inflight + 1;
+        self.pulling = false;
+        self.pull = 0;
+        self
+    }
 }
 
-fn least(a: u64, b: u64) -> u64
+pub fn least(a: u64, b: u64) -> u64
     ensures { λ r. ⌜ r ≡ min a b ⌝ }
 {
     if a <= b { a } else { b }
@@ -127,14 +141,14 @@ fn before(seq: u64) -> u64
 }
 
 // The end of the first n of a table of this length.
-fn end_of(n: usize, len: usize) -> usize
+pub fn end_of(n: usize, len: usize) -> usize
     ensures { λ r. ⌜ r ≡ min n len ⌝ }
 {
     if n <= len { n } else { len }
 }
 
 fn sub_of(w: SubRow) -> Sub
-    ensures { λ r. ⌜ r ≡ subOf w ⌝ }
+    ensures { λ r. ⌜ r ≡ rowSub w ⌝ }
 {
     Sub {
         conn: w[0],
@@ -181,7 +195,7 @@ fn words_of(s: Sub) -> SubRow
 
 // The consumer at a place; past the end, one of zeros.
 pub fn load(subs: &[SubRow], i: usize) -> Sub
-    ensures { λ r. ⌜ r ≡ subOf (getD (now (subs .entry)) i []) ⌝ }
+    ensures { λ r. ⌜ r ≡ rowSub (getD (now (subs .entry)) i []) ⌝ }
 {
     if i < subs.len() {
         sub_of(subs[i])
@@ -210,6 +224,13 @@ fn is_id(w: SubRow, conn: u64, session: u64, value: u64) -> bool
         return false;
     }
     w[2] == value
+}
+
+// Whether a row is reserved for that consumer.
+pub fn is_for(row: Row, id: Id) -> bool
+    ensures { λ r. ⌜ r ≡ Destination.heldBy id (heldAt row) ⌝ }
+{
+    Id::of_words(row[6], row[7], row[8]).same(id)
 }
 
 // Where among the first n the consumer with that identifier stands (`position`).
@@ -247,7 +268,7 @@ fn sum_of(a: u64, b: u64) -> usize
 
 // How many rows a consumer has, or 513 for more than 512.
 fn rows_of(w: SubRow) -> usize
-    ensures { λ r. ⌜ r ≡ min 513 (inflightOf w + heldOf w) ⌝ }
+    ensures { λ r. ⌜ r ≡ min 513 (inflightCount w + heldCount w) ⌝ }
 {
     sum_of(w[INFLIGHT], w[HELD])
 }
@@ -280,7 +301,7 @@ pub fn base_of(subs: &[SubRow], n: usize) -> usize
 
 // Takes the consumer at a place out of the first n.
 pub fn remove(subs: &mut [SubRow], at: usize, n: usize)
-    ensures { λ _. ⌜ now (subs .exit) ≡ removed at n (now (subs .entry)) ⌝ }
+    ensures { λ _. ⌜ now (subs .exit) ≡ subRemoved at n (now (subs .entry)) ⌝ }
 {
     if subs.len() < n {
         return;
@@ -327,7 +348,7 @@ pub fn hold_back(subs: &mut [SubRow], n: usize, seq: u64)
 
 // How many of the first n accept an entry.
 pub fn accepting(subs: &[SubRow], n: usize, e: Entry) -> usize
-    ensures { λ r. ⌜ r ≡ tally (takes e) (take n (now (subs .entry))) ⌝ }
+    ensures { λ r. ⌜ r ≡ tally (takesEntry e) (take n (now (subs .entry))) ⌝ }
 {
     let end = end_of(n, subs.len());
     let mut count = 0;
@@ -343,7 +364,7 @@ pub fn accepting(subs: &[SubRow], n: usize, e: Entry) -> usize
 
 // What one consumer holds that is no snapshot of a queue.
 fn held_of(w: SubRow, queue: bool) -> u64
-    ensures { λ r. ⌜ r ≡ heldBy queue w ⌝ }
+    ensures { λ r. ⌜ r ≡ heldCounted queue w ⌝ }
 {
     if !queue {
         return w[HELD];

@@ -24,9 +24,9 @@ abbrev pub Slot : ℕ → ℕ → ℕ → ℕ → List Row → Type 0
 Slot x place from to rows = (place ≡ 0 → member x (map (at 0) (slice from to rows)) ≡ false) × (0 < place → (from < place) × (place ≤ to))
 
 -- a consumer has rows that may be copies: on a queue only a browser has
-abbrev pub holds : Bool → Row → Bool
-holds q w = (not q || flag (at 6 w)) && not (eqb (at 14 w) 0 && eqb (at 15 w) 0)
+abbrev pub mayCopy : Bool → Row → Bool
+mayCopy q w = (not q || flag (at 6 w)) && not (eqb (at 14 w) 0 && eqb (at 15 w) 0)
 
 -- on a queue one such, on a topic two
 abbrev pub sharedBy : Bool → List Row → Bool
-sharedBy q l = leb (if q then 1 else 2) (tally (holds q) l)
+sharedBy q l = leb (if q then 1 else 2) (tally (mayCopy q) l)

@@ -11,7 +11,7 @@ ghost use Rattle.words.specs.Pick.{if_then_else_};
 ghost use Rattle.entry.specs.Entry.{entryOf};
 ghost use Rattle.definition.specs.Base.{all, tally};
 ghost use Rattle.definition.specs.Calls.{sizesAgree};
-ghost use Rattle.copies.specs.Copies.{alike, agreeAt, Slot, holds, sharedBy};
+ghost use Rattle.copies.specs.Copies.{alike, agreeAt, Slot, mayCopy, sharedBy};
 
 type SubRow = [u64; 16];
 
@@ -139,7 +139,7 @@ pub fn agree(rows: &[Row], n: usize) -> bool
 
 // Whether a consumer has rows that may be copies: on a queue only a browser has.
 fn holds(w: SubRow, on_queue: bool) -> bool
-    ensures { λ r. ⌜ r ≡ holds «on_queue» w ⌝ }
+    ensures { λ r. ⌜ r ≡ mayCopy «on_queue» w ⌝ }
 {
     (!on_queue | (w[6] != 0)) & !((w[14] == 0) & (w[15] == 0))
 }
@@ -147,7 +147,7 @@ fn holds(w: SubRow, on_queue: bool) -> bool
 // How many of the first n have.
 fn holders(subs: &[SubRow], n: usize, on_queue: bool) -> u64
     requires { do ⌜ n ≤ (← ⟦subs.len()⟧) ⌝ }
-    ensures { λ r. ⌜ r ≡ tally (holds «on_queue») (take n (now (subs .entry))) ⌝ }
+    ensures { λ r. ⌜ r ≡ tally (mayCopy «on_queue») (take n (now (subs .entry))) ⌝ }
 {
     let mut count = 0;
     let mut i = 0;

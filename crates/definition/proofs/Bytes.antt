@@ -2,26 +2,27 @@
 use Prim.Native.Nat.{ℕ, _+_, _*_, _≤_, _^_}
 use native.Mathlib.Omega.{arith}
 use mathlib.Core.Path.{_≡_, refl, sym, _∙_, ap}
-use mathlib.Core.Bool.{Bool, true, false, not, _||_, true≢false}
+use mathlib.Core.Bool.{Bool, true, false, not, _||_}
 use mathlib.Core.List.{List, [], _∷_, _++_, append-nil}
 use lib.Dec.{leb, ltb, eqb}
 use lib.ListN.{length}
-use borrow.Author.Tests.{eqb-true, eqb-false, eq-eqb, ne-eqb, ltb-true}
+use borrow.Author.Tests.{eqb-true, ltb-true}
+use Rattle.words.proofs.Tests.{eqb-comm}
 use Rattle.definition.specs.Base.{if_then_else_, all, member}
-use Rattle.definition.specs.Types.{Entry, Dest}
-use Rattle.definition.specs.Calls.{entryOk, word, within, seqs, allRows, sizesAgree, sound}
-use Rattle.definition.specs.Queries.{bytesOf, bytesHeld}
+use Rattle.definition.specs.Types.{Entry}
+use Rattle.definition.specs.Calls.{entryOk, word, signedWithin, seqs, allRows, sizesAgree}
+use Rattle.definition.specs.Queries.{bytesOf}
 use Rattle.definition.specs.Claims.{BytesFit, BytesAnyOrder}
 use Rattle.definition.proofs.Tests.{by-if, by-test, and-left, and-right}
 use Rattle.definition.proofs.Thin.{every-all}
 use Rattle.definition.proofs.Sums.{one, bad, odd, sum-append, sum-one, sum-ok, agree-sum, sum-agree}
-use Rattle.definition.proofs.Whole.{Fine, fine, rows-length}
+use Rattle.definition.proofs.Whole.{fine, rows-length}
 
 -- ---- the bound
 
 size-ok : (e : Entry) → entryOk e ≡ true → e .size ≤ 4294967295
 size-ok e h =
-    let f = every-all (leb 1 (e .seq) ∷ ltb (e .seq) (2 ^ 63) ∷ within (2 ^ 63) (e .expiration) ∷ word (e .producer) ∷ word (e .«match_word») ∷ within (2 ^ 31) (e .redelivery) ∷ ltb (e .size) (2 ^ 32) ∷ []) h in
+    let f = every-all (leb 1 (e .seq) ∷ ltb (e .seq) (2 ^ 63) ∷ signedWithin (2 ^ 63) (e .expiration) ∷ word (e .producer) ∷ word (e .«match_word») ∷ signedWithin (2 ^ 31) (e .redelivery) ∷ ltb (e .size) (2 ^ 32) ∷ []) h in
     omega (arith, ltb-true (e .size) (2 ^ 32) (f .1 .1 .1 .1 .1 .1 .0))
 
 few-bytes : (l : List Entry) → all entryOk l ≡ true → bytesOf l ≤ length l * 4294967295
@@ -55,16 +56,13 @@ two false true false x y b h = omega arith
 two false false true x y b h = omega arith
 two false false false x y b h = omega arith
 
-eqb-swap : (x y : ℕ) → eqb x y ≡ eqb y x
-eqb-swap x y = by-test (eqb x y) (λ c. c ∙ sym (eq-eqb y x (sym (eqb-true x y c)))) (λ c. c ∙ sym (ne-eqb y x (λ e. absurd (omega (arith, eqb-false x y c, e)))))
-
 bytes-middle : (l : List Entry) (e : Entry) (m : List Entry) → sizesAgree (l ++ e ∷ m) ≡ true → bytesOf (l ++ e ∷ m) ≡ (if member (e .seq) (seqs (l ++ m)) then 0 else e .size) + bytesOf (l ++ m)
 bytes-middle [] e m h = refl
 bytes-middle (f ∷ l) e m h =
     ap (λ b. (if b then 0 else f .size) + bytesOf (l ++ e ∷ m)) (member-middle (f .seq) l e m)
     ∙ ap (λ n. (if eqb (f .seq) (e .seq) || member (f .seq) (seqs (l ++ m)) then 0 else f .size) + n) (bytes-middle l e m (and-right (all like (l ++ e ∷ m)) _ h))
     ∙ two (eqb (f .seq) (e .seq)) (member (f .seq) (seqs (l ++ m))) (member (e .seq) (seqs (l ++ m))) (f .size) (e .size) (bytesOf (l ++ m)) one-size
-    ∙ ap (λ b. (if b || member (e .seq) (seqs (l ++ m)) then 0 else e .size) + ((if member (f .seq) (seqs (l ++ m)) then 0 else f .size) + bytesOf (l ++ m))) (eqb-swap (f .seq) (e .seq))
+    ∙ ap (λ b. (if b || member (e .seq) (seqs (l ++ m)) then 0 else e .size) + ((if member (f .seq) (seqs (l ++ m)) then 0 else f .size) + bytesOf (l ++ m))) (eqb-comm (f .seq) (e .seq))
   where
     like : Entry → Bool
     like g = not (eqb (f .seq) (g .seq)) || eqb (f .size) (g .size)

@@ -6,7 +6,7 @@ use mathlib.Core.Bool.{Bool, true, false, not, _&&_, _||_, true≢false}
 use mathlib.Core.List.{List, [], _∷_, map}
 use mathlib.Core.Option.{Option, none, some}
 use lib.Dec.{ltb, eqb}
-use lib.ListN.{length, set}
+use lib.ListN.{length, set, length-map}
 use lib.IntN.{ℤ, pos}
 use lib.Signed.{ltZ}
 use Rattle.definition.specs.Base.{if_then_else_, keep, find, put, nth, empty}
@@ -15,7 +15,7 @@ use Rattle.definition.specs.Consumer.{expired, addExpired, isBrowser, sn
 use Rattle.definition.specs.Destination.{ackAt, pullAt, removeAt, sweepAt, testAt, timeoutAt, visitAt, Out, Look, look, given, visit, scan, turns, rounds, Browsed, browsers, dispatchQueue, serveAll, dispatchTopic, dispatchBy, dispatch, touchIdle, count, isId, subOf, putSub, room, setPrefetch, ack, pulled, pull, pullTimeout, fired, resumed, fanOutAll, stored, fannedOut, enqueueBy, Spec, addSub, holdBackAll, reinsert, heldBy, reservedOf, ackReserved, returning, dropSub, removeSub, noTx, unmarked, returnReserved, Swept, sweepList, SweptSubs, sweepSubs, sweepExpired, cleared, clear, auditOf, isDuplicate, due}
 use Rattle.audit.specs.Audit.{seen}
 use Rattle.definition.proofs.Tests.{or-no-left, by-if, by-test}
-use Rattle.definition.proofs.Lists.{All, all-put, all-find, length-map}
+use Rattle.definition.proofs.Lists.{All, all-put, all-find}
 use Rattle.definition.specs.Calls.{Lengths, Request, acknowledge, pulling, timedOut, prefetching, ask, Call, enqueuing, joining, leaving, asking, unmarking, releasing, sweeping, clearing, adding, removing, testing, forgetting, discarding, missing, perform, refusal, call}
 use Rattle.definition.proofs.Local.{Rests, RestsTopic, RestsQueue, drained-rests, browsed-rests, alone}
 use Rattle.definition.specs.Orders.{Reached}
@@ -274,7 +274,7 @@ module _ (b : Bool) where
   -- release
   noTx-credit : (s : Sub) → hasCredit (noTx s) ≡ hasCredit s
   unfolding hasCredit
-  noTx-credit s = rw (length-map {B = Inflight} (λ i. record { dseq = i .dseq; entry = i .entry; freed = i .freed; tx = false }) (s .inflight))
+  noTx-credit s = rw (length-map {B = Inflight} (s .inflight) (λ i. record { dseq = i .dseq; entry = i .entry; freed = i .freed; tx = false }))
 
   noTx-rests : (k : Kind) (s : Sub) → Rests k s → Rests k (noTx s)
   unfolding isBrowser

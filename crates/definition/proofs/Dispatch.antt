@@ -2,9 +2,9 @@
 use Prim.Native.Nat.{ℕ, zero, suc, _+_, _-_, _%_, _≤_, _^_}
 use native.Mathlib.Omega.{arith}
 use native.Mathlib.Nat.{mod-lt}
-use mathlib.Core.Path.{_≡_, refl, sym, _∙_, ap, subst}
+use mathlib.Core.Path.{_≡_, refl, sym, _∙_, ap}
 use mathlib.Core.Bool.{true, false, not, _||_, true≢false}
-use mathlib.Core.List.{List, [], _∷_, _++_, map}
+use mathlib.Core.List.{List, [], _∷_, _++_, map, map-append}
 use mathlib.Core.Option.{Option, none, some}
 use lib.Dec.{leb, ltb, eqb}
 use lib.ListN.{length, set, length-append, length-set}
@@ -16,13 +16,13 @@ use Rattle.definition.specs.Consumer.{expired, accepts, zeroStats, _⊕_
 use Rattle.definition.specs.Destination.{visitAt, count, Look, look, given, visit, scan, turns, rounds, Browsed, browsers, dispatchQueue, serveAll, dispatchTopic, dispatchBy}
 use Rattle.definition.specs.Calls.{entryOk, seqs, flying, rowsOf}
 use Rattle.definition.proofs.Tests.{or-no-left, by-if, by-test, and-left, and-right}
-use Rattle.definition.proofs.Lists.{none-some, some-inj, All, empty-nil}
-use Rattle.definition.proofs.Thin.{alike-refl, Thin, done, skip, stay, thin-refl, thin-trans, map-append, tally-append, ascending-more}
+use Rattle.definition.proofs.Lists.{none-some, some-inj, All, empty-nil, all-set, all-nth}
+use Rattle.definition.proofs.Thin.{alike-refl, Thin, done, skip, stay, thin-refl, thin-trans, tally-append, ascending-more}
 use Rattle.definition.proofs.Sums.{odd, from, sum, Tame, one, occ, bad, sum-append, sum-thin, sum-one, ok-sum, sum-ok, sum-once, thin-ascending, thin-keep, bad-ok}
 use Rattle.definition.proofs.Fit.{Fit, Little, total, met, dseqs, drain-little, browses-little}
 use Rattle.definition.proofs.Grown.{counted}
 use Rattle.definition.proofs.Local.{drained-id, browsed-id, alone}
-use Rattle.definition.proofs.Whole.{sums, rowsM, countM, Sane, sane-more, Under, all-map, Fine, fine-more}
+use Rattle.definition.proofs.Whole.{sums, rowsM, countM, Sane, sane-more, Under, all-map, Fine, fine-more, sums-set}
 use Rattle.definition.proofs.Each.{Eased, eased-refl, Each, each-nil, each-cons, ids-same, renewed, frame-renewed, each-fine}
 
 pub not-queue : topic ≡ queue → ⊥
@@ -134,7 +134,7 @@ browse-all N x now (s ∷ l) p h a =
 
 -- ---- the look along the queue
 
-abbrev fo : (Entry → ℕ) → Option Entry → ℕ
+abbrev pub fo : (Entry → ℕ) → Option Entry → ℕ
 fo f none = 0
 fo f (some e) = f e
 
@@ -164,26 +164,10 @@ looks now s c (e ∷ es) = by-test (leb (e .seq) (s .cursor))
 -- ---- one consumer in its place
 
 module _ (g : Sub → ℕ) where
-  sums-set : (i : ℕ) (l : List Sub) (s v : Sub) → nth i l ≡ some s → sums g (set l i v) + g s ≡ sums g l + g v
-  sums-set i [] s v e = absurd (none-some e)
-  sums-set zero (r ∷ l) s v e = omega (arith, ap g (some-inj e))
-  sums-set (suc i) (r ∷ l) s v e = omega (arith, sums-set i l s v e)
-
   sums-nth : (i : ℕ) (l : List Sub) (s : Sub) → nth i l ≡ some s → g s ≤ sums g l
   sums-nth i [] s e = absurd (none-some e)
   sums-nth zero (r ∷ l) s e = omega (arith, ap g (some-inj e))
   sums-nth (suc i) (r ∷ l) s e = omega (arith, sums-nth i l s e)
-
-module _ (P : Sub → Type 0) where
-  all-set : (i : ℕ) (l : List Sub) (v : Sub) → All P l → P v → All P (set l i v)
-  all-set i [] v h q = tt
-  all-set zero (r ∷ l) v h q = (q, h .1)
-  all-set (suc i) (r ∷ l) v h q = (h .0, all-set i l v (h .1) q)
-
-  all-nth : (i : ℕ) (l : List Sub) (s : Sub) → All P l → nth i l ≡ some s → P s
-  all-nth i [] s h e = absurd (none-some e)
-  all-nth zero (r ∷ l) s h e = subst P (some-inj e) (h .0)
-  all-nth (suc i) (r ∷ l) s h e = all-nth i l s (h .1) e
 
 ids-set : (i : ℕ) (l : List Sub) (s v : Sub) → nth i l ≡ some s → v .id ≡ s .id → map (λ r. r .id) (set l i v) ≡ map (λ r. r .id) l
 ids-set i [] s v e h = refl
@@ -204,7 +188,7 @@ pub plain-rows : (f : Entry → ℕ) (s : Sub) → Fit queue s → isBrowser s �
 unfolding rowsM
 plain-rows f s h c = omega (arith, sum-append f (flying s) (s .tpending ++ snapshot s), sum-append f (s .tpending) (snapshot s), ap (sum f) (empty-nil (s .tpending) (h .stands)), ap (sum f) (no-snapshot s c))
 
-send-flying : (s : Sub) (e : Entry) → flying (send e s) ≡ flying s ++ e ∷ []
+pub send-flying : (s : Sub) (e : Entry) → flying (send e s) ≡ flying s ++ e ∷ []
 send-flying s e = map-append (λ i. i .entry) (s .inflight) (inflightOf (s .nextDseq) e ∷ [])
 
 -- what a consumer that is no browser takes

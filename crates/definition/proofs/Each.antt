@@ -6,13 +6,13 @@ use mathlib.Core.Bool.{Bool, true, not, _&&_, _||_}
 use mathlib.Core.List.{List, [], _∷_, map}
 use mathlib.Core.Option.{Option, some}
 use lib.Dec.{ltb, eqb}
-use lib.ListN.{length}
+use lib.ListN.{length, length-map}
 use Rattle.definition.specs.Base.{all, find, put, ascending}
 use Rattle.definition.specs.Types.{Kind, queue, topic, Id, Entry, Sub, Stats, Held, Dest, withPending, withSubs, withRr, withStats, withIdle, withReserved}
 use Rattle.definition.specs.Consumer.{sameId}
 use Rattle.definition.specs.Calls.{distinctIds, seqs, held, idOk, optional, clockOk}
 use Rattle.definition.proofs.Tests.{if-true, if-false, by-test}
-use Rattle.definition.proofs.Lists.{some-inj, All, length-map}
+use Rattle.definition.proofs.Lists.{some-inj, All}
 use Rattle.definition.proofs.Sums.{sum, Tame, one, occ, bad, odd, from, one-tame, occ-tame, bad-tame, odd-tame, from-tame}
 use Rattle.definition.proofs.Whole.{sums, rowsM, countM, rowsSum, queueSum, Sane, sane-more, Under, Once, Agree, Shared, Frame, Fine}
 
@@ -83,7 +83,7 @@ each-map k x N g [] e h = each-nil k x N
 each-map k x N g (s ∷ l) e h = each-cons x N l (map g l) (omega arith) (h .0) (e s) (each-map k x N g l e (h .1))
 
 pub each-length : (k : Kind) (x N : ℕ) (l m : List Sub) → Each k x N l m → length m ≡ length l
-each-length k x N l m e = sym (length-map (λ s. s .id) m) ∙ ap length (e .ids) ∙ length-map (λ s. s .id) l
+each-length k x N l m e = sym (length-map m (λ s. s .id)) ∙ ap length (e .ids) ∙ length-map l (λ s. s .id)
 
 -- ---- the destination
 

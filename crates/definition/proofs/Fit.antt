@@ -3,23 +3,23 @@ use Prim.Native.Nat.{ℕ, suc, _+_, _≤_, _^_}
 use native.Mathlib.Omega.{arith}
 use mathlib.Core.Path.{_≡_, refl, sym, _∙_, ap, subst, subst⁻¹}
 use mathlib.Core.Bool.{Bool, true, false, not, _&&_}
-use mathlib.Core.List.{List, [], _∷_, _++_, map, append-assoc}
+use mathlib.Core.List.{List, [], _∷_, _++_, map, append-assoc, map-append}
 use lib.Dec.{leb, ltb}
 use lib.ListN.{length, length-append}
 use borrow.Author.Tests.{leb-true, le-leb, eqb-true, eq-eqb}
 use lib.IntN.{pos}
 use Rattle.definition.specs.Base.{is-some, keep, tally, all, distinct, ascending}
 use Rattle.definition.specs.Types.{Kind, queue, topic, Entry, Inflight, Sub, Stats, withTpending, withInflight, withFreed}
-use Rattle.definition.specs.Consumer.{expired, Step, isBrowser, shown, snapshot, withSnapshot, hasCredit, send, sendNull, inflightOf, Ack, AckType, Delivered, Poison, Standard, Redelivered, Individual, Unmatched, Expired, Other, ackType, ackRange, ackLast, marked, free, removeInflight, bumped, redeliver, ackTransacted, ackPlain, ackSub, meetTopic, drainTopic, atRest, Browse, meetBrowser, closeBrowser, drainBrowser, dispatchBrowser, sameSeq}
+use Rattle.definition.specs.Consumer.{expired, Step, isBrowser, shown, snapshot, withSnapshot, hasCredit, send, sendNull, inflightOf, Ack, AckType, Delivered, Poison, Standard, Redelivered, Individual, Unmatched, Expired, Other, ackType, ackRange, ackLast, freedAs, free, removeInflight, bumped, redeliver, ackTransacted, ackPlain, ackSub, meetTopic, drainTopic, atRest, Browse, meetBrowser, closeBrowser, drainBrowser, dispatchBrowser, sameSeq}
 use Rattle.definition.specs.Destination.{room}
 use Rattle.definition.specs.Calls.{idOk, optional, entryOk, bound, seqs, flying, rowsOf, subPlaced, subTests, subSound}
 use Rattle.definition.proofs.Tests.{by-if, by-test}
 use Rattle.definition.proofs.Lists.{empty-nil}
 use mathlib.Core.Option.{Option, none, some}
 use Rattle.definition.proofs.Reorder.{nil-cons}
-use Rattle.definition.proofs.Sums.{keep-tally}
+use Rattle.definition.proofs.Sums.{kept-length}
 use Rattle.definition.proofs.Local.{serve, alone, meet-tpending}
-use Rattle.definition.proofs.Thin.{every-all, all-every, alike-refl, alike-same, alike-redelivered, Thin, done, skip, stay, thin-refl, thin-append, thin-trans, thin-ok, thin-distinct, redelivered-ok, ascending-keep, ascending-more, ascending-tail, map-append, tally-append}
+use Rattle.definition.proofs.Thin.{every-all, all-every, alike-refl, alike-same, alike-redelivered, Thin, done, skip, stay, thin-refl, thin-append, thin-trans, thin-ok, thin-distinct, ascending-keep, ascending-more, ascending-tail, tally-append}
 
 -- the pull that waits is at most m
 abbrev pub Waits : ℕ → Sub → Type 0
@@ -123,26 +123,26 @@ module _ (k : Kind) (s : Sub) (f : Fit k s) (l : List Inflight) (c : ℕ)
       stands topic h = h
 
 -- freed
-marked-entry : (hit : Inflight → Bool) (tx : Bool) (i : Inflight) → marked hit tx i .entry ≡ i .entry
+pub marked-entry : (hit : Inflight → Bool) (tx : Bool) (i : Inflight) → freedAs hit tx i .entry ≡ i .entry
 marked-entry hit tx i = by-test (hit i) (λ c. rw c) (λ c. rw c)
 
-marked-thin : (hit : Inflight → Bool) (tx : Bool) (l : List Inflight) → Thin (map (λ i. i .entry) l) (map (λ i. i .entry) (map (marked hit tx) l))
+marked-thin : (hit : Inflight → Bool) (tx : Bool) (l : List Inflight) → Thin (map (λ i. i .entry) l) (map (λ i. i .entry) (map (freedAs hit tx) l))
 marked-thin hit tx [] = done
 marked-thin hit tx (i ∷ l) =
-    stay (alike-same (i .entry) (marked hit tx i .entry) (marked-entry hit tx i)) (marked-thin hit tx l)
+    stay (alike-same (i .entry) (freedAs hit tx i .entry) (marked-entry hit tx i)) (marked-thin hit tx l)
 
-marked-dseqs : (hit : Inflight → Bool) (tx : Bool) (l : List Inflight) → map (λ i. i .dseq) (map (marked hit tx) l) ≡ map (λ i. i .dseq) l
+marked-dseqs : (hit : Inflight → Bool) (tx : Bool) (l : List Inflight) → map (λ i. i .dseq) (map (freedAs hit tx) l) ≡ map (λ i. i .dseq) l
 marked-dseqs hit tx [] = refl
 marked-dseqs hit tx (i ∷ l) = by-test (hit i) (λ c. rw (c, marked-dseqs hit tx l)) (λ c. rw (c, marked-dseqs hit tx l))
 
-marked-count : (hit : Inflight → Bool) (tx : Bool) (l : List Inflight) → tally (λ i. i .freed) l + tally (λ i. hit i && not (i .freed)) l ≡ tally (λ i. i .freed) (map (marked hit tx) l)
+marked-count : (hit : Inflight → Bool) (tx : Bool) (l : List Inflight) → tally (λ i. i .freed) l + tally (λ i. hit i && not (i .freed)) l ≡ tally (λ i. i .freed) (map (freedAs hit tx) l)
 marked-count hit tx [] = refl
 marked-count hit tx (i ∷ l) = by-test (hit i)
     (λ c. rw c (by-test (i .freed) (λ d. rw d (omega (arith, marked-count hit tx l))) (λ d. rw d (omega (arith, marked-count hit tx l)))))
     (λ c. rw c (by-test (i .freed) (λ d. rw d (omega (arith, marked-count hit tx l))) (λ d. rw d (omega (arith, marked-count hit tx l)))))
 
 free-acked : (k : Kind) (hit : Inflight → Bool) (tx : Bool) (s : Sub) → Fit k s → Acked k s (free hit tx s)
-free-acked k hit tx s f = refit k s f (map (marked hit tx) (s .inflight)) _ (marked-thin hit tx (s .inflight))
+free-acked k hit tx s f = refit k s f (map (freedAs hit tx) (s .inflight)) _ (marked-thin hit tx (s .inflight))
     (ap (λ (c : ℕ). c + tally (λ i. hit i && not (i .freed)) (s .inflight)) (f .counted) ∙ marked-count hit tx (s .inflight))
     (ap (λ (l : List ℕ). ascending (l ++ s .nextDseq ∷ [])) (marked-dseqs hit tx (s .inflight)) ∙ f .numbered)
 
@@ -375,7 +375,7 @@ browse-little now e es b q f = record {
   generation = by-test (expired (pos now) e) (λ c. rw c) (λ c. rw c);
   pulls = λ m. by-test (expired (pos now) e) (λ c. rw c (λ w. w)) (λ c. rw c (λ w. refl));
   browser = by-test (expired (pos now) e) (λ c. rw c (sym (shows-browser (b .sub .browser) e es q))) (λ c. rw c (sym (shows-browser (b .sub .browser) e es q)));
-  counts = by-test (expired (pos now) e) (λ c. rw c (omega (arith, keep-tally (sameSeq e) (b .pending)))) (λ c. rw c (omega arith));
+  counts = by-test (expired (pos now) e) (λ c. rw c (omega (arith, kept-length (sameSeq e) (b .pending)))) (λ c. rw c (omega arith));
 }
 
 browse-rest : (now : ℕ) (e : Entry) (es : List Entry) (b : Browse) → snapshot (meetBrowser now e es b .sub) ≡ es

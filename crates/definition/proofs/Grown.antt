@@ -6,7 +6,7 @@ use mathlib.Core.Bool.{Bool, true, false, not, _&&_}
 use mathlib.Core.List.{List, [], _++_, map}
 use mathlib.Core.Option.{Option, none, some}
 use lib.Dec.{leb, ltb, eqb}
-use lib.ListN.{length, length-append}
+use lib.ListN.{length, length-append, length-map}
 use lib.IntN.{ℤ, pos, negsuc}
 use lib.Signed.{ltZ}
 use borrow.Author.Tests.{le-leb}
@@ -14,9 +14,8 @@ use Rattle.definition.specs.Base.{if_then_else_, tally}
 use Rattle.definition.specs.Types.{Kind, queue, topic, Entry, Inflight, Sub, Stats, withPrefetch}
 use Rattle.definition.specs.Consumer.{_⊕_, addExpired, Step, isBrowser, snapshot, sendNull, Ack, AckType, Delivered, Poison, Standard, Redelivered, Individual, Unmatched, Expired, Other, ackType, ackRange, ackLast, unlessBrowser, ackPlain, ackSub, atRest, addDequeued, addDiscarded}
 use Rattle.definition.specs.Destination.{room}
-use Rattle.definition.specs.Calls.{optional, within, flying, rowsOf, Request, acknowledge, pulling, timedOut, prefetching, requestOk}
+use Rattle.definition.specs.Calls.{optional, signedWithin, flying, rowsOf, Request, acknowledge, pulling, timedOut, prefetching, requestOk}
 use Rattle.definition.proofs.Tests.{if-true, if-false, by-if, by-test, and-left}
-use Rattle.definition.proofs.Lists.{length-map}
 use Rattle.definition.proofs.Local.{serve}
 use Rattle.definition.proofs.Own.{own, ownPulled, ownFired, pulling-sub}
 use Rattle.definition.proofs.Thin.{Thin, done, thin-refl, thin-none, thin-trans, thin-length, tally-length}
@@ -59,7 +58,7 @@ unfolding ackSub
 ack-total a s = by-if (λ (t : Step). total (t .counts) ≤ length (s .inflight)) (a .transacted) _ _ (λ q. omega arith) (λ q. plain-total (ackType (a .type)) a s)
 
 inflight-rows : (s : Sub) → length (s .inflight) ≤ length (rowsOf s)
-inflight-rows s = omega (arith, length-append (flying s) (s .tpending ++ snapshot s), length-map (λ i. i .entry) (s .inflight))
+inflight-rows s = omega (arith, length-append (flying s) (s .tpending ++ snapshot s), length-map (s .inflight) (λ i. i .entry))
 
 -- ---- what counts among the queue's entries
 
@@ -140,11 +139,11 @@ pub pulling-fit : (k : Kind) (s : Sub) → Fit k s → Fit k (pulling-sub s)
 pulling-fit queue s f = record { named = f .named; room = f .room; selects = f .selects; ok = f .ok; seen = f .seen; apart = f .apart; counted = f .counted; numbered = f .numbered; sorted = f .sorted; stands = f .stands }
 pulling-fit topic s f = record { named = f .named; room = f .room; selects = f .selects; ok = f .ok; seen = f .seen; apart = f .apart; counted = f .counted; numbered = f .numbered; sorted = f .sorted; stands = f .stands }
 
-pub room-within : (p : ℤ) → within (2 ^ 31) p ≡ true → ltb (room p) (2 ^ 31) ≡ true
+pub room-within : (p : ℤ) → signedWithin (2 ^ 31) p ≡ true → ltb (room p) (2 ^ 31) ≡ true
 room-within (pos k) h = h
 room-within (negsuc k) h = refl
 
-pub prefetch-fit : (k : Kind) (p : ℤ) (s : Sub) → within (2 ^ 31) p ≡ true → Fit k s → Fit k (withPrefetch (room p) s)
+pub prefetch-fit : (k : Kind) (p : ℤ) (s : Sub) → signedWithin (2 ^ 31) p ≡ true → Fit k s → Fit k (withPrefetch (room p) s)
 prefetch-fit queue p s h f = record { named = f .named; room = room-within p h; selects = f .selects; ok = f .ok; seen = f .seen; apart = f .apart; counted = f .counted; numbered = f .numbered; sorted = f .sorted; stands = f .stands }
 prefetch-fit topic p s h f = record { named = f .named; room = room-within p h; selects = f .selects; ok = f .ok; seen = f .seen; apart = f .apart; counted = f .counted; numbered = f .numbered; sorted = f .sorted; stands = f .stands }
 
@@ -167,4 +166,4 @@ own-grown k (pulling timeout now) s h f = by-test (ltb 0 (s .prefetch))
     (served-grown k now s (pulling-sub s) (pulling-fit k s f) refl refl (omega arith) (λ m h w. le-leb (s .generation + 1) m h) (flight-same k s (pulling-sub s) refl refl))))
 own-grown k (timedOut generation) s h f = fired-grown k generation s (s .pull) f
 own-grown k (prefetching p now) s h f =
-    served-grown k now s (withPrefetch (room p) s) (prefetch-fit k p s (and-left (within (2 ^ 31) p) _ h) f) refl refl (omega arith) (λ m h w. w) (flight-same k s (withPrefetch (room p) s) refl refl)
+    served-grown k now s (withPrefetch (room p) s) (prefetch-fit k p s (and-left (signedWithin (2 ^ 31) p) _ h) f) refl refl (omega arith) (λ m h w. w) (flight-same k s (withPrefetch (room p) s) refl refl)

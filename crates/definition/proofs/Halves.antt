@@ -1,19 +1,18 @@
 -- The two halves of a release make the whole of it: a dispatch does not look at how many calls are used. Assumes nothing.
 use Prim.Native.Nat.{ℕ, zero, suc, _+_}
 use native.Mathlib.Omega.{arith}
-use mathlib.Core.Path.{_≡_, refl, sym, _∙_, ap, subst⁻¹}
+use mathlib.Core.Path.{_≡_, refl, sym, _∙_, ap}
 use mathlib.Core.Bool.{Bool, true, false, not, _||_}
 use mathlib.Core.List.{List, [], _∷_, _++_, map}
 use mathlib.Core.Option.{Option, none, some}
 use lib.Dec.{eqb}
 use lib.ListN.{length}
-use borrow.Author.Tests.{eqb-true}
 use Rattle.definition.specs.Base.{if_then_else_, keep, empty, nth}
 use Rattle.definition.specs.Types.{Kind, queue, topic, Id, Entry, Sub, Dest, withCallsUsed, withPending, withSubs, withReserved}
 use Rattle.definition.specs.Consumer.{isBrowser, hasCredit, redelivered}
 use Rattle.definition.specs.Destination.{Out, Look, look, given, Turn, visitAt, visit, scan, turns, rounds, browsers, dispatchQueue, dispatchTopic, dispatchBy, dispatch, count, reinsert, heldBy, reservedOf, unmarked, returnReserved, releaseReserved, due}
-use Rattle.definition.specs.Calls.{Lengths, Call, unmarking, releasing, argumentsOk, perform, refusal, refused, used, Result, call}
-use Rattle.definition.specs.Words.{at, idOf, unusedFrom, provided, read, inRange, decode, callStep, step}
+use Rattle.definition.specs.Calls.{Lengths, Call, unmarking, releasing, argumentsOk, perform, refusal, used, Result, call}
+use Rattle.definition.specs.Words.{at, idIn, unusedFrom, provided, read, rangedCall, decode, callStep, step}
 use Rattle.definition.specs.Claims.{Halves, ReleaseHalves}
 use Rattle.definition.proofs.Tests.{if-true, if-false, by-test}
 use Rattle.definition.proofs.Made.{call-accepted, none-refused}
@@ -93,7 +92,7 @@ unfolding call
 done lent c t h = if-true _ _ (ap (λ k. eqb k 0) (call-accepted lent c t h))
 
 -- an accepted call is one whose words were right
-was-call : (lent : Lengths) (t : Dest) (b : Bool) (c : Call) → callStep lent t (inRange (provided b c)) .refusal ≡ 0 → callStep lent t (inRange (provided b c)) ≡ call lent c t
+was-call : (lent : Lengths) (t : Dest) (b : Bool) (c : Call) → callStep lent t (rangedCall (provided b c)) .refusal ≡ 0 → callStep lent t (rangedCall (provided b c)) ≡ call lent c t
 unfolding provided callStep
 was-call lent t true c h = by-test (argumentsOk c) (λ e. rw e) (λ e. absurd (none-refused lent t (sym (ap (λ o. callStep lent t o .refusal) (if-false (some c) none e)) ∙ h)))
 was-call lent t false c h = absurd (none-refused lent t h)
@@ -120,6 +119,6 @@ halves lent late now i t first second a b h g =
 pub release-halves : ReleaseHalves
 unfolding step read decode
 release-halves lent words late more t e h g =
-    halves lent late (at 3 more) (idOf words) t _ _
-    (was-call lent t (unusedFrom 3 words) (unmarking (idOf words)) h)
-    (was-call late (step lent 8 words t .dest) (unusedFrom 4 more) (releasing (idOf more) (at 3 more)) g ∙ ap (λ (i : Id). call late (releasing i (at 3 more)) (step lent 8 words t .dest)) e) h g
+    halves lent late (at 3 more) (idIn words) t _ _
+    (was-call lent t (unusedFrom 3 words) (unmarking (idIn words)) h)
+    (was-call late (step lent 8 words t .dest) (unusedFrom 4 more) (releasing (idIn more) (at 3 more)) g ∙ ap (λ (i : Id). call late (releasing i (at 3 more)) (step lent 8 words t .dest)) e) h g

@@ -12,15 +12,15 @@ use lib.IntN.{pos}
 use Rattle.definition.specs.Base.{keep, tally, all, find, empty, is-some}
 use Rattle.definition.specs.Types.{Kind, queue, topic, Entry, Sub, Dest, withPending, withSubs, withIdle}
 use Rattle.definition.specs.Consumer.{sameId, expired, selects, _⊕_, addExpired, isBrowser, shown}
-use Rattle.definition.specs.Destination.{count, isId, subOf, Spec, room, newSub, joined, addSub, due}
-use Rattle.definition.specs.Calls.{idOk, specOk, within, rowsOf, distinctIds, snapshotRows}
+use Rattle.definition.specs.Destination.{count, isId, subOf, Spec, room, newSub, joined, addSub, due, cleared}
+use Rattle.definition.specs.Calls.{idOk, specOk, signedWithin, rowsOf, distinctIds, snapshotRows}
 use Rattle.definition.proofs.Tests.{if-true, if-false, by-if, by-test, and-left, and-right, and-both}
 use Rattle.definition.proofs.Lists.{All}
 use Rattle.definition.proofs.Thin.{tally-length}
 use Rattle.definition.proofs.Ids.{same-sym}
 use Rattle.definition.proofs.Sums.{odd, from, sum, one, occ, bad, sum-one, sum-keep, thin-ascending, thin-keep, ok-sum, sum-ok, sum-once}
 use Rattle.definition.proofs.Grown.{room-within}
-use Rattle.definition.proofs.Whole.{Shared, sums, rowsM, countM, rowsSum, Sane, Once, Fine, fine-more}
+use Rattle.definition.proofs.Whole.{Shared, rowsM, countM, rowsSum, Sane, Once, Fine, fine-more, sums-more}
 use Rattle.definition.proofs.Each.{thin-once}
 use Rattle.definition.proofs.Dispatch.{under-plus, count-browser, count-plain}
 use Rattle.definition.proofs.Ops.{once-topic, keep-fine, idle-fine, kind-fine}
@@ -30,10 +30,6 @@ by-bool P p q true = p
 by-bool P p q false = q
 
 -- ---- one consumer more
-
-sums-more : (g : Sub → ℕ) (l : List Sub) (v : Sub) → sums g (l ++ v ∷ []) ≡ sums g l + g v
-sums-more g [] v = omega arith
-sums-more g (s ∷ l) v = omega (arith, sums-more g l v)
 
 all-more : (P : Sub → Type 0) (l : List Sub) (v : Sub) → All P l → P v → All P (l ++ v ∷ [])
 all-more P [] v h p = (p, tt)
@@ -57,15 +53,18 @@ new-rows : (f : Entry → ℕ) (p : Spec) (o : Option (List Entry)) → rowsM f 
 unfolding rowsM
 new-rows f p o = refl
 
-new-count : (f : Entry → ℕ) (p : Spec) (o : Option (List Entry)) → countM f (newSub p o) ≡ 0
+pub new-count : (f : Entry → ℕ) (p : Spec) (o : Option (List Entry)) → countM f (newSub p o) ≡ 0
 new-count f p o = by-test (isBrowser (newSub p o)) (λ c. count-browser f (newSub p o) c) (λ c. count-plain f (newSub p o) c)
+
+pub cleared-count : (f : Entry → ℕ) (s : Sub) → countM f (cleared s) ≡ 0
+cleared-count f s = by-test (isBrowser (cleared s)) (λ c. count-browser f (cleared s) c) (λ c. count-plain f (cleared s) c)
 
 new-sane : (k : Kind) (N : ℕ) (p : Spec) (o : Option (List Entry)) → 1 ≤ N → specOk p ≡ true → sum bad (shown o) ≤ 0 → ((x : ℕ) → sum (occ x) (shown o) ≤ 1) → (k ≡ topic → shown o ≡ []) → Sane k N (newSub p o)
 new-sane k N p o n h b a e = record {
   fits = record {
     named = and-left (idOk (p .id)) _ h;
-    room = room-within (p .prefetch) (and-left (within (2 ^ 31) (p .prefetch)) _ (and-right (idOk (p .id)) _ h));
-    selects = and-right (within (2 ^ 31) (p .prefetch)) _ (and-right (idOk (p .id)) _ h);
+    room = room-within (p .prefetch) (and-left (signedWithin (2 ^ 31) (p .prefetch)) _ (and-right (idOk (p .id)) _ h));
+    selects = and-right (signedWithin (2 ^ 31) (p .prefetch)) _ (and-right (idOk (p .id)) _ h);
     ok = sum-ok (shown o) b;
     seen = refl;
     apart = sum-once (shown o) a;

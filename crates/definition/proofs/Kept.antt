@@ -13,7 +13,7 @@ use Rattle.definition.specs.Types.{Sub, Kind, queue, topic, Id, Entry, A
 use Rattle.definition.specs.Consumer.{sameId, addDiscarded, addExpired}
 use Rattle.audit.specs.Audit.{seen, recorded}
 use Rattle.definition.specs.Destination.{Answer, Spec, joined, subOf, enqueueBy, isProducer, addProducer, auditOf, removeProducer, testAt, isDuplicate, releaseAudits}
-use Rattle.definition.specs.Calls.{rowsOf, held, ownRows, rowsFrom, withinShare, overShare, Lengths, short, entryOk, idOk, word, within, optional, clockOk, bound, seqs, allRows, freeRows, rowsFor, snapshotRows, auditOk, placed, sound, Call, enqueuing, joining, leaving, asking, unmarking, releasing, sweeping, clearing, adding, removing, testing, forgetting, discarding, missing, specOk, argumentsOk, ownRefusal, perform, refusal, used, call, openOk, opened}
+use Rattle.definition.specs.Calls.{rowsOf, held, ownRows, rowsFrom, withinShare, overShare, Lengths, short, entryOk, idOk, word, signedWithin, optional, clockOk, bound, seqs, allRows, freeRows, rowsFor, snapshotRows, auditOk, placed, sound, Call, enqueuing, joining, leaving, asking, unmarking, releasing, sweeping, clearing, adding, removing, testing, forgetting, discarding, missing, specOk, argumentsOk, ownRefusal, perform, refusal, used, call, openOk, opened}
 use Rattle.definition.specs.Orders.{Reached}
 use Rattle.definition.proofs.Tests.{and-false, by-if, by-test, and-left, and-right}
 use Rattle.definition.proofs.Lists.{keep-length, all-end, all-drop, all-keep, length-put}
@@ -171,14 +171,14 @@ stores L U k N e now t g a o =
     let f : rowsSum one t + rowsFor e t k ≤ 512 = omega (arith, free-rows t (rowsFor e t (t .kind)) (g .rows) r, kind-rows k e t (g .kind)) in
     record { ok = and-left (entryOk e) _ a; fits = f; new = not-held (e .seq) t m; shared = in-share k e t (g .kind) f v }
 
-perform-fine : (L U : ℕ) (k : Kind) (N : ℕ) (c : Call) (t : Dest) → 1 ≤ N → Fine L U k N t → argumentsOk c ≡ true → ownRefusal t c ≡ 0 → Fine L U k (N + 4096) (perform t c .dest)
+pub perform-fine : (L U : ℕ) (k : Kind) (N : ℕ) (c : Call) (t : Dest) → 1 ≤ N → Fine L U k N t → argumentsOk c ≡ true → ownRefusal t c ≡ 0 → Fine L U k (N + 4096) (perform t c .dest)
 unfolding perform argumentsOk ownRefusal isDuplicate
 perform-fine L U k N (enqueuing e now) t n g a o =
     let y = stores L U k N e now t g a o in
     subst⁻¹ (λ (j : Kind). Fine L U k (N + 4096) (enqueueBy now e t j .dest)) (g .kind) (enqueue-fine L U k N now e t g (y .ok) (y .fits) (y .new) (y .shared))
 perform-fine L U k N (joining p now) t n g a o =
     join-fine L U k N now p t (joins L U k N p now t n g a o)
-perform-fine L U k N (leaving i last now) t n g a o = leave-fine L U k N now i last t (and-right (within (2 ^ 63) last) _ (and-right (idOk i) _ a)) g
+perform-fine L U k N (leaving i last now) t n g a o = leave-fine L U k N now i last t (and-right (signedWithin (2 ^ 63) last) _ (and-right (idOk i) _ a)) g
 perform-fine L U k N (asking i q) t n g a o = ask-fine L U k N i q t (and-right (idOk i) _ a) g
 perform-fine L U k N (unmarking i) t n g a o = unmark-fine L U k N i t g
 perform-fine L U k N (releasing i now) t n g a o = release-fine L U k N now i t g

@@ -3,38 +3,32 @@ use Prim.Native.Nat.{ℕ, zero, suc, _+_, _-_, _≤_}
 use native.Mathlib.Omega.{arith}
 use mathlib.Core.Path.{_≡_, refl, sym, _∙_, ap, subst, subst⁻¹}
 use mathlib.Core.Bool.{Bool, true, false, not, _||_, true≢false, or-true}
-use mathlib.Core.List.{List, [], _∷_, _++_, map}
+use mathlib.Core.List.{List, [], _∷_, _++_, map, map-append}
 use mathlib.Core.Option.{Option, none, some}
 use lib.Dec.{leb, ltb, eqb}
 use lib.IntN.{ℤ, pos}
 use lib.ListN.{length}
 use borrow.Author.Tests.{leb-false, lt-ltb}
 use Rattle.definition.specs.Base.{if_then_else_, keep, tally, all, find, empty, distinct, ascending}
-use Rattle.definition.specs.Types.{Kind, queue, topic, Id, Entry, Inflight, Sub, Held, Dest, withTpending, withPending, withSubs, withReserved}
+use Rattle.definition.specs.Types.{Kind, queue, topic, Id, Entry, Inflight, Sub, Dest, withTpending, withPending, withSubs, withReserved}
 use Rattle.definition.specs.Consumer.{sameId, expired, _⊕_, addExpired, isBrowser, shown, snapshot, redelivered}
 use Rattle.definition.specs.Destination.{count, isId, subOf, insertAll, holdBackAll, room, wasDelivered, returnedFrom, reservedFrom, without, dropSub, returning, removeAt, removeSub, reinsert, heldBy, reservedOf, noTx, unmarked, returnReserved, Swept, sweepAt, sweepList, soonest, SweptSubs, sweepSubs, sweepExpired, emptied, cleared, clear, due}
 use Rattle.definition.specs.Calls.{entryOk, idOk, clockOk, seqs, flying, rowsOf, held, distinctIds}
 use Rattle.definition.proofs.Tests.{if-true, if-false, by-if, by-test, and-left, and-right, and-both}
 use Rattle.definition.proofs.Lists.{none-some, some-inj, All, empty-nil, all-append, all-keep}
-use Rattle.definition.proofs.Thin.{Thin, done, thin-refl, thin-trans, thin-append, thin-ok, thin-distinct, alike-redelivered, map-append, tally-length}
-use Rattle.definition.proofs.Sums.{sum, Tame, one, one-tame, sum-append, sum-thin, sum-one, sum-keep, sum-insertAll, insertAll-ascending, thin-ascending, thin-keep, thin-redelivered}
+use Rattle.definition.proofs.Thin.{Thin, done, thin-refl, thin-trans, thin-append, thin-ok, thin-distinct, alike-redelivered, tally-length}
+use Rattle.definition.proofs.Sums.{sum, Tame, one, one-tame, sum-append, sum-thin, sum-one, sum-keep, sum-insertAll, insertAll-ascending, thin-ascending, thin-keep, thin-redelivered, held-split}
 use Rattle.definition.proofs.Fit.{Fit, Acked, refit}
-use Rattle.definition.proofs.Whole.{sums, rowsM, countM, rowsSum, queueSum, Sane, sane-more, Under, all-map, Frame, Fine, fine-more}
+use Rattle.definition.proofs.Whole.{rowsM, countM, rowsSum, queueSum, Sane, sane-more, Under, all-map, Frame, Fine, fine-more, sums-without}
 use Rattle.definition.proofs.Each.{Eased, Each, each-nil, each-cons, each-map, each-length, each-fine, ids-same, renewed, frame-renewed}
-use Rattle.definition.proofs.Dispatch.{not-topic, under-plus, count-browser, count-plain, plain-rows}
+use Rattle.definition.proofs.Dispatch.{not-topic, under-plus, count-plain, plain-rows}
 use Rattle.definition.proofs.Ops.{once-topic, fine-from, subs-fine, touch-fine, kind-fine, under-same, acked-eased}
 use Rattle.definition.proofs.Reach.{back-all-eased}
-use Rattle.definition.proofs.Join.{by-bool}
+use Rattle.definition.proofs.Join.{by-bool, cleared-count}
 
 -- ---- one consumer less
 
 module _ (p : Sub → Bool) where
-  sums-without : (g : Sub → ℕ) (l : List Sub) (s : Sub) → find p l ≡ some s → sums g (without p l) + g s ≡ sums g l
-  sums-without g [] s f = absurd (none-some f)
-  sums-without g (c ∷ l) s f = by-test (p c)
-      (λ e. rw e (omega (arith, ap g (some-inj (sym (if-true (some c) (find p l) e) ∙ f)))))
-      (λ e. rw e (omega (arith, sums-without g l s (sym (if-false (some c) (find p l) e) ∙ f))))
-
   all-without : (P : Sub → Type 0) (l : List Sub) → All P l → All P (without p l)
   all-without P [] h = tt
   all-without P (c ∷ l) h = by-test (p c) (λ e. rw e (h .1)) (λ e. rw e (h .0, all-without P l (h .1)))
@@ -125,7 +119,7 @@ module _ (L U : ℕ) where
   drop-fine : (k : Kind) (N : ℕ) (i : Id) (s : Sub) (t : Dest) → subOf i t ≡ some s → Fine L U k N t → Fine L U k N (dropSub i t)
   drop-fine k N i s t f g = fine-from L U k N N t (dropSub i t) g (g .kind) refl (drop-frame _ (without (isId i) (t .subs)) t (g .frame))
       (omega (arith, g .few-subs, length-without (isId i) (t .subs))) (all-without (isId i) (Sane k N) (t .subs) (g .subs)) (ids-without (isId i) (t .subs) (g .ids))
-      (λ h w. omega (arith, sums-without (isId i) (rowsM h) (t .subs) s f)) (λ q h w. omega (arith, sums-without (isId i) (countM h) (t .subs) s f)) (once-topic k t (g .once)) (g .sorted)
+      (λ h w. omega (arith, sums-without (rowsM h) (isId i) (t .subs) s f)) (λ q h w. omega (arith, sums-without (countM h) (isId i) (t .subs) s f)) (once-topic k t (g .once)) (g .sorted)
       (turn-less (t .rr) (length (without (isId i) (t .subs)))) (g .counters)
 
   back-before : (N : ℕ) (i : Id) (last : ℤ) (s : Sub) (t : Dest) → subOf i t ≡ some s → isBrowser s ≡ false → Fine L U queue N t →
@@ -142,8 +136,8 @@ module _ (L U : ℕ) where
         few-subs = omega (arith, g .few-subs, length-without (isId i) (t .subs));
         subs = all-without (isId i) (Sane queue N) (t .subs) (g .subs);
         ids = ids-without (isId i) (t .subs) (g .ids);
-        rows = λ m w. omega (arith, held-more m, returned-sum m w last (s .id) (s .inflight), sums-without (isId i) (rowsM m) (t .subs) s f, plain-rows m s (h .fits) c);
-        taken = λ m w. omega (arith, held-more m, returned-sum m w last (s .id) (s .inflight), sums-without (isId i) (countM m) (t .subs) s f, count-plain m s c);
+        rows = λ m w. omega (arith, held-more m, returned-sum m w last (s .id) (s .inflight), sums-without (rowsM m) (isId i) (t .subs) s f, plain-rows m s (h .fits) c);
+        taken = λ m w. omega (arith, held-more m, returned-sum m w last (s .id) (s .inflight), sums-without (countM m) (isId i) (t .subs) s f, count-plain m s c);
         sorted = g .sorted;
         turn = turn-less (t .rr) (length (without (isId i) (t .subs)));
         counters = g .counters;
@@ -194,10 +188,6 @@ module _ (L U : ℕ) where
 
   unmark-each : (k : Kind) (N : ℕ) (i : Id) (t : Dest) → Fine L U k N t → Each k 1 N (t .subs) (unmarked i t .subs)
   unmark-each k N i t g = each-map k 1 N (λ s. if isId i s then noTx s else s) (t .subs) (unmark-eased k i) (g .subs)
-
-  held-split : (f : Entry → ℕ) (p : Held → Bool) (l : List Held) → sum f (map (λ h. h .entry) (keep (λ h. not (p h)) l)) + sum f (map (λ h. h .entry) (keep p l)) ≡ sum f (map (λ h. h .entry) l)
-  held-split f p [] = refl
-  held-split f p (h ∷ l) = by-test (p h) (λ c. rw c (omega (arith, held-split f p l))) (λ c. rw c (omega (arith, held-split f p l)))
 
   release-before : (N : ℕ) (i : Id) (t : Dest) → Fine L U queue N t → Before L U N N t (withReserved (keep (λ h. not (heldBy i h)) (t .reserved)) t) (map redelivered (reservedOf i t))
   release-before N i t g = record {
@@ -347,9 +337,6 @@ module _ (L U : ℕ) where
   cleared-rows : (f : Entry → ℕ) (s : Sub) → rowsM f (cleared s) ≡ 0
   unfolding rowsM
   cleared-rows f s = ap (sum f) (emptied-shown (s .browser))
-
-  cleared-count : (f : Entry → ℕ) (s : Sub) → countM f (cleared s) ≡ 0
-  cleared-count f s = by-test (isBrowser (cleared s)) (λ c. count-browser f (cleared s) c) (λ c. count-plain f (cleared s) c)
 
   cleared-eased : (k : Kind) (s : Sub) → Eased k 1 s (cleared s)
   cleared-eased k s = record {

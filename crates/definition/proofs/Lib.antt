@@ -1,5 +1,6 @@
 pub mod Tests
 pub mod Lists
+pub mod Stored
 pub mod Reorder
 pub mod Local
 pub mod Own

@@ -1,13 +1,15 @@
 -- Laws of the definitions' list functions. Assumes nothing.
-use Prim.Native.Nat.{ℕ, zero, suc, _≤_}
+use Prim.Native.Nat.{ℕ, zero, suc, _≤_, _+_, _-_, _<_}
 use mathlib.Core.Path.{_≡_, refl, sym, _∙_, ap, subst}
-use mathlib.Core.Bool.{Bool, true, false, true≢false}
+use mathlib.Core.Bool.{Bool, true, false, true≢false, _&&_}
 use mathlib.Core.List.{List, [], _∷_, _++_, map}
 use mathlib.Core.Option.{Option, none, some}
-use lib.ListN.{length, set, drop}
+use lib.ListN.{length, set, drop, take, getD}
 use native.Mathlib.Omega.{arith}
-use Rattle.definition.specs.Base.{keep, all, find, put, nth, empty}
-use Rattle.definition.proofs.Tests.{by-test, if-true, if-false, and-left, and-right, and-both}
+use lib.Seq.{take-suc, append-snoc, set-at, length-take-le, drop-drop}
+use lib.Dec.{eqb, eqb·suc-zero}
+use Rattle.definition.specs.Base.{keep, all, find, put, nth, empty, if_then_else_, tally}
+use Rattle.definition.proofs.Tests.{by-test, if-true, if-false, and-left, and-right, and-both, by-if}
 
 module _ {ℓ} {A : Type ℓ} where
   pub none-some : {a : A} → _≡_ {A = Option A} none (some a) → ⊥
@@ -107,11 +109,25 @@ module _ {A : Type 0} (P : A → Type 0) where
       go true f ih = subst P (some-inj (sym (if-true (some c) (find p l) f) ∙ e)) (h .0)
       go false f ih = ih (sym (if-false (some c) (find p l) f) ∙ e)
 
--- ---- lengths
+  pub all-set : (i : ℕ) (l : List A) (b : A) → All l → P b → All (set l i b)
+  all-set i [] b h q = tt
+  all-set zero (c ∷ l) b h q = (q, h .1)
+  all-set (suc i) (c ∷ l) b h q = (h .0, all-set i l b (h .1) q)
 
-pub length-map : {A B : Type 0} (f : A → B) (l : List A) → length (map f l) ≡ length l
-length-map f [] = refl
-length-map f (x ∷ l) = ap suc (length-map f l)
+  pub all-nth : (i : ℕ) (l : List A) (a : A) → All l → nth i l ≡ some a → P a
+  all-nth i [] a h e = absurd (none-some e)
+  all-nth zero (c ∷ l) a h e = subst P (some-inj e) (h .0)
+  all-nth (suc i) (c ∷ l) a h e = all-nth i l a (h .1) e
+
+  pub all-part : (p : A → Bool) (l : List A) → All l → All (keep p l)
+  all-part p [] h = tt
+  all-part p (c ∷ l) h = by-if All (p c) (c ∷ keep p l) (keep p l) (λ f. (h .0, all-part p l (h .1))) (λ f. all-part p l (h .1))
+
+  pub all-join : (l m : List A) → All l → All m → All (l ++ m)
+  all-join [] m h g = g
+  all-join (c ∷ l) m h g = (h .0, all-join l m (h .1) g)
+
+-- ---- lengths
 
 module _ {A : Type 0} where
   pub length-put : (p : A → Bool) (l : List A) (v : A) → length (put p v l) ≡ length l
@@ -122,9 +138,25 @@ module _ {A : Type 0} where
   keep-length p [] = omega arith
   keep-length p (a ∷ l) = by-test (p a) (λ c. rw c (omega (arith, keep-length p l))) (λ c. rw c (omega (arith, keep-length p l)))
 
+  pub keep-count : (p : A → Bool) (l : List A) → length (keep p l) ≡ tally p l
+  keep-count p [] = refl
+  keep-count p (a ∷ l) = by-test (p a) (λ c. rw c (omega (arith, keep-count p l))) (λ c. rw c (omega (arith, keep-count p l)))
+
+  pub tally-keep : (p q : A → Bool) (l : List A) → tally q (keep p l) ≡ tally (λ a. p a && q a) l
+  tally-keep p q [] = refl
+  tally-keep p q (a ∷ l) = by-test (p a) (λ c. rw c (ap (λ (n : ℕ). (if q a then 1 else 0) + n) (tally-keep p q l))) (λ c. rw c (omega (arith, tally-keep p q l)))
+
   pub empty-nil : (l : List A) → empty l ≡ true → l ≡ []
   empty-nil [] h = refl
   empty-nil (a ∷ l) h = absurd (true≢false (sym h))
+
+  pub empty-length : (l : List A) → empty l ≡ eqb (length l) 0
+  empty-length [] = refl
+  empty-length (a ∷ l) = sym (eqb·suc-zero (length l))
+
+  pub length-nil : (l : List A) → length l ≡ 0 → l ≡ []
+  length-nil [] h = refl
+  length-nil (a ∷ l) h = absurd (omega arith)
 
   -- ---- a test of every element
 
@@ -144,3 +176,62 @@ module _ {A : Type 0} where
   all-keep q p (a ∷ l) h = by-test (p a)
       (λ c. rw c (and-both (q a) _ (and-left (q a) (all q l) h) (all-keep q p l (and-right (q a) (all q l) h))))
       (λ c. rw c (all-keep q p l (and-right (q a) (all q l) h)))
+
+  pub all-left : (p : A → Bool) (l m : List A) → all p (l ++ m) ≡ true → all p l ≡ true
+  all-left p [] m h = refl
+  all-left p (a ∷ l) m h = and-both (p a) (all p l) (and-left (p a) _ h) (all-left p l m (and-right (p a) _ h))
+
+  pub all-right : (p : A → Bool) (l m : List A) → all p (l ++ m) ≡ true → all p m ≡ true
+  all-right p [] m h = h
+  all-right p (a ∷ l) m h = all-right p l m (and-right (p a) _ h)
+
+  pub all-first : (p : A → Bool) (n : ℕ) (l : List A) → all p l ≡ true → all p (take n l) ≡ true
+  all-first p zero l h = refl
+  all-first p (suc n) [] h = refl
+  all-first p (suc n) (a ∷ l) h = and-both (p a) (all p (take n l)) (and-left (p a) _ h) (all-first p n l (and-right (p a) _ h))
+
+  pub all-rest : (p : A → Bool) (n : ℕ) (l : List A) → all p l ≡ true → all p (drop n l) ≡ true
+  all-rest p zero l h = h
+  all-rest p (suc n) [] h = refl
+  all-rest p (suc n) (a ∷ l) h = all-rest p n l (and-right (p a) _ h)
+
+  -- what holds wherever p does
+  pub all-weaker : (p q : A → Bool) → ((a : A) → p a ≡ true → q a ≡ true) → (l : List A) → all p l ≡ true → all q l ≡ true
+  all-weaker p q f [] h = refl
+  all-weaker p q f (a ∷ l) h = and-both (q a) (all q l) (f a (and-left (p a) _ h)) (all-weaker p q f l (and-right (p a) _ h))
+
+  pub all-stored : (p : A → Bool) (l : List A) (i : ℕ) (a : A) → all p l ≡ true → p a ≡ true → all p (set l i a) ≡ true
+  all-stored p [] i a h k = refl
+  all-stored p (b ∷ l) zero a h k = and-both (p a) (all p l) k (and-right (p b) (all p l) h)
+  all-stored p (b ∷ l) (suc i) a h k = and-both (p b) (all p (set l i a)) (and-left (p b) (all p l) h) (all-stored p l i a (and-right (p b) (all p l) h) k)
+
+-- ---- parts of a list
+
+module _ {A : Type 0} where
+  -- lists that agree from a place on agree from a later one on
+  pub agree-later : (m n : ℕ) (x y : List A) → m ≤ n → drop m x ≡ drop m y → drop n x ≡ drop n y
+  agree-later m n x y h q =
+      let e : m + (n - m) ≡ n = omega arith in
+      ap (λ (k : ℕ). drop k x) (sym e) ∙ sym (drop-drop (n - m) m x) ∙ ap (drop (n - m)) q ∙ drop-drop (n - m) m y ∙ ap (λ (k : ℕ). drop k y) e
+
+  -- a store at the last place of a front
+  pub set-front : (rs : List A) (p : ℕ) (x : List A) (a : A) → p < length rs → set (take (suc p) rs ++ x) p a ≡ take p rs ++ a ∷ x
+  set-front rs p x a h =
+      ap (λ (l : List A). set (l ++ x) p a) (take-suc rs p a h)
+      ∙ ap (λ (l : List A). set l p a) (append-snoc (take p rs) (getD rs p a) x)
+      ∙ set-at (take p rs) (getD rs p a) x a p (length-take-le p rs (omega arith))
+
+module _ {A B : Type 0} (f : A → B) where
+  pub empty-map : (l : List A) → empty (map f l) ≡ empty l
+  empty-map [] = refl
+  empty-map (a ∷ l) = refl
+
+  pub map-take : (n : ℕ) (l : List A) → take n (map f l) ≡ map f (take n l)
+  map-take zero l = refl
+  map-take (suc n) [] = refl
+  map-take (suc n) (a ∷ l) = ap (λ (r : List B). f a ∷ r) (map-take n l)
+
+  pub map-drop : (n : ℕ) (l : List A) → drop n (map f l) ≡ map f (drop n l)
+  map-drop zero l = refl
+  map-drop (suc n) [] = refl
+  map-drop (suc n) (a ∷ l) = map-drop n l

@@ -191,7 +191,7 @@ unfolding scan
 scan-none now [] t q = refl
 scan-none now (i ∷ is) t q = rw (visit-none now i t q) (scan-none now is t q)
 
-rounds-none : (fuel now : ℕ) (t : Dest) → t .pending ≡ [] → rounds fuel now t ≡ record { dest = t; events = [] }
+pub rounds-none : (fuel now : ℕ) (t : Dest) → t .pending ≡ [] → rounds fuel now t ≡ record { dest = t; events = [] }
 unfolding rounds
 rounds-none zero now t q = refl
 rounds-none (suc fuel) now t q = rw (scan-none now (turns t) t q)

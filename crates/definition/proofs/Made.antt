@@ -9,7 +9,7 @@ use lib.Dec.{leb, eqb}
 use borrow.Author.Tests.{eqb-true, eqb-false, eq-eqb, ne-eqb}
 use Rattle.definition.specs.Types.{Kind, Id, Dest}
 use Rattle.definition.specs.Calls.{Lengths, short, Request, Call, enqueuing, joining, leaving, asking, unmarking, releasing, sweeping, clearing, adding, removing, testing, forgetting, discarding, missing, argumentsOk, sound, Result, refused, refusal, call, openOk, opened}
-use Rattle.definition.specs.Words.{idOf, provided, read, inRange, decode, kindOf, at, shareOf, openWords, unusedFrom, openStep, callStep, step}
+use Rattle.definition.specs.Words.{idIn, provided, read, rangedCall, decode, kindOf, at, shareOf, openWords, unusedFrom, openStep, callStep, step}
 use Rattle.definition.specs.Orders.{Reached, opening, calling, discards, misses}
 use Rattle.definition.proofs.Tests.{if-false, by-if, by-test, and-left, and-right}
 use Rattle.definition.proofs.Lists.{none-some, some-inj}
@@ -69,7 +69,7 @@ read-right code ws =
     (λ e. by-if (Right code) (eqb code 15) _ _ (λ e. given-right code _ _ (code-is code 15 e))
     (λ e c q. absurd (none-some q))))))))))))))))
 
-inRange-right : (code : ℕ) (o : Option Call) → Right code o → Right code (inRange o)
+inRange-right : (code : ℕ) (o : Option Call) → Right code o → Right code (rangedCall o)
 inRange-right code none h = h
 inRange-right code (some d) h = given-right code (argumentsOk d) d (h d refl)
 
@@ -139,28 +139,28 @@ abbrev pub asks : Id → Option Request → Option Call
 asks i none = none
 asks i (some q) = some (asking i q)
 
-given-asks : (i : Id) (b : Bool) (q : Request) → inRange (provided b (asking i q)) ≡ asks i (asksOf (inRange (provided b (asking i q))))
+given-asks : (i : Id) (b : Bool) (q : Request) → rangedCall (provided b (asking i q)) ≡ asks i (asksOf (rangedCall (provided b (asking i q))))
 unfolding provided
 given-asks i false q = refl
 given-asks i true q = by-test (argumentsOk (asking i q)) (λ e. rw e) (λ e. rw e)
 
-pub decode-asks : (code : ℕ) (ws : List ℕ) → 4 ≤ code → code ≤ 7 → decode code ws ≡ asks (idOf ws) (requestOf code ws)
+pub decode-asks : (code : ℕ) (ws : List ℕ) → 4 ≤ code → code ≤ 7 → decode code ws ≡ asks (idIn ws) (requestOf code ws)
 unfolding decode read requestOf
 decode-asks code ws low high =
     rw (ne-eqb code 1 (λ e. omega arith), ne-eqb code 2 (λ e. omega arith), ne-eqb code 3 (λ e. omega arith))
-    (by-test (eqb code 4) (λ e. rw e (given-asks (idOf ws) _ _))
-    (λ e. rw e (by-test (eqb code 5) (λ e. rw e (given-asks (idOf ws) _ _))
-    (λ f. rw f (by-test (eqb code 6) (λ e. rw e (given-asks (idOf ws) _ _))
-    (λ g. rw (g, eq-eqb code 7 (seven e f g)) (given-asks (idOf ws) _ _)))))))
+    (by-test (eqb code 4) (λ e. rw e (given-asks (idIn ws) _ _))
+    (λ e. rw e (by-test (eqb code 5) (λ e. rw e (given-asks (idIn ws) _ _))
+    (λ f. rw f (by-test (eqb code 6) (λ e. rw e (given-asks (idIn ws) _ _))
+    (λ g. rw (g, eq-eqb code 7 (seven e f g)) (given-asks (idIn ws) _ _)))))))
   where
     seven : eqb code 4 ≡ false → eqb code 5 ≡ false → eqb code 6 ≡ false → code ≡ 7
     seven e f g = omega (arith, eqb-false code 4 e, eqb-false code 5 f, eqb-false code 6 g)
 
-pub inRange-ok : (o : Option Call) (c : Call) → inRange o ≡ some c → argumentsOk c ≡ true
+pub inRange-ok : (o : Option Call) (c : Call) → rangedCall o ≡ some c → argumentsOk c ≡ true
 unfolding provided
 inRange-ok none c = λ q. absurd (none-some q)
 inRange-ok (some d) c = by-test (argumentsOk d) (λ e. rw e (λ q. subst (λ (x : Call). argumentsOk x ≡ true) (some-inj q) e)) (λ e. rw e (λ q. absurd (none-some q)))
 
-pub asked-ok : (code : ℕ) (ws : List ℕ) (q : Request) → 4 ≤ code → code ≤ 7 → requestOf code ws ≡ some q → argumentsOk (asking (idOf ws) q) ≡ true
+pub asked-ok : (code : ℕ) (ws : List ℕ) (q : Request) → 4 ≤ code → code ≤ 7 → requestOf code ws ≡ some q → argumentsOk (asking (idIn ws) q) ≡ true
 unfolding decode
-asked-ok code ws q low high e = inRange-ok (read code ws) (asking (idOf ws) q) (decode-asks code ws low high ∙ ap (asks (idOf ws)) e)
+asked-ok code ws q low high e = inRange-ok (read code ws) (asking (idIn ws) q) (decode-asks code ws low high ∙ ap (asks (idIn ws)) e)

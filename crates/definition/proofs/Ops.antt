@@ -8,15 +8,15 @@ use mathlib.Core.Option.{Option, none, some}
 use lib.Dec.{leb, ltb, eqb}
 use lib.IntN.{ℤ, pos}
 use lib.Signed.{ltZ}
-use lib.ListN.{length}
+use lib.ListN.{length, length-map}
 use borrow.Author.Tests.{le-leb}
 use Rattle.definition.specs.Base.{keep, all, find, put, empty, ascending}
 use Rattle.definition.specs.Types.{Kind, queue, topic, Id, Entry, Sub, Stats, Held, Dest, withPrefetch, withStats, withIdle}
 use Rattle.definition.specs.Consumer.{_⊕_, isBrowser, sendNull, Ack, AckType, Delivered, Poison, Standard, Redelivered, Individual, Unmatched, Expired, Other, ackType, ackSub}
-use Rattle.definition.specs.Destination.{Out, count, isId, subOf, putSub, room, marked, touchIdle, dispatch, dispatchBy, ack, ackAt, ackReserved, reservedHit, reservedCounts, heldBy, reservedOf, pull, pullAt, pulled, resumed, fired, timeoutAt, pullTimeout, setPrefetch, prefetchAt, due}
-use Rattle.definition.specs.Calls.{idOk, within, optional, clockOk, seqs, flying, held, distinctIds, Request, acknowledge, pulling, timedOut, prefetching, requestOk, ackOk, ask}
+use Rattle.definition.specs.Destination.{Out, count, isId, subOf, putSub, room, idleMark, touchIdle, dispatch, dispatchBy, ack, ackAt, ackReserved, reservedHit, reservedCounts, heldBy, reservedOf, pull, pullAt, pulled, resumed, fired, timeoutAt, pullTimeout, setPrefetch, prefetchAt, due}
+use Rattle.definition.specs.Calls.{idOk, signedWithin, optional, clockOk, seqs, flying, held, distinctIds, Request, acknowledge, pulling, timedOut, prefetching, requestOk, ackOk, ask}
 use Rattle.definition.proofs.Tests.{if-true, if-false, by-if, by-test, and-left, and-right}
-use Rattle.definition.proofs.Lists.{none-some, some-inj, All, length-map, keep-length, all-keep}
+use Rattle.definition.proofs.Lists.{none-some, some-inj, All, keep-length, all-keep}
 use Rattle.definition.proofs.Thin.{Thin, tally-length}
 use Rattle.definition.proofs.Sums.{sum, Tame, one, bad, one-tame, bad-tame, sum-thin, sum-one}
 use Rattle.definition.proofs.Fit.{Waits, Fit, Acked, ack-acked, null-fit, total}
@@ -69,7 +69,7 @@ pulling-eased : (k : Kind) (s : Sub) → Eased k 1 s (pulling-sub s)
 unfolding rowsM countM isBrowser
 pulling-eased k s = eased-plain k 1 s (pulling-sub s) refl (pulling-fit k s) (omega arith) (omega arith) (λ N h. le-leb (s .generation + 1) (N + 1) (omega (arith, h .generation))) (λ f t. omega arith) (λ f t. omega arith)
 
-prefetch-eased : (k : Kind) (p : ℤ) (s : Sub) → within (2 ^ 31) p ≡ true → Eased k 1 s (withPrefetch (room p) s)
+prefetch-eased : (k : Kind) (p : ℤ) (s : Sub) → signedWithin (2 ^ 31) p ≡ true → Eased k 1 s (withPrefetch (room p) s)
 unfolding rowsM countM isBrowser
 prefetch-eased k p s h = eased-plain k 1 s (withPrefetch (room p) s) refl (prefetch-fit k p s h) (omega arith) (omega arith) (λ N n. sane-more k N (N + 1) s (omega arith) n .pulls) (λ f t. omega arith) (λ f t. omega arith)
 
@@ -99,7 +99,7 @@ ack-eased k a s = acked-eased k s (ackSub a s .sub) (ack-id a s) (λ f. ack-acke
 pub under-same : (N x : ℕ) (c : Stats) → Under N c → Under (N + x) c
 under-same N x c u = under-more N (N + x) c (omega arith) u
 
-marked-ok : (now : ℕ) (o : Option ℕ) → clockOk now ≡ true → optional clockOk o ≡ true → optional clockOk (marked now o) ≡ true
+marked-ok : (now : ℕ) (o : Option ℕ) → clockOk now ≡ true → optional clockOk o ≡ true → optional clockOk (idleMark now o) ≡ true
 marked-ok now none h g = h
 marked-ok now (some k) h g = g
 
@@ -122,7 +122,7 @@ module _ (L U : ℕ) (k : Kind) where
   pub touch-fine : (N now : ℕ) (t : Dest) → clockOk now ≡ true → Fine L U k N t → Fine L U k (N + 1) (touchIdle now t)
   unfolding touchIdle
   touch-fine N now t h g = by-test (empty (t .pending) && (empty (t .subs) && empty (t .producers)))
-      (λ c. rw c (idle-fine N t (marked now (t .idle)) (marked-ok now (t .idle) h (g .frame .mark)) g))
+      (λ c. rw c (idle-fine N t (idleMark now (t .idle)) (marked-ok now (t .idle) h (g .frame .mark)) g))
       (λ c. rw c (idle-fine N t none refl g))
 
   pub put-fine : (N x : ℕ) (i : Id) (s v : Sub) (c : Stats) (t : Dest) → subOf i t ≡ some s → Eased k x s v → Under (N + x) c → Fine L U k N t → Fine L U k (N + x) (withStats c (putSub i v t))
@@ -155,7 +155,7 @@ module _ (L U : ℕ) (k : Kind) where
   keep-nil p l h = ap (keep p) h
 
   pub few-reserved : (N : ℕ) (t : Dest) → Fine L U k N t → length (t .reserved) ≤ 512
-  few-reserved N t g = omega (arith, g .rows, sum-one (held t), length-map (λ h. h .entry) (t .reserved))
+  few-reserved N t g = omega (arith, g .rows, sum-one (held t), length-map (t .reserved) (λ h. h .entry))
 
   pub reserved-fine : (N : ℕ) (i : Id) (a : Ack) (t : Dest) (o : Option ℕ) → Fine L U k N t → Fine L U k (N + 512) (ackReserved i a t o .dest)
   unfolding ackReserved
@@ -168,7 +168,7 @@ module _ (L U : ℕ) (k : Kind) where
       (λ e. let n = once-topic k t (g .once) e in (n .0, keep-nil _ (t .reserved) (n .1)))
       (g .sorted) (all-keep (λ h. idOk (h .holder)) (λ h. not (heldBy i h && reservedHit (a .first) last (h .entry) (ackType (a .type)))) (t .reserved) (g .frame .holders)) (g .frame .mark)
       (under-plus N 512 (t .stats) (reservedCounts taken (ackType (a .type))) (g .counters)
-      (omega (arith, reserved-total (ackType (a .type)) taken, keep-length (λ e. reservedHit (a .first) last e (ackType (a .type))) (reservedOf i t), length-map (λ h. h .entry) (keep (heldBy i) (t .reserved)), keep-length (heldBy i) (t .reserved), few-reserved N t g)))
+      (omega (arith, reserved-total (ackType (a .type)) taken, keep-length (λ e. reservedHit (a .first) last e (ackType (a .type))) (reservedOf i t), length-map (keep (heldBy i) (t .reserved)) (λ h. h .entry), keep-length (heldBy i) (t .reserved), few-reserved N t g)))
 
   -- ---- codes 4 to 7
 
@@ -179,7 +179,7 @@ module _ (L U : ℕ) (k : Kind) where
       (λ e. omega (arith, found-rows g p l s (sym (if-false (some c) (find p l) e) ∙ f)))
 
   few-flying : (N : ℕ) (i : Id) (s : Sub) (t : Dest) → Fine L U k N t → subOf i t ≡ some s → length (s .inflight) ≤ 512
-  few-flying N i s t g f = omega (arith, g .rows, found-rows (rowsM one) (isId i) (t .subs) s f, rows-parts s, length-map (λ i. i .entry) (s .inflight))
+  few-flying N i s t g f = omega (arith, g .rows, found-rows (rowsM one) (isId i) (t .subs) s f, rows-parts s, length-map (s .inflight) (λ i. i .entry))
 
   -- the consumer after its acknowledgement, before the dispatch
   pub acked-fine : (N : ℕ) (i : Id) (a : Ack) (s : Sub) (t : Dest) → subOf i t ≡ some s → Fine L U k N t → Fine L U k (N + 513) (count (ackSub a s .counts) (putSub i (ackSub a s .sub) t))
@@ -235,7 +235,7 @@ module _ (L U : ℕ) (k : Kind) where
   timeout-fine N i generation t none e g = fine-more L U k N (N + 1) t (omega arith) g
   timeout-fine N i generation t (some s) e g = fired-fine N i generation s t (s .pull) e g
 
-  pub prefetch-fine : (N : ℕ) (i : Id) (p : ℤ) (t : Dest) (o : Option Sub) → within (2 ^ 31) p ≡ true → subOf i t ≡ o → Fine L U k N t → Fine L U k (N + 1) (prefetchAt i p t o)
+  pub prefetch-fine : (N : ℕ) (i : Id) (p : ℤ) (t : Dest) (o : Option Sub) → signedWithin (2 ^ 31) p ≡ true → subOf i t ≡ o → Fine L U k N t → Fine L U k (N + 1) (prefetchAt i p t o)
   prefetch-fine N i p t none h e g = fine-more L U k N (N + 1) t (omega arith) g
   prefetch-fine N i p t (some s) h e g = put-fine N 1 i s (withPrefetch (room p) s) (t .stats) t e (prefetch-eased k p s h) (under-same N 1 (t .stats) (g .counters)) g
 
@@ -244,4 +244,4 @@ module _ (L U : ℕ) (k : Kind) where
   ask-fine N i (acknowledge a now) t h g = ack-fine N now i a t (subOf i t) (and-right (ackOk a) (clockOk now) h) refl g
   ask-fine N i (pulling timeout now) t h g = pull-fine N now i timeout t (subOf i t) refl g
   ask-fine N i (timedOut generation) t h g = fine-more L U k (N + 1) (N + 4096) _ (omega arith) (timeout-fine N i generation t (subOf i t) refl g)
-  ask-fine N i (prefetching p now) t h g = fine-more L U k (N + 1 + 2048) (N + 4096) _ (omega arith) (kind-fine (N + 1) now _ (prefetch-fine N i p t (subOf i t) (and-left (within (2 ^ 31) p) _ h) refl g))
+  ask-fine N i (prefetching p now) t h g = fine-more L U k (N + 1 + 2048) (N + 4096) _ (omega arith) (kind-fine (N + 1) now _ (prefetch-fine N i p t (subOf i t) (and-left (signedWithin (2 ^ 31) p) _ h) refl g))

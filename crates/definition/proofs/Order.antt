@@ -8,13 +8,14 @@ use mathlib.Core.Option.{Option, none, some}
 use lib.Dec.{eqb}
 use lib.ListN.{length}
 use borrow.Author.Tests.{ne-eqb, leb-true, le-leb}
+use Rattle.model.proofs.Ids.{same-id, same-id-refl}
 use Rattle.definition.specs.Base.{if_then_else_, find, put, empty, is-some}
 use Rattle.definition.specs.Types.{Kind, Id, Sub, Stats, Dest, withSubs, withStats, withCallsUsed}
 use Rattle.definition.specs.Consumer.{sameId, _⊕_}
 use Rattle.definition.specs.Destination.{isId, subOf}
-use Rattle.definition.specs.Calls.{Lengths, short, within, idOk, clockOk, ackOk, requestOk, Request, acknowledge, pulling, timedOut, prefetching, asking, Result, refused, used, sound, argumentsOk, ownRefusal, perform, refusal, call}
+use Rattle.definition.specs.Calls.{Lengths, short, signedWithin, idOk, clockOk, ackOk, requestOk, Request, acknowledge, pulling, timedOut, prefetching, asking, Result, refused, used, sound, argumentsOk, ownRefusal, perform, refusal, call}
 use Rattle.definition.specs.Words.{callStep}
-use Rattle.definition.specs.Orders.{Lent, caller, Reply, result, reply, left, callsOf, AllPresent, SameRuns, Reordering}
+use Rattle.definition.specs.Orders.{Lent, caller, Reply, result, reply, destLeft, callsOf, AllPresent, SameRuns, Reordering}
 use Rattle.definition.proofs.Tests.{if-true, if-false, by-test, and-left, and-right, and-both}
 use Rattle.definition.proofs.Lists.{find-passes, find-put-same, find-put-other, put-put, All, all-put, all-find}
 use Rattle.definition.proofs.Local.{⊕-assoc, ⊕-comm, Rests, changed, Resting}
@@ -23,12 +24,11 @@ use Rattle.definition.proofs.Calm.{Calm, reached-calm}
 use Rattle.definition.proofs.Sound.{own-sound}
 use Rattle.definition.proofs.Kept.{reached-sound}
 use Rattle.definition.proofs.Made.{requestOf, asks, step-call, decode-asks, asked-ok}
-use Rattle.definition.proofs.Ids.{same-true, same-refl}
 use Rattle.definition.proofs.Reorder as Reorder
 
 -- no consumer has two IDs
 two-ids : (i j : Id) → sameId i j ≡ false → (c : Sub) → isId i c ≡ true → isId j c ≡ true → ⊥
-two-ids i j n c p q = true≢false (sym (same-refl i) ∙ ap (λ (x : Id). sameId i x) (sym (same-true (c .id) i p) ∙ same-true (c .id) j q) ∙ n)
+two-ids i j n c p q = true≢false (sym (same-id-refl i) ∙ ap (λ (x : Id). sameId i x) (sym (same-id (c .id) i p) ∙ same-id (c .id) j q) ∙ n)
 
 other-id : (i j : Id) → sameId i j ≡ false → (c : Sub) → isId i c ≡ true → isId j c ≡ false
 other-id i j n c p = by-test (isId j c) (λ q. absurd (two-ids i j n c p q)) (λ q. q)
@@ -99,14 +99,14 @@ yes-reply : (k : ℕ) (c : Lent) (s : Sub) (t : Dest) → Ready (suc k) t → Co
     reply c t ≡ record { refusal = 0; answer = mine c s t .answer; events = mine c s t .events }
 yes-reply k c s t r d f e = let p = call-own k c s t r d f ∙ if-true _ _ e in λ j. record { refusal = p j .refusal; answer = p j .answer; events = p j .events }
 
-yes-left : (k : ℕ) (c : Lent) (s : Sub) (t : Dest) → Ready (suc k) t → Coded c → subOf (caller c) t ≡ some s → eqb (verdict c) 0 ≡ true → left c t ≡ moved c s t
+yes-left : (k : ℕ) (c : Lent) (s : Sub) (t : Dest) → Ready (suc k) t → Coded c → subOf (caller c) t ≡ some s → eqb (verdict c) 0 ≡ true → destLeft c t ≡ moved c s t
 yes-left k c s t r d f e = ap (λ (x : Result). x .dest) (call-own k c s t r d f ∙ if-true _ _ e)
 
 no-reply : (k : ℕ) (c : Lent) (s : Sub) (t : Dest) → Ready (suc k) t → Coded c → subOf (caller c) t ≡ some s → eqb (verdict c) 0 ≡ false →
     reply c t ≡ record { refusal = verdict c; answer = 0; events = [] }
 no-reply k c s t r d f e = let p = call-own k c s t r d f ∙ if-false _ _ e in λ j. record { refusal = p j .refusal; answer = p j .answer; events = p j .events }
 
-no-left : (k : ℕ) (c : Lent) (s : Sub) (t : Dest) → Ready (suc k) t → Coded c → subOf (caller c) t ≡ some s → eqb (verdict c) 0 ≡ false → left c t ≡ t
+no-left : (k : ℕ) (c : Lent) (s : Sub) (t : Dest) → Ready (suc k) t → Coded c → subOf (caller c) t ≡ some s → eqb (verdict c) 0 ≡ false → destLeft c t ≡ t
 no-left k c s t r d f e = ap (λ (x : Result). x .dest) (call-own k c s t r d f ∙ if-false _ _ e)
 
 -- an accepted call asks something
@@ -129,9 +129,9 @@ clock-less now w h = le-leb (now - w) (2 ^ 62) (omega (arith, leb-true now (2 ^ 
 
 request-less : (w : ℕ) (q : Request) → requestOk q ≡ true → requestOk (lessened w q) ≡ true
 request-less w (acknowledge a now) h = and-both (ackOk a) _ (and-left (ackOk a) _ h) (clock-less now w (and-right (ackOk a) _ h))
-request-less w (pulling timeout now) h = and-both (within (2 ^ 63) timeout) _ (and-left (within (2 ^ 63) timeout) _ h) (clock-less now w (and-right (within (2 ^ 63) timeout) _ h))
+request-less w (pulling timeout now) h = and-both (signedWithin (2 ^ 63) timeout) _ (and-left (signedWithin (2 ^ 63) timeout) _ h) (clock-less now w (and-right (signedWithin (2 ^ 63) timeout) _ h))
 request-less w (timedOut generation) h = h
-request-less w (prefetching p now) h = and-both (within (2 ^ 31) p) _ (and-left (within (2 ^ 31) p) _ h) (clock-less now w (and-right (within (2 ^ 31) p) _ h))
+request-less w (prefetching p now) h = and-both (signedWithin (2 ^ 31) p) _ (and-left (signedWithin (2 ^ 31) p) _ h) (clock-less now w (and-right (signedWithin (2 ^ 31) p) _ h))
 
 lessened-ok : (w : ℕ) (i : Id) (q : Request) → argumentsOk (asking i q) ≡ true → argumentsOk (asking i (lessened w q)) ≡ true
 unfolding argumentsOk
@@ -156,7 +156,7 @@ moved-ready k c s t r d f e = record {
 ready-less : (k : ℕ) (t : Dest) → Ready (suc k) t → Ready k t
 ready-less k t r = record { resting = r .resting; is-sound = r .is-sound; calls = omega (arith, r .calls) }
 
-on : (k : ℕ) (t : Dest) (a : Lent) → Ready (suc k) t → Here a t → Ready k (left a t)
+on : (k : ℕ) (t : Dest) (a : Lent) → Ready (suc k) t → Here a t → Ready k (destLeft a t)
 unfolding Here
 on k t a r h = by-test (eqb (verdict a) 0)
     (λ e. subst⁻¹ (Ready k) (yes-left k a (h .0) t r (h .2) (h .1) e) (moved-ready k a (h .0) t r (h .2) (h .1) e))
@@ -165,10 +165,10 @@ on k t a r h = by-test (eqb (verdict a) 0)
 stay-moved : (a b : Lent) (s : Sub) (t : Dest) → subOf (caller a) t ≡ some s → Here b t → Here b (moved a s t)
 unfolding Here
 stay-moved a b s t f h = by-test (sameId (caller a) (caller b))
-    (λ e. (mine a s t .sub, subst (λ (j : Id). subOf j (moved a s t) ≡ some (mine a s t .sub)) (same-true (caller a) (caller b) e) (find-put-same (isId (caller a)) (t .subs) s (mine a s t .sub) f (own-is-id a s t f)), h .2))
+    (λ e. (mine a s t .sub, subst (λ (j : Id). subOf j (moved a s t) ≡ some (mine a s t .sub)) (same-id (caller a) (caller b) e) (find-put-same (isId (caller a)) (t .subs) s (mine a s t .sub) f (own-is-id a s t f)), h .2))
     (λ e. (h .0, moved-other a s t (caller b) f e ∙ h .1, h .2))
 
-stay : (k : ℕ) (t : Dest) (a b : Lent) → Ready (suc k) t → Here a t → Here b t → Here b (left a t)
+stay : (k : ℕ) (t : Dest) (a b : Lent) → Ready (suc k) t → Here a t → Here b t → Here b (destLeft a t)
 unfolding Here
 stay k t a b r h g = by-test (eqb (verdict a) 0)
     (λ e. subst⁻¹ (Here b) (yes-left k a (h .0) t r (h .2) (h .1) e) (stay-moved a b (h .0) t (h .1) g))
@@ -179,18 +179,18 @@ stay k t a b r h g = by-test (eqb (verdict a) 0)
 moved-swap : (a b : Lent) (s v : Sub) (t : Dest) → subOf (caller a) t ≡ some s → subOf (caller b) t ≡ some v → sameId (caller a) (caller b) ≡ false →
     moved b v (moved a s t) ≡ moved a s (moved b v t)
 moved-swap a b s v t f g n =
-    let m : sameId (caller b) (caller a) ≡ false = by-test (sameId (caller b) (caller a)) (λ e. absurd (true≢false (sym (same-refl (caller b)) ∙ ap (λ (x : Id). sameId x (caller b)) (same-true (caller b) (caller a) e) ∙ n))) (λ e. e) in
+    let m : sameId (caller b) (caller a) ≡ false = by-test (sameId (caller b) (caller a)) (λ e. absurd (true≢false (sym (same-id-refl (caller b)) ∙ ap (λ (x : Id). sameId x (caller b)) (same-id (caller b) (caller a) e) ∙ n))) (λ e. e) in
     let u : put (isId (caller b)) (mine b v t .sub) (put (isId (caller a)) (mine a s t .sub) (t .subs)) ≡ put (isId (caller a)) (mine a s t .sub) (put (isId (caller b)) (mine b v t .sub) (t .subs))
     = put-put (isId (caller a)) (isId (caller b)) (t .subs) (mine a s t .sub) (mine b v t .sub) (two-ids (caller a) (caller b) n) (other-id (caller a) (caller b) n (mine a s t .sub) (own-is-id a s t f)) (other-id (caller b) (caller a) m (mine b v t .sub) (own-is-id b v t g)) in
     let c : (t .stats ⊕ mine a s t .counts) ⊕ mine b v t .counts ≡ (t .stats ⊕ mine b v t .counts) ⊕ mine a s t .counts
     = ⊕-assoc (t .stats) (mine a s t .counts) (mine b v t .counts) ∙ ap (λ (x : Stats). t .stats ⊕ x) (⊕-comm (mine a s t .counts) (mine b v t .counts)) ∙ sym (⊕-assoc (t .stats) (mine b v t .counts) (mine a s t .counts)) in
     λ j. withCallsUsed (t .callsUsed + 1 + 1) (withStats (c j) (withSubs (u j) t))
 
-apart : (k : ℕ) (t : Dest) (a b : Lent) → Ready (suc (suc k)) t → Here a t → Here b t → sameId (caller a) (caller b) ≡ false → reply b (left a t) ≡ reply b t
+apart : (k : ℕ) (t : Dest) (a b : Lent) → Ready (suc (suc k)) t → Here a t → Here b t → sameId (caller a) (caller b) ≡ false → reply b (destLeft a t) ≡ reply b t
 unfolding Here
 apart k t a b r h g n = by-test (eqb (verdict a) 0) first (λ e. ap (reply b) (no-left (suc k) a (h .0) t r (h .2) (h .1) e))
   where
-    first : eqb (verdict a) 0 ≡ true → reply b (left a t) ≡ reply b t
+    first : eqb (verdict a) 0 ≡ true → reply b (destLeft a t) ≡ reply b t
     first e =
         let f : subOf (caller b) (moved a (h .0) t) ≡ some (g .0) = moved-other a (h .0) t (caller b) (h .1) n ∙ g .1 in
         let q : Ready (suc k) (moved a (h .0) t) = moved-ready (suc k) a (h .0) t r (h .2) (h .1) e in
@@ -199,22 +199,22 @@ apart k t a b r h g n = by-test (eqb (verdict a) 0) first (λ e. ap (reply b) (n
         (λ x. yes-reply k b (g .0) (moved a (h .0) t) q (g .2) f x ∙ sym (yes-reply (suc k) b (g .0) t r (g .2) (g .1) x))
         (λ x. no-reply k b (g .0) (moved a (h .0) t) q (g .2) f x ∙ sym (no-reply (suc k) b (g .0) t r (g .2) (g .1) x))
 
-swap : (k : ℕ) (t : Dest) (a b : Lent) → Ready (suc (suc k)) t → Here a t → Here b t → sameId (caller a) (caller b) ≡ false → left b (left a t) ≡ left a (left b t)
+swap : (k : ℕ) (t : Dest) (a b : Lent) → Ready (suc (suc k)) t → Here a t → Here b t → sameId (caller a) (caller b) ≡ false → destLeft b (destLeft a t) ≡ destLeft a (destLeft b t)
 unfolding Here
 swap k t a b r h g n = by-test (eqb (verdict a) 0)
     (λ e. by-test (eqb (verdict b) 0) (both e) (λ x.
-    ap (left b) (la e) ∙ no-left k b (g .0) (moved a (h .0) t) (ra e) (g .2) fb x ∙ sym (ap (left a) (no-left (suc k) b (g .0) t r (g .2) (g .1) x) ∙ la e)))
+    ap (destLeft b) (la e) ∙ no-left k b (g .0) (moved a (h .0) t) (ra e) (g .2) fb x ∙ sym (ap (destLeft a) (no-left (suc k) b (g .0) t r (g .2) (g .1) x) ∙ la e)))
     (λ e. by-test (eqb (verdict b) 0)
-    (λ x. ap (left b) (no-left (suc k) a (h .0) t r (h .2) (h .1) e) ∙ lb x ∙ sym (ap (left a) (lb x) ∙ no-left k a (h .0) (moved b (g .0) t) (rb x) (h .2) fa e))
-    (λ x. ap (left b) (no-left (suc k) a (h .0) t r (h .2) (h .1) e) ∙ no-left (suc k) b (g .0) t r (g .2) (g .1) x ∙ sym (ap (left a) (no-left (suc k) b (g .0) t r (g .2) (g .1) x) ∙ no-left (suc k) a (h .0) t r (h .2) (h .1) e)))
+    (λ x. ap (destLeft b) (no-left (suc k) a (h .0) t r (h .2) (h .1) e) ∙ lb x ∙ sym (ap (destLeft a) (lb x) ∙ no-left k a (h .0) (moved b (g .0) t) (rb x) (h .2) fa e))
+    (λ x. ap (destLeft b) (no-left (suc k) a (h .0) t r (h .2) (h .1) e) ∙ no-left (suc k) b (g .0) t r (g .2) (g .1) x ∙ sym (ap (destLeft a) (no-left (suc k) b (g .0) t r (g .2) (g .1) x) ∙ no-left (suc k) a (h .0) t r (h .2) (h .1) e)))
   where
     m : sameId (caller b) (caller a) ≡ false
-    m = by-test (sameId (caller b) (caller a)) (λ e. absurd (true≢false (sym (same-refl (caller b)) ∙ ap (λ (x : Id). sameId x (caller b)) (same-true (caller b) (caller a) e) ∙ n))) (λ e. e)
+    m = by-test (sameId (caller b) (caller a)) (λ e. absurd (true≢false (sym (same-id-refl (caller b)) ∙ ap (λ (x : Id). sameId x (caller b)) (same-id (caller b) (caller a) e) ∙ n))) (λ e. e)
 
-    la : eqb (verdict a) 0 ≡ true → left a t ≡ moved a (h .0) t
+    la : eqb (verdict a) 0 ≡ true → destLeft a t ≡ moved a (h .0) t
     la e = yes-left (suc k) a (h .0) t r (h .2) (h .1) e
 
-    lb : eqb (verdict b) 0 ≡ true → left b t ≡ moved b (g .0) t
+    lb : eqb (verdict b) 0 ≡ true → destLeft b t ≡ moved b (g .0) t
     lb e = yes-left (suc k) b (g .0) t r (g .2) (g .1) e
 
     ra : eqb (verdict a) 0 ≡ true → Ready (suc k) (moved a (h .0) t)
@@ -229,17 +229,17 @@ swap k t a b r h g n = by-test (eqb (verdict a) 0)
     fa : subOf (caller a) (moved b (g .0) t) ≡ some (h .0)
     fa = moved-other b (g .0) t (caller a) (g .1) m ∙ h .1
 
-    both : eqb (verdict a) 0 ≡ true → eqb (verdict b) 0 ≡ true → left b (left a t) ≡ left a (left b t)
+    both : eqb (verdict a) 0 ≡ true → eqb (verdict b) 0 ≡ true → destLeft b (destLeft a t) ≡ destLeft a (destLeft b t)
     both e x =
-        ap (left b) (la e) ∙ yes-left k b (g .0) (moved a (h .0) t) (ra e) (g .2) fb x
+        ap (destLeft b) (la e) ∙ yes-left k b (g .0) (moved a (h .0) t) (ra e) (g .2) fb x
         ∙ moved-swap a b (h .0) (g .0) t (h .1) (g .1) n
-        ∙ sym (ap (left a) (lb x) ∙ yes-left k a (h .0) (moved b (g .0) t) (rb x) (h .2) fa e)
+        ∙ sym (ap (destLeft a) (lb x) ∙ yes-left k a (h .0) (moved b (g .0) t) (rb x) (h .2) fa e)
 
 -- ---- the claim
 
 sound-order : (l m : List Lent) (t : Dest) → ((i : Id) → callsOf i l ≡ callsOf i m) → Ready (length l) t → All (λ (c : Lent). Here c t) l → SameRuns l m t
 sound-order l m t h r p =
-    let q = Reorder.reorder Lent Id sameId same-refl same-true caller Reply Dest reply left Ready Here on stay swap apart l m t h r p in
+    let q = Reorder.reorder Lent Id sameId same-id-refl same-id caller Reply Dest reply destLeft Ready Here on stay swap apart l m t h r p in
     record { replies = q .results; states = q .ends }
 
 present : (o : Option Sub) → is-some o ≡ true → (s : Sub) × (o ≡ some s)
@@ -257,7 +257,7 @@ not-empty p (s ∷ l) e = refl
 
 agree-nil : (m : List Lent) → ((i : Id) → callsOf i [] ≡ callsOf i m) → m ≡ []
 agree-nil [] h = refl
-agree-nil (c ∷ m) h = absurd (Reorder.nil-cons (h (caller c) ∙ Reorder.keep-yes (λ (x : Lent). sameId (caller x) (caller c)) c m (same-refl (caller c))))
+agree-nil (c ∷ m) h = absurd (Reorder.nil-cons (h (caller c) ∙ Reorder.keep-yes (λ (x : Lent). sameId (caller x) (caller c)) c m (same-id-refl (caller c))))
 
 pub reordering : Reordering
 reordering cleared t reached fits l m p calls h = go l p calls h (reached-sound cleared t reached)

@@ -7,7 +7,7 @@ use mathlib.Core.List.{List, [], _∷_, _++_, map}
 use mathlib.Core.Option.{none}
 use lib.Dec.{leb, ltb, eqb}
 use lib.IntN.{pos}
-use lib.ListN.{length}
+use lib.ListN.{length, length-map}
 use borrow.Author.Tests.{ltb-true, lt-ltb, eqb-true}
 use Rattle.definition.specs.Base.{if_then_else_, keep, tally}
 use Rattle.definition.specs.Types.{Kind, queue, topic, Entry, Sub, Stats, Dest, withCursor, withTpending, withPending}
@@ -15,9 +15,9 @@ use Rattle.definition.specs.Consumer.{expired, accepts, _⊕_, addEnqueu
 use Rattle.definition.specs.Destination.{insert, holdBack, holdBackAll, stored, Trimmed, trim, fanOut, fanOutAll, fannedOut, enqueueBy, dispatchBy, due}
 use Rattle.definition.specs.Calls.{entryOk, flying, rowsOf, held, rowsFor}
 use Rattle.definition.proofs.Tests.{by-if, by-test}
-use Rattle.definition.proofs.Lists.{All, length-map}
+use Rattle.definition.proofs.Lists.{All}
 use Rattle.definition.proofs.Thin.{Thin, thin-refl, thin-trans}
-use Rattle.definition.proofs.Sums.{from, from-tame, from-few, from-other, odd, odd-tame, odd-own, odd-other, sum-odd-occ, sum, Tame, one, occ, bad, one-tame, occ-tame, bad-tame, sum-append, sum-thin, sum-one, sum-insert, insert-ascending, thin-ascending, thin-keep, thin-drop, keep-tally, occ-yes, occ-no, ok-sum, sum-ok, sum-once, once-sum, bad-ok}
+use Rattle.definition.proofs.Sums.{from, from-tame, from-few, from-other, odd, odd-tame, odd-own, odd-other, sum-odd-occ, sum, Tame, one, occ, bad, one-tame, occ-tame, bad-tame, sum-append, sum-thin, sum-one, sum-insert, insert-ascending, thin-ascending, thin-keep, thin-drop, kept-length, occ-yes, occ-no, ok-sum, sum-ok, sum-once, once-sum, bad-ok}
 use Rattle.definition.proofs.Fit.{total}
 use Rattle.definition.proofs.Grown.{counted}
 use Rattle.definition.proofs.Whole.{sums, rowsM, countM, rowsSum, queueSum, ownSum, Sane, sane-more, under-more, all-map, Agree, Fine, fine-more}
@@ -171,7 +171,7 @@ module _ (L U : ℕ) where
   unfolding trim
   trims now limit l = by-if (Trims l) (eqb limit 0 || leb (length l) limit) _ _
       (λ c. record { thin = thin-refl l; counts = omega arith })
-      (λ c. record { thin = thin-trans l live _ (thin-keep (λ e. not (expired (pos now) e)) l) (thin-drop (length live - limit) live); counts = omega (arith, keep-tally (expired (pos now)) l) })
+      (λ c. record { thin = thin-trans l live _ (thin-keep (λ e. not (expired (pos now) e)) l) (thin-drop (length live - limit) live); counts = omega (arith, kept-length (expired (pos now)) l) })
     where
       live : List Entry
       live = keep (λ e. not (expired (pos now) e)) l
@@ -205,7 +205,7 @@ module _ (L U : ℕ) where
   pub fanned-fine : (N now : ℕ) (e : Entry) (t : Dest) → Fine L U topic N t → entryOk e ≡ true → rowsSum one t + tally (λ s. accepts s e) (t .subs) ≤ 512 → rowsSum (occ (e .seq)) t ≤ 0 → rowsSum (from (e .producer)) t + tally (λ s. accepts s e) (t .subs) ≤ t .share → Fine L U topic (N + 1024) (fannedOut now e t)
   fanned-fine N now e t g k r o q =
       let p = fan-all N now (t .topicLimit) e (t .subs) (g .subs) k (omega (arith, o)) in
-      let n : length (fanOutAll now (t .topicLimit) e (t .subs) .subs) ≡ length (t .subs) = sym (length-map (λ s. s .id) (fanOutAll now (t .topicLimit) e (t .subs) .subs)) ∙ ap length (p .ids) ∙ length-map (λ s. s .id) (t .subs) in
+      let n : length (fanOutAll now (t .topicLimit) e (t .subs) .subs) ≡ length (t .subs) = sym (length-map (fanOutAll now (t .topicLimit) e (t .subs) .subs) (λ s. s .id)) ∙ ap length (p .ids) ∙ length-map (t .subs) (λ s. s .id) in
       record {
         kind = g .kind;
         frame = record { limit = g .frame .limit; used = g .frame .used; topic-limit = g .frame .topic-limit; allowance = g .frame .allowance; share-low = g .frame .share-low; share-high = g .frame .share-high; few-producers = g .frame .few-producers; producers = g .frame .producers; few-audits = g .frame .few-audits; audits = g .frame .audits; holders = g .frame .holders; mark = g .frame .mark };

@@ -12,66 +12,65 @@ use Rattle.definition.specs.Base.{if_then_else_, all, is-some}
 use Rattle.definition.specs.Types.{Dest}
 use Rattle.definition.specs.Consumer.{zeroStats}
 use Rattle.definition.specs.Calls.{Lengths, stateShort, short, sound, Call, discarding, missing, argumentsOk, ownRefusal, Result, refused, refusal, call}
-use Rattle.definition.specs.Words.{provided, read, inRange, decode, openWords, openStep, callStep, step}
+use Rattle.definition.specs.Words.{provided, read, rangedCall, decode, openWords, openStep, callStep, step}
 use Rattle.definition.specs.Queries.{queryRefusal, queryOk, Asked, query, Counted, counters, pageMax, Page, page}
 use Rattle.definition.specs.Layout.{Buffers, view, formed, soundBuffers, lengthsOf, bufferStep, bufferCall, bufferQuery, bufferCounters, bufferPage}
-use Rattle.definition.specs.Refusals.{Place, _when_, table, places, bufferPlaces, uncodedPlaces, bufferUncodedPlaces, queryTable, queryPlaces, passes, Comes, Exact, Refuses, StepRefuses, BufferRefuses, UncodedRefuses, QueryRefuses, CountersRefuse, PageRefuses}
-use Rattle.definition.specs.Refusals.{BufferUncodedRefuses, BufferQueryRefuses, BufferCountersRefuse, BufferPageRefuses}
+use Rattle.definition.specs.Refusals.{CheckPlace, _when_, table, checkPlaces, bufferPlaces, uncodedPlaces, bufferUncodedPlaces, queryPlaces, passes, Comes, Exact, Refuses, StepRefuses, BufferRefuses, UncodedRefuses, QueryRefuses, CountersRefuse, PageRefuses, BufferUncodedRefuses, BufferQueryRefuses, BufferCountersRefuse, BufferPageRefuses}
 use Rattle.definition.proofs.Tests.{if-true, if-false, by-if, by-test, and-left, and-right, and-both}
 use Rattle.definition.proofs.Lists.{none-some, some-inj}
 use Rattle.definition.proofs.Made.{inRange-ok}
 
 -- ---- the first place that refuses
 
-abbrev first : List Place → ℕ
-first [] = 0
-first (p ∷ ps) = if p .test then p .number else first ps
+abbrev pub firstOf : List CheckPlace → ℕ
+firstOf [] = 0
+firstOf (p ∷ ps) = if p .test then p .number else firstOf ps
 
-comes : (ps : List Place) (n : ℕ) → 1 ≤ n → first ps ≡ n → Comes n ps
+comes : (ps : List CheckPlace) (n : ℕ) → 1 ≤ n → firstOf ps ≡ n → Comes n ps
 comes [] n h e = absurd (omega (arith, h, e))
 comes (p ∷ ps) n h e = by-test (p .test)
-    (λ c. record { before = []; here = p; after = ps; split = refl; passed = refl; refuses = c; numbered = sym (if-true (p .number) (first ps) c) ∙ e })
+    (λ c. record { before = []; here = p; after = ps; split = refl; passed = refl; refuses = c; numbered = sym (if-true (p .number) (firstOf ps) c) ∙ e })
     (λ c.
-    let r = comes ps n h (sym (if-false (p .number) (first ps) c) ∙ e) in
-    record { before = p ∷ r .before; here = r .here; after = r .after; split = ap (λ (l : List Place). p ∷ l) (r .split); passed = and-both _ _ (ap not c) (r .passed); refuses = r .refuses; numbered = r .numbered })
+    let r = comes ps n h (sym (if-false (p .number) (firstOf ps) c) ∙ e) in
+    record { before = p ∷ r .before; here = r .here; after = r .after; split = ap (λ (l : List CheckPlace). p ∷ l) (r .split); passed = and-both _ _ (ap not c) (r .passed); refuses = r .refuses; numbered = r .numbered })
 
-first-of : (before after : List Place) (here : Place) → all passes before ≡ true → here .test ≡ true → first (before ++ here ∷ after) ≡ here .number
-first-of [] after here h c = if-true (here .number) (first after) c
-first-of (p ∷ before) after here h c = by-test (p .test)
+firstOf-is : (before after : List CheckPlace) (here : CheckPlace) → all passes before ≡ true → here .test ≡ true → firstOf (before ++ here ∷ after) ≡ here .number
+firstOf-is [] after here h c = if-true (here .number) (firstOf after) c
+firstOf-is (p ∷ before) after here h c = by-test (p .test)
     (λ d. absurd (true≢false (sym (and-left _ _ h) ∙ ap not d)))
-    (λ d. if-false (p .number) (first (before ++ here ∷ after)) d ∙ first-of before after here (and-right (passes p) _ h) c)
+    (λ d. if-false (p .number) (firstOf (before ++ here ∷ after)) d ∙ firstOf-is before after here (and-right (passes p) _ h) c)
 
-all-pass : (ps : List Place) → all (λ p. leb 1 (p .number)) ps ≡ true → first ps ≡ 0 → all passes ps ≡ true
+all-pass : (ps : List CheckPlace) → all (λ p. leb 1 (p .number)) ps ≡ true → firstOf ps ≡ 0 → all passes ps ≡ true
 all-pass [] h e = refl
 all-pass (p ∷ ps) h e = by-test (p .test)
-    (λ c. absurd (omega (arith, leb-true 1 (p .number) (and-left _ _ h), sym (if-true (p .number) (first ps) c) ∙ e)))
-    (λ c. and-both _ _ (ap not c) (all-pass ps (and-right (leb 1 (p .number)) _ h) (sym (if-false (p .number) (first ps) c) ∙ e)))
+    (λ c. absurd (omega (arith, leb-true 1 (p .number) (and-left _ _ h), sym (if-true (p .number) (firstOf ps) c) ∙ e)))
+    (λ c. and-both _ _ (ap not c) (all-pass ps (and-right (leb 1 (p .number)) _ h) (sym (if-false (p .number) (firstOf ps) c) ∙ e)))
 
-none-refuses : (ps : List Place) → all passes ps ≡ true → first ps ≡ 0
+none-refuses : (ps : List CheckPlace) → all passes ps ≡ true → firstOf ps ≡ 0
 none-refuses [] h = refl
 none-refuses (p ∷ ps) h = by-test (p .test)
     (λ d. absurd (true≢false (sym (and-left _ _ h) ∙ ap not d)))
-    (λ d. if-false (p .number) (first ps) d ∙ none-refuses ps (and-right (passes p) _ h))
+    (λ d. if-false (p .number) (firstOf ps) d ∙ none-refuses ps (and-right (passes p) _ h))
 
 -- a refusal that is the first place's number is exact
-exact : (refusal : ℕ) (ps : List Place) → all (λ p. leb 1 (p .number)) ps ≡ true → refusal ≡ first ps → Exact refusal ps
+pub exact : (refusal : ℕ) (ps : List CheckPlace) → all (λ p. leb 1 (p .number)) ps ≡ true → refusal ≡ firstOf ps → Exact refusal ps
 exact refusal ps h e = record {
-  number = λ n m. (λ q. comes ps n m (sym e ∙ q), λ r. e ∙ ap first (r .split) ∙ first-of (r .before) (r .after) (r .here) (r .passed) (r .refuses) ∙ r .numbered);
+  number = λ n m. (λ q. comes ps n m (sym e ∙ q), λ r. e ∙ ap firstOf (r .split) ∙ firstOf-is (r .before) (r .after) (r .here) (r .passed) (r .refuses) ∙ r .numbered);
   accepted = (λ q. all-pass ps h (sym e ∙ q), λ q. e ∙ none-refuses ps q);
 }
 
 -- ---- a call of the call file
 
 -- the table's places after 9
-abbrev own : ℕ → List ℕ → Dest → List Place
+abbrev own : ℕ → List ℕ → Dest → List CheckPlace
 own code ws t = drop 4 (table false true code ws t)
 
 abbrev Own : ℕ → List ℕ → Dest → Option Call → Type 0
-Own code ws t o = (c : Call) → o ≡ some c → ownRefusal t c ≡ first (own code ws t)
+Own code ws t o = (c : Call) → o ≡ some c → ownRefusal t c ≡ firstOf (own code ws t)
 
-provided-own : (code n : ℕ) (ws : List ℕ) (t : Dest) (b : Bool) (d : Call) → eqb code n ≡ true → ownRefusal t d ≡ first (own n ws t) → Own code ws t (provided b d)
+provided-own : (code n : ℕ) (ws : List ℕ) (t : Dest) (b : Bool) (d : Call) → eqb code n ≡ true → ownRefusal t d ≡ firstOf (own n ws t) → Own code ws t (provided b d)
 unfolding provided
-provided-own code n ws t true d e h c q = ap (ownRefusal t) (sym (some-inj q)) ∙ h ∙ ap (λ (k : ℕ). first (own k ws t)) (sym (eqb-true code n e))
+provided-own code n ws t true d e h c q = ap (ownRefusal t) (sym (some-inj q)) ∙ h ∙ ap (λ (k : ℕ). firstOf (own k ws t)) (sym (eqb-true code n e))
 provided-own code n ws t false d e h c q = absurd (none-some q)
 
 read-own : (code : ℕ) (ws : List ℕ) (t : Dest) → Own code ws t (read code ws)
@@ -94,7 +93,7 @@ read-own code ws t =
     (λ e. by-if (Own code ws t) (eqb code 15) _ _ (λ e. provided-own code 15 ws t _ _ e refl)
     (λ e c q. absurd (none-some q))))))))))))))))
 
-inRange-some : (o : Option Call) (c : Call) → inRange o ≡ some c → o ≡ some c
+inRange-some : (o : Option Call) (c : Call) → rangedCall o ≡ some c → o ≡ some c
 unfolding provided
 inRange-some none c = λ q. q
 inRange-some (some d) c = by-test (argumentsOk d) (λ e. rw e (λ q. q)) (λ e. rw e (λ q. absurd (none-some q)))
@@ -109,15 +108,15 @@ unfolding callStep refusal
 coded-first lent t none rest a h = by-test (short lent) (λ c. rw c) (λ c. by-test (sound t) (λ d. rw (c, d)) (λ d. rw (c, d)))
 coded-first lent t (some c) rest a h = call-refusal lent c t ∙ rw (a c refl, h c refl)
 
-open-first : (lent : Lengths) (ws : List ℕ) (t : Dest) → openStep lent ws t .refusal ≡ first (places lent 0 ws t)
+open-first : (lent : Lengths) (ws : List ℕ) (t : Dest) → openStep lent ws t .refusal ≡ firstOf (checkPlaces lent 0 ws t)
 unfolding openStep
 open-first lent ws t = by-test (short lent) (λ c. rw c) (λ c. by-test (openWords ws) (λ d. rw (c, d)) (λ d. rw (c, d)))
 
-step-first : (lent : Lengths) (code : ℕ) (ws : List ℕ) (t : Dest) → step lent code ws t .refusal ≡ first (places lent code ws t)
+step-first : (lent : Lengths) (code : ℕ) (ws : List ℕ) (t : Dest) → step lent code ws t .refusal ≡ firstOf (checkPlaces lent code ws t)
 unfolding step decode
 step-first lent code ws t = by-test (eqb code 0)
-    (λ e. ap (λ (r : Result). r .refusal) (if-true (openStep lent ws t) (callStep lent t (decode code ws)) e) ∙ open-first lent ws t ∙ ap (λ (k : ℕ). first (places lent k ws t)) (sym (eqb-true code 0 e)))
-    (λ e. rw e (coded-first lent t (decode code ws) (first (own code ws t)) (inRange-ok (read code ws)) (λ c q. read-own code ws t c (inRange-some (read code ws) c q))))
+    (λ e. ap (λ (r : Result). r .refusal) (if-true (openStep lent ws t) (callStep lent t (decode code ws)) e) ∙ open-first lent ws t ∙ ap (λ (k : ℕ). firstOf (checkPlaces lent k ws t)) (sym (eqb-true code 0 e)))
+    (λ e. rw e (coded-first lent t (decode code ws) (firstOf (own code ws t)) (inRange-ok (read code ws)) (λ c q. read-own code ws t c (inRange-some (read code ws) c q))))
 
 -- a refused call changes nothing
 abbrev Kept : Dest → Result → Type 0
@@ -138,7 +137,7 @@ step-kept lent code ws t = by-if (Kept t) (eqb code 0) _ _
     (λ e. by-if (Kept t) (short lent) _ _ (λ c n. refl) (λ c. by-if (Kept t) (openWords ws) _ _ (λ d n. absurd (n refl)) (λ d n. refl)))
     (λ e. callStep-kept lent t (decode code ws))
 
-refuses : (r : Result) (ps : List Place) (t : Dest) → all (λ p. leb 1 (p .number)) ps ≡ true → r .refusal ≡ first ps → Kept t r → Refuses r ps t
+refuses : (r : Result) (ps : List CheckPlace) (t : Dest) → all (λ p. leb 1 (p .number)) ps ≡ true → r .refusal ≡ firstOf ps → Kept t r → Refuses r ps t
 refuses r ps t h e k = record {
   exact = exact (r .refusal) ps h e;
   answer = λ n. ap (λ (x : Result). x .answer) (k n);
@@ -147,12 +146,12 @@ refuses r ps t h e k = record {
 }
 
 pub step-refuses : StepRefuses
-step-refuses lent code ws t = refuses (step lent code ws t) (places lent code ws t) t refl (step-first lent code ws t) (step-kept lent code ws t)
+step-refuses lent code ws t = refuses (step lent code ws t) (checkPlaces lent code ws t) t refl (step-first lent code ws t) (step-kept lent code ws t)
 
 -- ---- on buffers
 
 -- the table looks at soundness only in its second place
-buffer-first : (b : Buffers) (events code : ℕ) (ws : List ℕ) → bufferStep b events code ws .refusal ≡ first (bufferPlaces b events code ws)
+buffer-first : (b : Buffers) (events code : ℕ) (ws : List ℕ) → bufferStep b events code ws .refusal ≡ firstOf (bufferPlaces b events code ws)
 unfolding bufferStep soundBuffers
 buffer-first b events code ws = by-test (short (lengthsOf b events))
     (λ s. rw s (step-first (lengthsOf b events) code ws (view b) ∙ rw s))
@@ -181,7 +180,7 @@ uncoded-refuses lent t = (uncoded lent discarding t refl refl, uncoded lent miss
 
 -- ---- queries
 
-query-first : (isShort inRange : Bool) (t : Dest) → queryRefusal isShort inRange t ≡ first (queryPlaces isShort inRange t)
+query-first : (isShort rangedCall : Bool) (t : Dest) → queryRefusal isShort rangedCall t ≡ firstOf (queryPlaces isShort rangedCall t)
 unfolding queryRefusal
 query-first isShort true t = refl
 query-first isShort false t = refl
@@ -212,8 +211,8 @@ page-refuses lent lines offset limit t = (
 -- ---- the same on buffers
 
 -- counts that do not fit the tables are refused in the second place, too
-formed-first : {A : Type 0} (of : A → ℕ) (rest : List Place) (s f z : Bool) (x y : A) → of x ≡ 2 → of y ≡ first (1 when s ∷ 2 when not z ∷ rest)
-    → of (if not s && not f then x else y) ≡ first (1 when s ∷ 2 when not (f && z) ∷ rest)
+formed-first : {A : Type 0} (of : A → ℕ) (rest : List CheckPlace) (s f z : Bool) (x y : A) → of x ≡ 2 → of y ≡ firstOf (1 when s ∷ 2 when not z ∷ rest)
+    → of (if not s && not f then x else y) ≡ firstOf (1 when s ∷ 2 when not (f && z) ∷ rest)
 formed-first of rest true f z x y p q = q
 formed-first of rest false true z x y p q = q
 formed-first of rest false false z x y p q = p

@@ -6,7 +6,7 @@ use mathlib.Core.Bool.{Bool, true, false, not, _||_, _&&_}
 use mathlib.Core.List.{List, [], _∷_, _++_}
 use mathlib.Core.Option.{Option, none, some}
 use lib.Dec.{leb, ltb, eqb}
-use lib.ListN.{length, length-append}
+use lib.ListN.{length, length-append, length-map}
 use lib.IntN.{ℤ, pos}
 use lib.Signed.{ltZ}
 use borrow.Author.Tests.{leb-true}
@@ -16,7 +16,7 @@ use Rattle.definition.specs.Consumer.{zeroStats, expired, accepts, isBro
 use Rattle.definition.specs.Destination.{ackAt, pullAt, timeoutAt, visitAt, Look, look, given, visit, scan, turns, rounds, Browsed, browsers, dispatchQueue, serveAll, dispatchTopic, dispatchBy, count, Out, dispatch, touchIdle, isId, subOf, putSub, room, setPrefetch, ack, pulled, resumed, pull, fired, pullTimeout, due}
 use Rattle.definition.specs.Calls.{flying, rowsOf, consumerRows, held, allRows, sound, Request, acknowledge, pulling, timedOut, prefetching, ask, subSound}
 use Rattle.definition.proofs.Tests.{if-true, if-false, by-if, by-test}
-use Rattle.definition.proofs.Lists.{none-some, some-inj, length-map, keep-length, length-put}
+use Rattle.definition.proofs.Lists.{none-some, some-inj, keep-length, length-put}
 use Rattle.definition.proofs.Own.{pulling-sub}
 use Rattle.definition.proofs.Fit.{fit, ack-acked}
 use Rattle.definition.proofs.Sound.{facts, find-all}
@@ -172,7 +172,7 @@ flights (s ∷ ss) = length (s .inflight) + flights ss
 
 rows-split : (l : List Sub) → length (consumerRows l) ≡ flights l + waitingRows l
 rows-split [] = refl
-rows-split (s ∷ l) = omega (arith, length-append (rowsOf s) (consumerRows l), length-append (flying s) (s .tpending ++ snapshot s), length-append (s .tpending) (snapshot s), length-map (λ i. i .entry) (s .inflight), rows-split l)
+rows-split (s ∷ l) = omega (arith, length-append (rowsOf s) (consumerRows l), length-append (flying s) (s .tpending ++ snapshot s), length-append (s .tpending) (snapshot s), length-map (s .inflight) (λ i. i .entry), rows-split l)
 
 -- what a sound state's rows come to
 record Counted (t : Dest) : Type 0 where
@@ -183,7 +183,7 @@ counted : (t : Dest) → sound t ≡ true → Counted t
 counted t e =
     let f = facts t e in
     record {
-      rows = omega (arith, leb-true (length (allRows t)) 512 (f .few-rows), length-append (t .pending) (held t ++ consumerRows (t .subs)), length-append (held t) (consumerRows (t .subs)), length-map (λ h. h .entry) (t .reserved), rows-split (t .subs));
+      rows = omega (arith, leb-true (length (allRows t)) 512 (f .few-rows), length-append (t .pending) (held t ++ consumerRows (t .subs)), length-append (held t) (consumerRows (t .subs)), length-map (t .reserved) (λ h. h .entry), rows-split (t .subs));
       subs = leb-true (length (t .subs)) 32 (f .few-subs);
     }
 

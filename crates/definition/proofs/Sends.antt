@@ -7,17 +7,17 @@ use mathlib.Core.List.{List, [], _∷_}
 use mathlib.Core.Option.{Option, none, some}
 use lib.Dec.{ltb, eqb}
 use lib.IntN.{ℤ}
-use lib.ListN.{length, length-append}
+use lib.ListN.{length, length-append, length-map}
 use borrow.Author.Tests.{eqb-true}
 use Rattle.definition.specs.Base.{keep, empty}
 use Rattle.definition.specs.Types.{Kind, queue, topic, Id, Entry, Sub, Dest, Event}
 use Rattle.definition.specs.Consumer.{Ack, AckType, Delivered, Poison, Standard, Redelivered, Individual, Unmatched, Expired, Other, ackType}
 use Rattle.audit.specs.Audit.{seen}
 use Rattle.definition.specs.Destination.{Out, Answer, subOf, dispatchBy, touchIdle, stored, fannedOut, enqueueBy, addSub, returning, dropSub, removeAt, removeSub, reservedOf, heldBy, returnReserved, reservedHit, letters, reservedEvents, ackReserved, ackAt, ack, pullAt, pull, timeoutAt, pullTimeout, setPrefetch, sweepList, sweepSubs, sweepExpired, clear, testAt, isDuplicate, due}
-use Rattle.definition.specs.Calls.{Lengths, short, bound, idOk, clockOk, within, sound, Request, acknowledge, pulling, timedOut, prefetching, ask, Call, enqueuing, joining, leaving, asking, unmarking, releasing, sweeping, clearing, adding, removing, testing, forgetting, discarding, missing, argumentsOk, ownRefusal, perform, refusal, Result, call}
+use Rattle.definition.specs.Calls.{Lengths, short, bound, idOk, clockOk, signedWithin, sound, Request, acknowledge, pulling, timedOut, prefetching, ask, Call, enqueuing, joining, leaving, asking, unmarking, releasing, sweeping, clearing, adding, removing, testing, forgetting, discarding, missing, argumentsOk, ownRefusal, perform, refusal, Result, call}
 use Rattle.definition.specs.Words.{decode, openWords, openStep, callStep, step}
 use Rattle.definition.proofs.Tests.{by-if, by-test, and-right}
-use Rattle.definition.proofs.Lists.{length-map, keep-length}
+use Rattle.definition.proofs.Lists.{keep-length}
 use Rattle.definition.proofs.Sums.{one, sum-one}
 use Rattle.definition.proofs.Whole.{sums, rowsM, Fine, fine}
 use Rattle.definition.proofs.Dispatch.{rows-parts}
@@ -61,7 +61,7 @@ module _ (L U : ℕ) (k : Kind) (N : ℕ) where
   unfolding ackReserved
   took i a t none = record { events = omega arith; pending = refl; subs = refl }
   took i a t (some last) = record {
-    events = omega (arith, reserved-letters (ackType (a .type)) (keep (λ e. reservedHit (a .first) last e (ackType (a .type))) (reservedOf i t)), keep-length (λ e. reservedHit (a .first) last e (ackType (a .type))) (reservedOf i t), length-map (λ h. h .entry) (keep (heldBy i) (t .reserved)), keep-length (heldBy i) (t .reserved));
+    events = omega (arith, reserved-letters (ackType (a .type)) (keep (λ e. reservedHit (a .first) last e (ackType (a .type))) (reservedOf i t)), keep-length (λ e. reservedHit (a .first) last e (ackType (a .type))) (reservedOf i t), length-map (keep (heldBy i) (t .reserved)) (λ h. h .entry), keep-length (heldBy i) (t .reserved));
     pending = refl;
     subs = refl;
   }
@@ -80,7 +80,7 @@ module _ (L U : ℕ) (k : Kind) (N : ℕ) where
         g .rows,
         sum-one (t .pending),
         sum-one (Rattle.definition.specs.Calls.held t),
-        length-map (λ h. h .entry) (t .reserved),
+        length-map (t .reserved) (λ h. h .entry),
         g .few-subs,
       )))
 
@@ -125,7 +125,7 @@ sweep-sends now most t = by-test (ltb 0 (sweepList most (due now t) (t .pending)
 
 in-clock : (i : Id) (last : ℤ) (now : ℕ) → argumentsOk (leaving i last now) ≡ true → clockOk now ≡ true
 unfolding argumentsOk
-in-clock i last now a = and-right (within (2 ^ 63) last) _ (and-right (idOk i) _ a)
+in-clock i last now a = and-right (signedWithin (2 ^ 63) last) _ (and-right (idOk i) _ a)
 
 perform-sends : (L U : ℕ) (k : Kind) (N : ℕ) (c : Call) (t : Dest) → 1 ≤ N → sound t ≡ true → Fine L U k N t → argumentsOk c ≡ true → ownRefusal t c ≡ 0 → length (perform t c .events) ≤ 545
 unfolding perform addSub removeSub clear isDuplicate

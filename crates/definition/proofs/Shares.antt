@@ -5,20 +5,20 @@ use native.Mathlib.Omega.{arith}
 use mathlib.Core.Path.{_≡_, refl, sym, _∙_, ap, subst⁻¹}
 use mathlib.Core.Bool.{Bool, true, false, not, _&&_, _||_, true≢false}
 use mathlib.Core.List.{List, [], _∷_, _++_, map}
-use mathlib.Core.Option.{Option, none, some}
-use lib.Dec.{leb, ltb, eqb}
+use mathlib.Core.Option.{none}
+use lib.Dec.{ltb, eqb}
 use lib.ListN.{length}
-use borrow.Author.Tests.{eqb-true, eq-eqb, ltb-true, not-true}
+use borrow.Author.Tests.{eqb-true, eq-eqb, ltb-true}
 use Rattle.definition.specs.Base.{if_then_else_, tally, all, empty, member}
 use Rattle.definition.specs.Types.{Kind, queue, topic, Entry, Sub, Dest}
 use Rattle.definition.specs.Consumer.{isBrowser}
 use Rattle.definition.specs.Calls.{Lengths, short, seqs, rowsOf, allRows, ownRows, rowsFrom, rowsFor, overShare, freeRows, sound, Call, enqueuing, argumentsOk, ownRefusal, refusal, refused, Result, call}
-use Rattle.definition.specs.Words.{at, entryOf, unusedFrom, provided, read, inRange, decode, callStep, step}
+use Rattle.definition.specs.Words.{at, entryIn, provided, read, rangedCall, decode, callStep, step}
 use Rattle.definition.specs.Claims.{connections, holders, browsersEmpty, SharesSuffice, FullShare}
 use Rattle.definition.proofs.Tests.{if-false, by-test, and-left, and-right}
 use Rattle.definition.proofs.Lists.{All, empty-nil}
 use Rattle.definition.proofs.Thin.{tally-append}
-use Rattle.definition.proofs.Sums.{sum, one, from, from-few, from-own, from-other, from-length, sum-from, sum-append, sum-one}
+use Rattle.definition.proofs.Sums.{sum, one, from, from-own, from-other, from-length, sum-from, sum-append, sum-one}
 use Rattle.definition.proofs.Whole.{sums, rowsM, countM, rowsSum, ownSum, own-length, rows-length, Sane, Fine, fine}
 use Rattle.definition.proofs.Dispatch.{plain-rows, count-plain}
 
@@ -146,7 +146,7 @@ call-five : (lent : Lengths) (c : Call) (t : Dest) → call lent c t .refusal �
 unfolding call
 call-five lent c t = by-test (eqb (refusal lent c t) 0) (λ e. rw e (λ h. absurd (omega (arith, h)))) (λ e h. sym (ap (λ (r : Result). r .refusal) (if-false _ (refused (refusal lent c t) t) e)) ∙ h)
 
-step-five : (lent : Lengths) (t : Dest) (b : Bool) (c : Call) → callStep lent t (inRange (provided b c)) .refusal ≡ 5 → refusal lent c t ≡ 5
+step-five : (lent : Lengths) (t : Dest) (b : Bool) (c : Call) → callStep lent t (rangedCall (provided b c)) .refusal ≡ 5 → refusal lent c t ≡ 5
 unfolding provided callStep
 step-five lent t true c = by-test (argumentsOk c) (λ e. rw e (call-five lent c t)) (λ e. rw e (λ h. absurd (none-five lent t h)))
 step-five lent t false c = λ h. absurd (none-five lent t h)
@@ -178,8 +178,8 @@ suffice e t s b m w h =
 pub shares-suffice : SharesSuffice
 unfolding step read decode
 shares-suffice lent words t b m w h =
-    let f = found lent (entryOf words) (at 6 words) t (step-five lent t _ (enqueuing (entryOf words) (at 6 words)) h) in
-    suffice (entryOf words) t (f .0) b m w (f .1)
+    let f = found lent (entryIn words) (at 6 words) t (step-five lent t _ (enqueuing (entryIn words) (at 6 words)) h) in
+    suffice (entryIn words) t (f .0) b m w (f .1)
 
 pub full-share : FullShare
 full-share e t h = ap (λ n. ltb n 512 && ltb n (rowsFrom (e .producer) (ownRows t (t .kind)) + rowsFor e t (t .kind))) h

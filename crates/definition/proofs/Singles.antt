@@ -1,14 +1,14 @@
 -- A transacted INDIVIDUAL as a range. Assumes nothing.
-use Prim.Native.Nat.{ℕ, _≤_, min}
+use Prim.Native.Nat.{ℕ, min}
 use native.Mathlib.Omega.{arith}
-use mathlib.Core.Path.{_≡_, refl, sym, _∙_, ap}
-use mathlib.Core.Bool.{Bool, true, false, _&&_}
+use mathlib.Core.Path.{_≡_, refl}
+use mathlib.Core.Bool.{true, _&&_}
 use mathlib.Core.Option.{Option, none, some}
 use lib.Dec.{leb, eqb}
 use borrow.Author.Tests.{eqb-true, eqb-false, leb-true, leb-false, le-leb}
-use Rattle.definition.specs.Types.{Inflight, Sub}
-use Rattle.definition.specs.Consumer.{Ack, Individual, bySeq, ranged, isDseq, ackRange, ackLast, free, ackTransacted}
-use Rattle.definition.specs.Singles.{lastFirst, SingleAsRange}
+use Rattle.definition.specs.Types.{Inflight}
+use Rattle.definition.specs.Consumer.{bySeq, ranged, isDseq, ackRange, ackLast, free, ackTransacted}
+use Rattle.definition.specs.Singles.{SingleAsRange}
 use Rattle.definition.proofs.Tests.{by-test}
 
 -- from a number to itself is the number alone

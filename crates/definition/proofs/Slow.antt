@@ -2,14 +2,12 @@
 use Prim.Native.Nat.{ℕ, _+_, _-_, _≤_}
 use native.Mathlib.Omega.{arith}
 use mathlib.Core.Path.{_≡_, refl, sym, _∙_, ap}
-use mathlib.Core.Bool.{true, false, true≢false, _&&_}
-use lib.Dec.{leb, ltb}
+use mathlib.Core.Bool.{true, true≢false, _&&_}
+use lib.Dec.{ltb}
 use lib.IntN.{ℤ, pos, negsuc}
 use lib.Signed.{ltZ, leZ}
 use borrow.Author.Tests.{leb-true, ltb-true, le-leb, lt-ltb}
-use Rattle.definition.specs.Types.{Entry, Dest}
 use Rattle.definition.specs.Consumer.{expired}
-use Rattle.definition.specs.Destination.{due}
 use Rattle.definition.specs.Claims.{ExpiresBy, NoAllowance}
 use Rattle.definition.proofs.Tests.{and-left, and-right, and-both}
 

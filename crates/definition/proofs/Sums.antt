@@ -8,7 +8,7 @@ use lib.Dec.{leb, ltb, eqb}
 use lib.ListN.{length, drop}
 use borrow.Author.Tests.{eqb-true, eqb-false, eq-eqb, leb-true, le-leb, ltb-true, ltb-false, lt-ltb, not-true}
 use Rattle.definition.specs.Base.{if_then_else_, keep, tally, all, member, distinct, rising, ascending}
-use Rattle.definition.specs.Types.{Entry}
+use Rattle.definition.specs.Types.{Entry, Held}
 use Rattle.definition.specs.Consumer.{redelivered}
 use Rattle.definition.specs.Destination.{insert, insertAll}
 use Rattle.definition.specs.Calls.{entryOk, seqs, sizesAgree, rowsFrom, withinShare}
@@ -116,7 +116,7 @@ occ-member x (e ∷ l) h = by-test (eqb x (e .seq))
     (λ c. absurd (true≢false (sym (ap (λ b. b || member x (seqs l)) c) ∙ h)))
     (λ c. omega (arith, occ-no x e c, occ-member x l (sym (ap (λ b. b || member x (seqs l)) c) ∙ h)))
 
-occ-no-member : (x : ℕ) (l : List Entry) → sum (occ x) l ≡ 0 → member x (seqs l) ≡ false
+pub occ-no-member : (x : ℕ) (l : List Entry) → sum (occ x) l ≡ 0 → member x (seqs l) ≡ false
 occ-no-member x [] h = refl
 occ-no-member x (e ∷ l) h = by-test (eqb x (e .seq)) (λ c. absurd (omega (arith, occ-yes x e c))) (λ c. rw c (occ-no-member x l (omega arith)))
 
@@ -163,30 +163,31 @@ pub sum-odd-occ : (x z : ℕ) (l : List Entry) → sum (odd x z) l ≤ sum (occ 
 sum-odd-occ x z [] = omega arith
 sum-odd-occ x z (e ∷ l) = omega (arith, odd-occ x z e, sum-odd-occ x z l)
 
-abbrev like : Entry → Entry → Bool
-like e f = not (eqb (e .seq) (f .seq)) || eqb (e .size) (f .size)
+-- another number, or this size
+abbrev pub like : ℕ → ℕ → Entry → Bool
+like x z f = not (eqb x (f .seq)) || eqb z (f .size)
 
-like-one : (e f : Entry) → like e f ≡ true → odd (e .seq) (e .size) f ≡ 0
+like-one : (x z : ℕ) (f : Entry) → like x z f ≡ true → odd x z f ≡ 0
 unfolding odd
-like-one e f = by-test (eqb (e .seq) (f .seq)) (λ c. rw c (λ d. rw d)) (λ c. rw c (λ d. refl))
+like-one x z f = by-test (eqb x (f .seq)) (λ c. rw c (λ d. rw d)) (λ c. rw c (λ d. refl))
 
-like-odd : (e : Entry) (l : List Entry) → all (like e) l ≡ true → sum (odd (e .seq) (e .size)) l ≡ 0
-like-odd e [] h = refl
-like-odd e (f ∷ l) h = omega (arith, like-one e f (and-left (like e f) _ h), like-odd e l (and-right (like e f) _ h))
+like-odd : (x z : ℕ) (l : List Entry) → all (like x z) l ≡ true → sum (odd x z) l ≡ 0
+like-odd x z [] h = refl
+like-odd x z (f ∷ l) h = omega (arith, like-one x z f (and-left (like x z f) _ h), like-odd x z l (and-right (like x z f) _ h))
 
-one-like : (e f : Entry) → odd (e .seq) (e .size) f ≡ 0 → like e f ≡ true
+pub one-like : (x z : ℕ) (f : Entry) → odd x z f ≡ 0 → like x z f ≡ true
 unfolding odd
-one-like e f = by-test (eqb (e .seq) (f .seq)) (λ c. rw c (by-test (eqb (e .size) (f .size)) (λ d. rw d (λ h. refl)) (λ d. rw d (λ h. absurd (omega (arith, h)))))) (λ c. rw c (λ h. refl))
+one-like x z f = by-test (eqb x (f .seq)) (λ c. rw c (by-test (eqb z (f .size)) (λ d. rw d (λ h. refl)) (λ d. rw d (λ h. absurd (omega (arith, h)))))) (λ c. rw c (λ h. refl))
 
-odd-like : (e : Entry) (l : List Entry) → sum (odd (e .seq) (e .size)) l ≤ 0 → all (like e) l ≡ true
-odd-like e [] h = refl
-odd-like e (f ∷ l) h = and-both (like e f) _ (one-like e f (omega (arith, h))) (odd-like e l (omega (arith, h)))
+pub odd-like : (x z : ℕ) (l : List Entry) → sum (odd x z) l ≤ 0 → all (like x z) l ≡ true
+odd-like x z [] h = refl
+odd-like x z (f ∷ l) h = and-both (like x z f) _ (one-like x z f (omega (arith, h))) (odd-like x z l (omega (arith, h)))
 
 pub agree-sum : (l : List Entry) → sizesAgree l ≡ true → (x : ℕ) → (z : ℕ) × (sum (odd x z) l ≤ 0)
 agree-sum [] h x = (0, omega arith)
 agree-sum (e ∷ l) h x = by-test (eqb x (e .seq))
-    (λ c. subst⁻¹ (λ (y : ℕ). (z : ℕ) × (sum (odd y z) (e ∷ l) ≤ 0)) (eqb-true x (e .seq) c) (e .size, omega (arith, odd-own e, like-odd e l (and-left (all (like e) l) _ h))))
-    (λ c. let r = agree-sum l (and-right (all (like e) l) _ h) x in (r .0, omega (arith, odd-other x (r .0) e c, r .1)))
+    (λ c. subst⁻¹ (λ (y : ℕ). (z : ℕ) × (sum (odd y z) (e ∷ l) ≤ 0)) (eqb-true x (e .seq) c) (e .size, omega (arith, odd-own e, like-odd (e .seq) (e .size) l (and-left (all (like (e .seq) (e .size)) l) _ h))))
+    (λ c. let r = agree-sum l (and-right (all (like (e .seq) (e .size)) l) _ h) x in (r .0, omega (arith, odd-other x (r .0) e c, r .1)))
 
 pub sum-agree : (l : List Entry) → ((x : ℕ) → (z : ℕ) × (sum (odd x z) l ≤ 0)) → sizesAgree l ≡ true
 sum-agree [] h = refl
@@ -194,7 +195,7 @@ sum-agree (e ∷ l) h =
     let r = h (e .seq) in
     let z : r .0 ≡ e .size = odd-size (r .0) e (omega (arith, r .1)) in
     let m : sum (odd (e .seq) (e .size)) l ≤ 0 = subst (λ (y : ℕ). sum (odd (e .seq) y) l ≤ 0) z (omega (arith, r .1)) in
-    and-both (all (like e) l) _ (odd-like e l m) (sum-agree l (λ x. (h x .0, omega (arith, h x .1))))
+    and-both (all (like (e .seq) (e .size)) l) _ (odd-like (e .seq) (e .size) l m) (sum-agree l (λ x. (h x .0, omega (arith, h x .1))))
 
 -- ---- a share for each connection
 
@@ -309,6 +310,11 @@ pub thin-redelivered : (l : List Entry) → Thin l (map redelivered l)
 thin-redelivered [] = done
 thin-redelivered (e ∷ l) = stay (alike-redelivered e) (thin-redelivered l)
 
-pub keep-tally : (p : Entry → Bool) (l : List Entry) → length (keep (λ e. not (p e)) l) + tally p l ≡ length l
-keep-tally p [] = refl
-keep-tally p (e ∷ l) = by-test (p e) (λ c. rw c (omega (arith, keep-tally p l))) (λ c. rw c (omega (arith, keep-tally p l)))
+pub kept-length : {A : Type 0} (p : A → Bool) (l : List A) → length (keep (λ e. not (p e)) l) + tally p l ≡ length l
+kept-length p [] = refl
+kept-length p (e ∷ l) = by-test (p e) (λ c. rw c (omega (arith, kept-length p l))) (λ c. rw c (omega (arith, kept-length p l)))
+
+-- what is set aside, in two parts
+pub held-split : (f : Entry → ℕ) (p : Held → Bool) (l : List Held) → sum f (map (λ h. h .entry) (keep (λ h. not (p h)) l)) + sum f (map (λ h. h .entry) (keep p l)) ≡ sum f (map (λ h. h .entry) l)
+held-split f p [] = refl
+held-split f p (h ∷ l) = by-test (p h) (λ c. rw c (omega (arith, held-split f p l))) (λ c. rw c (omega (arith, held-split f p l)))

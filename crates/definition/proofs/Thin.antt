@@ -1,5 +1,5 @@
 -- Entries of which some are gone, and some redelivered: what that keeps of a sound state. Assumes nothing.
-use Prim.Native.Nat.{ℕ, zero, suc, _+_, _≤_, _^_}
+use Prim.Native.Nat.{ℕ, zero, suc, _+_, _≤_, _^_, _<_}
 use native.Mathlib.Omega.{arith}
 use mathlib.Core.Path.{_≡_, refl, _∙_, ap}
 use mathlib.Core.Bool.{Bool, true, false, not}
@@ -7,13 +7,14 @@ use mathlib.Core.List.{List, [], _∷_, _++_, map}
 use lib.Dec.{leb, ltb, eqb}
 use lib.ListN.{length}
 use lib.IntN.{ℤ, pos, negsuc}
-use borrow.Author.Tests.{ltb-true, lt-ltb, not-true}
+use borrow.Author.Tests.{ltb-true, lt-ltb, not-true, ne-eqb}
 use Rattle.definition.specs.Base.{keep, tally, all, every, member, distinct, rising, ascending}
 use Rattle.definition.specs.Types.{Entry}
 use Rattle.definition.specs.Consumer.{oneMore, redelivered}
-use Rattle.definition.specs.Calls.{entryOk, within, seqs}
+use Rattle.definition.specs.Calls.{entryOk, signedWithin, seqs}
 use Rattle.definition.proofs.Tests.{or-no-left, or-no-right, and-left, and-right, and-both, by-test}
 use Rattle.definition.proofs.Lists.{All}
+pub use mathlib.Core.List.{map-append}
 
 -- ---- tests joined
 
@@ -30,7 +31,7 @@ all-every (b ∷ l) h = and-both b (every l) (h .0) (all-every l (h .1))
 
 -- ---- a redelivery more is in range
 
-more-within : (r : ℤ) → within (2 ^ 31) r ≡ true → within (2 ^ 31) (oneMore r) ≡ true
+more-within : (r : ℤ) → signedWithin (2 ^ 31) r ≡ true → signedWithin (2 ^ 31) (oneMore r) ≡ true
 unfolding oneMore
 more-within (pos k) h = by-test (ltb k 2147483647) (λ c. rw c (lt-ltb (suc k) (2 ^ 31) (omega (arith, ltb-true k 2147483647 c)))) (λ c. rw c h)
 more-within (negsuc zero) h = refl
@@ -38,8 +39,8 @@ more-within (negsuc (suc k)) h = lt-ltb k (2 ^ 31) (omega (arith, ltb-true (suc 
 
 pub redelivered-ok : (e : Entry) → entryOk e ≡ true → entryOk (redelivered e) ≡ true
 redelivered-ok e h =
-    let f = every-all (leb 1 (e .seq) ∷ ltb (e .seq) (2 ^ 63) ∷ within (2 ^ 63) (e .expiration) ∷ ltb (e .producer) (2 ^ 64) ∷ ltb (e .«match_word») (2 ^ 64) ∷ within (2 ^ 31) (e .redelivery) ∷ ltb (e .size) (2 ^ 32) ∷ []) h in
-    all-every (leb 1 (e .seq) ∷ ltb (e .seq) (2 ^ 63) ∷ within (2 ^ 63) (e .expiration) ∷ ltb (e .producer) (2 ^ 64) ∷ ltb (e .«match_word») (2 ^ 64) ∷ within (2 ^ 31) (oneMore (e .redelivery)) ∷ ltb (e .size) (2 ^ 32) ∷ [])
+    let f = every-all (leb 1 (e .seq) ∷ ltb (e .seq) (2 ^ 63) ∷ signedWithin (2 ^ 63) (e .expiration) ∷ ltb (e .producer) (2 ^ 64) ∷ ltb (e .«match_word») (2 ^ 64) ∷ signedWithin (2 ^ 31) (e .redelivery) ∷ ltb (e .size) (2 ^ 32) ∷ []) h in
+    all-every (leb 1 (e .seq) ∷ ltb (e .seq) (2 ^ 63) ∷ signedWithin (2 ^ 63) (e .expiration) ∷ ltb (e .producer) (2 ^ 64) ∷ ltb (e .«match_word») (2 ^ 64) ∷ signedWithin (2 ^ 31) (oneMore (e .redelivery)) ∷ ltb (e .size) (2 ^ 32) ∷ [])
     (f .0, (f .1 .0, (f .1 .1 .0, (f .1 .1 .1 .0, (f .1 .1 .1 .1 .0, (more-within (e .redelivery) (f .1 .1 .1 .1 .1 .0), (f .1 .1 .1 .1 .1 .1 .0, tt)))))))
 
 -- ---- an entry that changes no more than a redelivery does
@@ -154,11 +155,24 @@ ascending-more n (x ∷ l) h = rising-more x n l h
 pub ascending-tail : (x : ℕ) (l : List ℕ) → ascending (x ∷ l) ≡ true → ascending l ≡ true
 ascending-tail x l h = rising-ascends x l h
 
--- ---- lists
+-- those above k do not meet what is not above it
+pub rising-new : (k x : ℕ) (l : List ℕ) → rising k l ≡ true → x ≤ k → member x l ≡ false
+rising-new k x [] e h = refl
+rising-new k x (y ∷ l) e h =
+    let t : k < y = ltb-true k y (and-left (ltb k y) (rising y l) e) in
+    rw (ne-eqb x y (λ q. omega (arith, q))) (rising-new y x l (and-right (ltb k y) (rising y l) e) (omega arith))
 
-pub map-append : {A B : Type 0} (f : A → B) (l m : List A) → map f (l ++ m) ≡ map f l ++ map f m
-map-append f [] m = refl
-map-append f (x ∷ l) m = ap (λ t. f x ∷ t) (map-append f l m)
+pub rising-distinct : (k : ℕ) (l : List ℕ) → rising k l ≡ true → distinct l ≡ true
+rising-distinct k [] e = refl
+rising-distinct k (y ∷ l) e =
+    let r : rising y l ≡ true = and-right (ltb k y) (rising y l) e in
+    rw (rising-new y y l r (omega arith)) (rising-distinct y l r)
+
+pub ascending-distinct : (l : List ℕ) → ascending l ≡ true → distinct l ≡ true
+ascending-distinct [] h = refl
+ascending-distinct (x ∷ l) h = rw (rising-new x x l h (omega arith)) (rising-distinct x l h)
+
+-- ---- lists
 
 pub tally-append : {A : Type 0} (p : A → Bool) (l m : List A) → tally p (l ++ m) ≡ tally p l + tally p m
 tally-append p [] m = omega arith
@@ -167,3 +181,10 @@ tally-append p (x ∷ l) m = omega (arith, tally-append p l m)
 pub tally-length : {A : Type 0} (p : A → Bool) (l : List A) → tally p l ≤ length l
 tally-length p [] = omega arith
 tally-length p (x ∷ l) = by-test (p x) (λ c. rw c (omega (arith, tally-length p l))) (λ c. rw c (omega (arith, tally-length p l)))
+
+-- a test that passes less often counts less
+pub tally-less : {A : Type 0} (p q : A → Bool) (l : List A) → ((a : A) → p a ≡ true → q a ≡ true) → tally p l ≤ tally q l
+tally-less p q [] h = omega arith
+tally-less p q (x ∷ l) h = by-test (p x)
+    (λ c. rw (c, h x c) (omega (arith, tally-less p q l h)))
+    (λ c. rw c (by-test (q x) (λ d. rw d (omega (arith, tally-less p q l h))) (λ d. rw d (omega (arith, tally-less p q l h)))))

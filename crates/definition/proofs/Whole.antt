@@ -1,18 +1,20 @@
 -- A sound state by measures, whatever its calls used, and that a dispatch keeps it. Assumes nothing.
-use Prim.Native.Nat.{ℕ, _+_, _≤_, _^_}
+use Prim.Native.Nat.{ℕ, _+_, _≤_, _^_, zero, suc}
 use native.Mathlib.Omega.{arith}
-use mathlib.Core.Path.{_≡_, refl, _∙_, ap}
-use mathlib.Core.Bool.{true, _||_}
+use mathlib.Core.Path.{_≡_, refl, _∙_, ap, sym}
+use mathlib.Core.Bool.{true, _||_, Bool}
 use mathlib.Core.List.{List, [], _∷_, _++_}
 use lib.Dec.{leb, ltb, eqb}
-use lib.ListN.{length}
+use lib.ListN.{length, set}
 use borrow.Author.Tests.{leb-true, le-leb}
-use Rattle.definition.specs.Base.{all, empty, ascending}
+use mathlib.Core.Option.{some}
+use Rattle.definition.specs.Base.{all, empty, ascending, find, nth}
 use Rattle.definition.specs.Types.{Kind, queue, topic, Entry, Sub, Stats, Dest}
 use Rattle.definition.specs.Consumer.{expired}
 use Rattle.definition.specs.Calls.{used, bound, idOk, optional, clockOk, auditOk, seqs, rowsOf, subSound, consumerRows, taken, held, allRows, distinctIds, countersOk, placed, ownRows, withinShare, sound}
-use Rattle.definition.proofs.Tests.{and-left, and-right, and-both}
-use Rattle.definition.proofs.Lists.{All, empty-nil}
+use Rattle.definition.specs.Destination.{without}
+use Rattle.definition.proofs.Tests.{and-left, and-right, and-both, by-test, if-true, if-false}
+use Rattle.definition.proofs.Lists.{All, empty-nil, none-some, some-inj}
 use Rattle.definition.proofs.Thin.{every-all, all-every}
 use Rattle.definition.proofs.Sums.{sum, one, occ, bad, odd, from, agree-sum, sum-agree, share-sum, sum-share, sum-append, sum-one, ok-sum, sum-ok, once-sum, sum-once}
 use Rattle.definition.proofs.Fit.{Waits, Fit, fit, unfit}
@@ -41,6 +43,23 @@ pub sums-taken : (f : Entry → ℕ) (l : List Sub) → sum f (taken l) ≡ sums
 unfolding countM
 sums-taken f [] = refl
 sums-taken f (s ∷ l) = omega (arith, sum-append f (counted s) (taken l), sums-taken f l)
+
+-- one consumer changed, one more, one less
+module _ (g : Sub → ℕ) where
+  pub sums-set : (i : ℕ) (l : List Sub) (s v : Sub) → nth i l ≡ some s → sums g (set l i v) + g s ≡ sums g l + g v
+  sums-set i [] s v e = absurd (none-some e)
+  sums-set zero (r ∷ l) s v e = omega (arith, ap g (some-inj e))
+  sums-set (suc i) (r ∷ l) s v e = omega (arith, sums-set i l s v e)
+
+  pub sums-more : (l : List Sub) (v : Sub) → sums g (l ++ v ∷ []) ≡ sums g l + g v
+  sums-more [] v = omega arith
+  sums-more (s ∷ l) v = omega (arith, sums-more l v)
+
+  pub sums-without : (p : Sub → Bool) (l : List Sub) (s : Sub) → find p l ≡ some s → sums g (without p l) + g s ≡ sums g l
+  sums-without p [] s f = absurd (none-some f)
+  sums-without p (c ∷ l) s f = by-test (p c)
+      (λ e. rw e (omega (arith, ap g (some-inj (sym (if-true (some c) (find p l) e) ∙ f)))))
+      (λ e. rw e (omega (arith, sums-without p l s (sym (if-false (some c) (find p l) e) ∙ f))))
 
 -- of a whole destination
 abbrev pub rowsSum : (Entry → ℕ) → Dest → ℕ

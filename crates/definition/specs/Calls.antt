@@ -6,7 +6,7 @@ use mathlib.Core.Option.{Option, none, some}
 use lib.Dec.{leb, ltb, eqb}
 use lib.ListN.{length}
 use lib.IntN.{ℤ, pos, negsuc}
-use Rattle.audit.specs.Audit.{window}
+use Rattle.audit.specs.Audit.{auditWindow}
 use Rattle.definition.specs.Base.{if_then_else_, find, tally, all, every, empty, member, distinct, ascending, is-some}
 use Rattle.definition.specs.Types.{Kind, queue, topic, Id, Entry, Sub, Stats, Audit, Dest, Event, withCallsUsed}
 use Rattle.definition.specs.Consumer.{sameId, zeroStats, addDiscarded, addExpired, expired, accepts, selects, Ack, isBrowser, snapshot}
@@ -34,22 +34,22 @@ short l = stateShort l || ltb (l .events) 545
 abbrev pub word : ℕ → Bool
 word k = ltb k (2 ^ 64)
 
-abbrev pub within : ℕ → ℤ → Bool
-within half (pos k) = ltb k half
-within half (negsuc k) = ltb k half
+abbrev pub signedWithin : ℕ → ℤ → Bool
+signedWithin half (pos k) = ltb k half
+signedWithin half (negsuc k) = ltb k half
 
 abbrev pub clockOk : ℕ → Bool
 clockOk k = leb k (2 ^ 62)
 
 abbrev pub idOk : Id → Bool
-idOk i = word (i .conn) && (within (2 ^ 63) (i .session) && within (2 ^ 63) (i .value))
+idOk i = word (i .conn) && (signedWithin (2 ^ 63) (i .session) && signedWithin (2 ^ 63) (i .value))
 
 abbrev pub optional : (ℕ → Bool) → Option ℕ → Bool
 optional p none = true
 optional p (some k) = p k
 
 abbrev pub entryOk : Entry → Bool
-entryOk e = every (leb 1 (e .seq) ∷ ltb (e .seq) (2 ^ 63) ∷ within (2 ^ 63) (e .expiration) ∷ word (e .producer) ∷ word (e .«match_word») ∷ within (2 ^ 31) (e .redelivery) ∷ ltb (e .size) (2 ^ 32) ∷ [])
+entryOk e = every (leb 1 (e .seq) ∷ ltb (e .seq) (2 ^ 63) ∷ signedWithin (2 ^ 63) (e .expiration) ∷ word (e .producer) ∷ word (e .«match_word») ∷ signedWithin (2 ^ 31) (e .redelivery) ∷ ltb (e .size) (2 ^ 32) ∷ [])
 
 -- ---- sound
 
@@ -119,7 +119,7 @@ placed t queue = distinct (seqs (t .pending ++ (held t ++ taken (t .subs))))
 placed t topic = empty (t .pending) && empty (t .reserved)
 
 abbrev pub auditOk : Audit → Bool
-auditOk a = every (idOk (a .producer) ∷ leb (length (a .order)) window ∷ all word (a .order) ∷ [])
+auditOk a = every (idOk (a .producer) ∷ leb (length (a .order)) auditWindow ∷ all word (a .order) ∷ [])
 
 -- copies with one sequence number agree on the size
 abbrev pub sizesAgree : List Entry → Bool
@@ -197,6 +197,23 @@ pub data Call : Type 0 where
   discarding : Call
   missing : Call
 
+-- what a call brings: an enqueue's entry
+abbrev pub brought : Call → List Entry
+brought (enqueuing e now) = e ∷ []
+brought (joining p now) = []
+brought (leaving i last now) = []
+brought (asking i q) = []
+brought (unmarking i) = []
+brought (releasing i now) = []
+brought (sweeping now most) = []
+brought clearing = []
+brought (adding i) = []
+brought (removing i now) = []
+brought (testing i q) = []
+brought (forgetting conn) = []
+brought discarding = []
+brought missing = []
+
 -- the refusal (0: accepted), the answer, the events, and the state
 pub record Result : Type 0 where
   pub refusal : ℕ
@@ -215,17 +232,17 @@ ackOk a = ltb (a .type) 256 && (optional word (a .first) && optional word (a .la
 
 abbrev pub requestOk : Request → Bool
 requestOk (acknowledge a now) = ackOk a && clockOk now
-requestOk (pulling timeout now) = within (2 ^ 63) timeout && clockOk now
+requestOk (pulling timeout now) = signedWithin (2 ^ 63) timeout && clockOk now
 requestOk (timedOut generation) = word generation
-requestOk (prefetching p now) = within (2 ^ 31) p && clockOk now
+requestOk (prefetching p now) = signedWithin (2 ^ 31) p && clockOk now
 
 abbrev pub specOk : Spec → Bool
-specOk p = idOk (p .id) && (within (2 ^ 31) (p .prefetch) && leb (p .selector) 64)
+specOk p = idOk (p .id) && (signedWithin (2 ^ 31) (p .prefetch) && leb (p .selector) 64)
 
 unfoldable pub argumentsOk : Call → Bool
 argumentsOk (enqueuing e now) = entryOk e && clockOk now
 argumentsOk (joining p now) = specOk p && clockOk now
-argumentsOk (leaving i last now) = idOk i && (within (2 ^ 63) last && clockOk now)
+argumentsOk (leaving i last now) = idOk i && (signedWithin (2 ^ 63) last && clockOk now)
 argumentsOk (asking i q) = idOk i && requestOk q
 argumentsOk (unmarking i) = idOk i
 argumentsOk (releasing i now) = idOk i && clockOk now

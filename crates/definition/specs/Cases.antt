@@ -7,24 +7,19 @@ use mathlib.Core.Option.{Option, none, some}
 use lib.Dec.{eqb, T}
 use lib.IntN.{ℤ, pos, negsuc}
 use lib.ListN.{length, getD, set}
+use Rattle.words.specs.Pick.{sameNumbers}
 use Rattle.definition.specs.Base.{keep, is-some, every, upFrom}
 use Rattle.definition.specs.Types.{queue, topic, Id, Entry, Sub, Audit, Dest, Event, letter, message, null, withPull, withPending, withSubs, withRr, withProducers, withAudits, withIdle}
-use Rattle.definition.specs.Consumer.{expired, Ack, ackRange, ackSub, send, oneMore, consumerOpen}
+use Rattle.definition.specs.Consumer.{expired, or0, Ack, ackRange, ackSub, send, oneMore, consumerOpen}
 use Rattle.definition.specs.Destination.{Spec, newSub, destinationOpen}
 use Rattle.audit.specs.Audit.{seen, recorded}
 use Rattle.model.specs.Model.{sameSigned}
-use Rattle.definition.specs.Calls.{Lengths, acknowledge, pulling, timedOut, prefetching, Call, enqueuing, joining, asking, unmarking, releasing, sweeping, clearing, adding, testing, discarding, missing, ownRefusal, call, opened, sound, callsOpen, leaving}
+use Rattle.definition.specs.Calls.{Lengths, seqs, acknowledge, pulling, timedOut, prefetching, Call, enqueuing, joining, asking, unmarking, releasing, sweeping, clearing, adding, testing, discarding, missing, ownRefusal, call, opened, sound, callsOpen, leaving}
 use Rattle.definition.specs.Words.{step, wordsOpen}
 use Rattle.definition.specs.Queries.{Asked, Page, ofKind, consumers, expirations, messages, bytes, idle, sequence, query, page, queriesOpen}
 use Rattle.entry.specs.Entry as Rows
 use Rattle.audit.specs.Audit as Ring
 use Rattle.definition.specs.Layout.{Buffers, view, soundBuffers, bufferStep, layoutOpen}
-
-abbrev sameNumbers : List ℕ → List ℕ → Bool
-sameNumbers [] [] = true
-sameNumbers [] (b ∷ bs) = false
-sameNumbers (a ∷ l) [] = false
-sameNumbers (a ∷ l) (b ∷ m) = eqb a b && sameNumbers l m
 
 -- an event as numbers: 0 x, 1 d, 2 n
 abbrev numbers : List Event → List ℕ
@@ -74,8 +69,8 @@ abbrev ran : List Call → Dest → Ran
 ran [] t = record { seen = []; dest = t }
 ran (c ∷ cs) t = let r = call (whole 545) c t in let rest = ran cs (r .dest) in record { seen = r .refusal ∷ r .answer ∷ (numbers (r .events) ++ rest .seen); dest = rest .dest }
 
-abbrev counters : Dest → List ℕ
-counters t = t .stats .enqueued ∷ t .stats .dequeued ∷ t .stats .expired ∷ t .stats .discarded ∷ t .stats .dispatched ∷ []
+abbrev fiveCounters : Dest → List ℕ
+fiveCounters t = t .stats .enqueued ∷ t .stats .dequeued ∷ t .stats .expired ∷ t .stats .discarded ∷ t .stats .dispatched ∷ []
 
 -- document 01, "The call file": the example
 abbrev example : Ran
@@ -97,10 +92,6 @@ abbrev stillWait : Ran → List ℕ
 stillWait r = map (λ s. length (Sub.tpending s)) (r .dest .subs) ++ (r .dest .stats .expired ∷ r .dest .stats .discarded ∷ [])
 
 -- an allowance of 10: 1 with expiration 20 waits, and goes out at 29 and not at 30; a sweep and a browser do the same; the mark is the call's clock
-abbrev markOf : Option ℕ → ℕ
-markOf none = 0
-markOf (some k) = k
-
 abbrev slow : Dest
 slow = ran (enqueuing (entry 1 (pos 20)) 1 ∷ []) (opened queue 0 100 0 10 512) .dest
 
@@ -140,12 +131,12 @@ acked (k ∷ ks) = asking (consumer 1) (acknowledge (acks 2 false none (some k))
 
 -- three consumers, the turn moved by messages, and one leaves
 abbrev turned : List ℕ → ℕ → ℕ
-turned sent gone = ran (joining (plain 1 (pos 9)) 1 ∷ joining (plain 2 (pos 9)) 1 ∷ joining (plain 3 (pos 9)) 1 ∷ (map (λ k. enqueuing (entry k (pos 0)) 1) sent
-    ++ (acked sent ++ leaving (consumer gone) (negsuc 0) 2 ∷ []))) (opened queue 0 100 0 0 512) .dest .rr
+turned enqueuings gone = ran (joining (plain 1 (pos 9)) 1 ∷ joining (plain 2 (pos 9)) 1 ∷ joining (plain 3 (pos 9)) 1 ∷ (map (λ k. enqueuing (entry k (pos 0)) 1) enqueuings
+    ++ (acked enqueuings ++ leaving (consumer gone) (negsuc 0) 2 ∷ []))) (opened queue 0 100 0 0 512) .dest .rr
 
 -- an audit's numbers after 0 to 1,023
-abbrev window : List ℕ
-window = upFrom 0 1024
+abbrev fullWindow : List ℕ
+fullWindow = upFrom 0 1024
 
 abbrev firstOf : List ℕ → ℕ
 firstOf xs = getD xs 0 99
@@ -199,23 +190,23 @@ withAudit l = sound (withAudits l one)
 abbrev returned : ℕ → ℤ → Entry
 returned s r = record { seq = s; expiration = pos 0; persistent = true; producer = 7; «match_word» = 0; redelivery = r; size = 0 }
 
-abbrev sent : List ℕ → List Call
-sent l = map (λ k. enqueuing (entry k (pos 0)) 1) l
+abbrev enqueuings : List ℕ → List Call
+enqueuings l = map (λ k. enqueuing (entry k (pos 0)) 1) l
 
 -- three in flight with these redelivery counters, and the consumer leaves
 abbrev leftWith : ℤ → ℤ → List Entry
 leftWith r last = ran (joining (plain 9 (pos 3)) 1 ∷ (map (λ k. enqueuing (returned k r) 1) (10 ∷ 20 ∷ 30 ∷ []) ++ leaving (consumer 9) last 3 ∷ [])) (opened queue 0 100 0 0 512) .dest .pending
 
 -- 10, 20 and 30 wait; the browser 9 and the consumer 8 have 10 in flight each; then a clear
-abbrev emptied : Ran
-emptied = ran (sent (10 ∷ 20 ∷ 30 ∷ []) ++ (joining (browsing 9 (pos 1)) 2 ∷ joining (plain 8 (pos 1)) 2 ∷ clearing ∷ [])) (opened queue 0 100 0 0 512)
+abbrev clearedRan : Ran
+clearedRan = ran (enqueuings (10 ∷ 20 ∷ 30 ∷ []) ++ (joining (browsing 9 (pos 1)) 2 ∷ joining (plain 8 (pos 1)) 2 ∷ clearing ∷ [])) (opened queue 0 100 0 0 512)
 
 -- and what one more call gets
 abbrev then : Call → List ℕ
-then c = ran (c ∷ []) (emptied .dest) .seen
+then c = ran (c ∷ []) (clearedRan .dest) .seen
 
 abbrev onTopic : Ran
-onTopic = ran (joining (browsing 9 (pos 5)) 1 ∷ (sent (10 ∷ 20 ∷ 30 ∷ []) ++ (asking (consumer 9) (acknowledge (acks 2 false none (some 10)) 2) ∷ asking (consumer 9) (acknowledge (acks 6 false none (some 20)) 2)
+onTopic = ran (joining (browsing 9 (pos 5)) 1 ∷ (enqueuings (10 ∷ 20 ∷ 30 ∷ []) ++ (asking (consumer 9) (acknowledge (acks 2 false none (some 10)) 2) ∷ asking (consumer 9) (acknowledge (acks 6 false none (some 20)) 2)
     ∷ asking (consumer 9) (acknowledge (acks 1 false none (some 30)) 2) ∷ []))) (opened topic 0 100 0 0 512)
 
 -- 20 expires first, then 10
@@ -225,7 +216,7 @@ sweeps = ran (enqueuing (entry 10 (pos 50)) 1 ∷ enqueuing (entry 20 (pos 40)) 
 
 -- a producer's audit of 0 to 1,023, and what three tests answer
 abbrev audited : Ran
-audited = ran (testing (consumer 7) 1024 ∷ testing (consumer 7) 1024 ∷ testing (consumer 7) 0 ∷ []) (withAudits (record { producer = consumer 7; order = window } ∷ []) (opened queue 0 100 0 0 512))
+audited = ran (testing (consumer 7) 1024 ∷ testing (consumer 7) 1024 ∷ testing (consumer 7) 0 ∷ []) (withAudits (record { producer = consumer 7; order = fullWindow } ∷ []) (opened queue 0 100 0 0 512))
 
 -- two consumers of prefetch 0, nothing waiting
 abbrev bothPull : Ran
@@ -234,9 +225,6 @@ bothPull = ran (joining (plain 8 (pos 0)) 1 ∷ joining (plain 9 (pos 0)) 1 ∷ 
 -- a browser of an empty queue, and one more dispatch
 abbrev browsed : Ran
 browsed = ran (joining (browsing 9 (pos 1)) 1 ∷ asking (consumer 5) (prefetching (pos 1) 2) ∷ []) (opened queue 0 100 0 0 512)
-
-abbrev seqsOf : List Entry → List ℕ
-seqsOf es = map (λ e. e .seq) es
 
 -- ---- refusals of one call, on tables that are nearly full
 
@@ -273,7 +261,7 @@ sevenTwice = enqueuing (fromConn 1 7) 1 ∷ enqueuing (fromConn 2 7) 1 ∷ enque
 -- ---- queries
 
 abbrev waiting : Dest
-waiting = ran (sent (10 ∷ 20 ∷ 30 ∷ [])) (opened queue 0 100 0 0 512) .dest
+waiting = ran (enqueuings (10 ∷ 20 ∷ 30 ∷ [])) (opened queue 0 100 0 0 512) .dest
 
 abbrev answers : ℕ → ℕ → Asked → Bool
 answers refusal answer a = eqb (a .refusal) refusal && eqb (a .answer) answer
@@ -363,7 +351,7 @@ abbrev words : List Bool
 words =
     -- document 01's example, as words
     sameNumbers (wordExample .seen) (0 ∷ 0 ∷ 0 ∷ 0 ∷ 0 ∷ 0 ∷ 0 ∷ 0 ∷ 1 ∷ 9 ∷ 5 ∷ 0 ∷ 0 ∷ [])
-    ∷ sameNumbers (counters (wordExample .dest)) (2 ∷ 1 ∷ 1 ∷ 0 ∷ 1 ∷ [])
+    ∷ sameNumbers (fiveCounters (wordExample .dest)) (2 ∷ 1 ∷ 1 ∷ 0 ∷ 1 ∷ [])
     ∷ sound one
     ∷ not (sound zeros)
     ∷ sameNumbers (got 16 [] zeros) (2 ∷ 0 ∷ [])
@@ -455,7 +443,7 @@ starred =
     ∷ sameSigned (oneMore (pos 2147483647)) (pos 2147483647)
     -- Reserved entries: STANDARD with last -1 takes all, as the number is read as unsigned
     ∷ sameNumbers (map (λ h. h .entry .seq) (kept .dest .reserved)) (10 ∷ 20 ∷ 30 ∷ [])
-    ∷ sameNumbers (counters (afterwards 2 none .dest)) (3 ∷ 3 ∷ 0 ∷ 0 ∷ 3 ∷ [])
+    ∷ sameNumbers (fiveCounters (afterwards 2 none .dest)) (3 ∷ 3 ∷ 0 ∷ 0 ∷ 3 ∷ [])
     ∷ sameNumbers (map (λ h. h .entry .seq) (afterwards 2 none .dest .reserved)) []
     -- POISON with first and last -1 takes none
     ∷ sameNumbers (map (λ h. h .entry .seq) (afterwards 1 (some 18446744073709551615) .dest .reserved)) (10 ∷ 20 ∷ 30 ∷ [])
@@ -470,7 +458,7 @@ abbrev corners : List Bool
 corners =
     -- the call file's example
     sameNumbers (example .seen) (0 ∷ 0 ∷ 0 ∷ 0 ∷ 0 ∷ 0 ∷ 1 ∷ 9 ∷ 5 ∷ 0 ∷ 0 ∷ [])
-    ∷ sameNumbers (counters (example .dest)) (2 ∷ 1 ∷ 1 ∷ 0 ∷ 1 ∷ [])
+    ∷ sameNumbers (fiveCounters (example .dest)) (2 ∷ 1 ∷ 1 ∷ 0 ∷ 1 ∷ [])
     ∷ sound (example .dest)
     -- From a present consumer, DELIVERED is never transacted in effect
     ∷ sameNumbers (marks (acks 0 true (some 10) (some 30))) []
@@ -509,19 +497,19 @@ corners =
     ∷ sameNumbers (slowly (sweeping 29 512)) (0 ∷ 0 ∷ 0 ∷ [])
     ∷ sameNumbers (slowly (sweeping 30 512)) (0 ∷ 1 ∷ 1 ∷ [])
     ∷ sameNumbers (slowly (sweeping 5 512)) (0 ∷ 0 ∷ 0 ∷ [])
-    ∷ eqb (markOf (ran (sweeping 30 512 ∷ []) slow .dest .idle)) 30
+    ∷ eqb (or0 (ran (sweeping 30 512 ∷ []) slow .dest .idle)) 30
     -- Turn at 2, the third leaves: turn 0. Turn at 1, the first leaves: turn stays 1
     ∷ eqb (turned (10 ∷ 20 ∷ []) 3) 0
     ∷ eqb (turned (10 ∷ []) 1) 1
     -- Audit: 1,024 is new and evicts 0; again it is a duplicate; 0 is then new and evicts 1
     ∷ sameNumbers (audited .seen) (0 ∷ 0 ∷ 0 ∷ 1 ∷ 0 ∷ 0 ∷ [])
     ∷ sameNumbers (map (λ a. firstOf (a .order)) (audited .dest .audits)) (2 ∷ [])
-    ∷ not (seen 1024 window)
-    ∷ eqb (firstOf (recorded 1024 window)) 1
+    ∷ not (seen 1024 fullWindow)
+    ∷ eqb (firstOf (recorded 1024 fullWindow)) 1
     -- a duplicate test for connection 0 answers 0 and records nothing
     ∷ sameNumbers (ran (testing (consumer 0) 5 ∷ testing (consumer 0) 5 ∷ []) (opened queue 0 100 0 0 512) .seen) (0 ∷ 0 ∷ 0 ∷ 0 ∷ [])
     -- A clear empties browser snapshots without counting them, counts browser entries in flight, and dispatches nothing
-    ∷ sameNumbers (emptied .seen) (0 ∷ 0 ∷ 0 ∷ 0 ∷ 0 ∷ 0 ∷ 0 ∷ 0 ∷ 1 ∷ 9 ∷ 10 ∷ 0 ∷ 0 ∷ 1 ∷ 8 ∷ 10 ∷ 0 ∷ 4 ∷ [])
+    ∷ sameNumbers (clearedRan .seen) (0 ∷ 0 ∷ 0 ∷ 0 ∷ 0 ∷ 0 ∷ 0 ∷ 0 ∷ 1 ∷ 9 ∷ 10 ∷ 0 ∷ 0 ∷ 1 ∷ 8 ∷ 10 ∷ 0 ∷ 4 ∷ [])
     -- An unfinished browser gets its closing null at a later dispatch; a prefetch change of an absent consumer dispatches
     ∷ sameNumbers (then (asking (consumer 5) (prefetching (pos 1) 3))) (0 ∷ 0 ∷ 2 ∷ 9 ∷ [])
     -- Prefetch above 0: answer 0, no dispatch
@@ -536,10 +524,10 @@ corners =
     ∷ not (is-some (browsed .dest .idle))
     -- A browser on a topic receives like any consumer, but its acknowledgements are not counted as dequeued or expired
     ∷ sameNumbers (onTopic .seen) (0 ∷ 0 ∷ 0 ∷ 0 ∷ 1 ∷ 9 ∷ 10 ∷ 0 ∷ 0 ∷ 1 ∷ 9 ∷ 20 ∷ 0 ∷ 0 ∷ 1 ∷ 9 ∷ 30 ∷ 0 ∷ 0 ∷ 0 ∷ 0 ∷ 0 ∷ 0 ∷ [])
-    ∷ sameNumbers (counters (onTopic .dest)) (3 ∷ 0 ∷ 0 ∷ 0 ∷ 3 ∷ [])
+    ∷ sameNumbers (fiveCounters (onTopic .dest)) (3 ∷ 0 ∷ 0 ∷ 0 ∷ 3 ∷ [])
     -- a sweep's total, the soonest first
     ∷ sameNumbers (sweeps .seen) (0 ∷ 0 ∷ 0 ∷ 0 ∷ 0 ∷ 0 ∷ 0 ∷ 0 ∷ 0 ∷ 1 ∷ 0 ∷ 1 ∷ 0 ∷ 0 ∷ [])
-    ∷ sameNumbers (seqsOf (sweeps .dest .pending)) (30 ∷ 40 ∷ [])
+    ∷ sameNumbers (seqs (sweeps .dest .pending)) (30 ∷ 40 ∷ [])
     ∷ []
 
 -- 4 to 9, each on both sides of its condition
@@ -621,7 +609,7 @@ queries =
 
 abbrev buffers : List Bool
 buffers =
-    sameNumbers (seqsOf (view (lentWith 1 512) .pending)) (6 ∷ [])
+    sameNumbers (seqs (view (lentWith 1 512) .pending)) (6 ∷ [])
     ∷ sameNumbers (map (λ s. length (Sub.inflight s)) (view (lentWith 1 512) .subs)) (1 ∷ [])
     ∷ sameNumbers (map (λ e. e .size) (view (lentWith 1 512) .pending)) (300 ∷ [])
     ∷ soundBuffers (lentWith 1 512)
@@ -634,8 +622,8 @@ buffers =
     ∷ []
 
 -- stored words: kind and marks are 0 or 1, a redelivery is an i32 sign-extended to its word; what is not in use may be any
-abbrev stored : List Bool
-stored =
+abbrev storedWords : List Bool
+storedWords =
     headWith 5 1
     ∷ kindWith 0
     ∷ kindWith 1
@@ -674,8 +662,8 @@ stored =
     ∷ []
 
 cases : List Bool
-cases = starred ++ (corners ++ (refusals ++ (words ++ (queries ++ (buffers ++ stored)))))
+cases = starred ++ (corners ++ (refusals ++ (words ++ (queries ++ (buffers ++ storedWords)))))
 
 all-right : T (every cases)
-unfolding cases consumerOpen destinationOpen callsOpen wordsOpen queriesOpen layoutOpen Rows.entryOf Ring.orderOf Ring.auditOk
+unfolding cases consumerOpen destinationOpen callsOpen wordsOpen queriesOpen layoutOpen Rows.entryOf Ring.orderOf Ring.ringSound
 all-right = tt

@@ -11,7 +11,7 @@ use Rattle.definition.specs.Consumer.{zeroStats, addDiscarded, expired, 
 use Rattle.definition.specs.Base.{if_then_else_, tally, all, empty, member}
 use Rattle.definition.specs.Destination.{due, Trimmed, trim, releaseReserved}
 use Rattle.definition.specs.Calls.{Lengths, Call, rowsOf, sizesAgree, ownRows, rowsFrom, rowsFor, overShare, sound, Result, call}
-use Rattle.definition.specs.Words.{at, idOf, entryOf, step}
+use Rattle.definition.specs.Words.{at, idIn, entryIn, step}
 use Rattle.definition.specs.Queries.{bytesOf, bytesHeld}
 use Rattle.definition.specs.Orders.{Reached}
 
@@ -44,10 +44,10 @@ pub record Halves (now : ℕ) (i : Id) (t : Dest) (first second : Result) : Type
 
 -- code 8 and then code 15 with the same ID, where neither is refused
 abbrev pub ReleaseHalves : Type 0
-ReleaseHalves = (lent : Lengths) (words : List ℕ) (late : Lengths) (more : List ℕ) (t : Dest) → idOf more ≡ idOf words →
+ReleaseHalves = (lent : Lengths) (words : List ℕ) (late : Lengths) (more : List ℕ) (t : Dest) → idIn more ≡ idIn words →
     let first = step lent 8 words t in
     let second = step late 15 more (first .dest) in
-    first .refusal ≡ 0 → second .refusal ≡ 0 → Halves (at 3 more) (idOf words) t first second
+    first .refusal ≡ 0 → second .refusal ≡ 0 → Halves (at 3 more) (idIn words) t first second
 
 -- document 02 §4: by the clock that a call hands on, an entry is expired exactly if its expiration is above 0 and at most the clock less the allowance
 abbrev pub ExpiresBy : Type 0
@@ -94,7 +94,7 @@ abbrev pub SharesSuffice : Type 0
 SharesSuffice = (lent : Lengths) (words : List ℕ) (t : Dest) →
     browsersEmpty t (t .kind) ≡ true →
     t .share * connections (at 3 words ∷ holders t) ≤ 512 →
-    rowsFrom (at 3 words) (ownRows t (t .kind)) + rowsFor (entryOf words) t (t .kind) ≤ t .share →
+    rowsFrom (at 3 words) (ownRows t (t .kind)) + rowsFor (entryIn words) t (t .kind) ≤ t .share →
     step lent 1 words t .refusal ≡ 5 → ⊥
 
 -- a share of 512 refuses nothing

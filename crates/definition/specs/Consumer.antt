@@ -135,12 +135,12 @@ unfoldable pub ackLast : Sub → Ack → Inflight → Bool
 ackLast s a i = isDseq i (bySeq s (a .last))
 
 -- what passes the test is freed, and with tx marked as acknowledged in a transaction
-abbrev pub marked : (Inflight → Bool) → Bool → Inflight → Inflight
-marked hit tx i = if hit i then record { dseq = i .dseq; entry = i .entry; freed = true; tx = tx || i .tx } else i
+abbrev pub freedAs : (Inflight → Bool) → Bool → Inflight → Inflight
+freedAs hit tx i = if hit i then record { dseq = i .dseq; entry = i .entry; freed = true; tx = tx || i .tx } else i
 
 -- `inf.freed = true`, counted
 abbrev pub free : (Inflight → Bool) → Bool → Sub → Sub
-free hit tx s = withInflight (map (marked hit tx) (s .inflight)) (withFreed (s .freed + tally (λ i. hit i && not (i .freed)) (s .inflight)) s)
+free hit tx s = withInflight (map (freedAs hit tx) (s .inflight)) (withFreed (s .freed + tally (λ i. hit i && not (i .freed)) (s .inflight)) s)
 
 -- Sub::remove_inflight of what passes the test
 abbrev pub removeInflight : (Inflight → Bool) → Sub → Sub

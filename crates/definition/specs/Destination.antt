@@ -9,7 +9,7 @@ use lib.ListN.{length, set, drop}
 use lib.IntN.{ℤ, pos, negsuc}
 use lib.Signed.{ltZ, leZ}
 use Rattle.definition.specs.Base.{if_then_else_, keep, tally, find, put, nth, empty, upFrom}
-use Rattle.audit.specs.Audit.{window, seen, recorded}
+use Rattle.audit.specs.Audit.{auditWindow, seen, recorded}
 use Rattle.definition.specs.Types.{Kind, queue, topic, Id, Entry, Inflight, Sub, Stats, Held, Audit, Dest, Event, letter, null, withPrefetch, withInflight, withFreed, withCursor, withPull, withGeneration, withBrowser, withTpending, withPending, withSubs, withRr, withProducers, withAudits, withStats, withIdle, withReserved}
 use Rattle.definition.specs.Consumer.{sameId, expired, zeroStats, _⊕_, addEnqueued, addDequeued, addExpired, addDiscarded, addDispatched, Step, isBrowser, hasCredit, accepts, selects, send, sent, sendNull, redelivered, AckType, Delivered, Poison, Standard, Redelivered, Individual, Unmatched, Expired, Other, ackType, Ack, ackSub, serveTopic, Browse, dispatchBrowser}
 
@@ -176,14 +176,14 @@ abbrev pub dispatch : ℕ → Dest → Out
 dispatch now t = dispatchBy (due now t) t (t .kind)
 
 -- `idle_since`, set if it is absent
-abbrev pub marked : ℕ → Option ℕ → Option ℕ
-marked now none = some now
-marked now (some k) = some k
+abbrev pub idleMark : ℕ → Option ℕ → Option ℕ
+idleMark now none = some now
+idleMark now (some k) = some k
 
 -- Dest::touch_idle
 unfoldable pub touchIdle : ℕ → Dest → Dest
 touchIdle now t =
-    if empty (t .pending) && (empty (t .subs) && empty (t .producers)) then withIdle (marked now (t .idle)) t
+    if empty (t .pending) && (empty (t .subs) && empty (t .producers)) then withIdle (idleMark now (t .idle)) t
     else withIdle none t
 
 -- ---- enqueue
@@ -506,10 +506,14 @@ releaseReserved now i t =
 
 -- ---- expiry
 
--- the first of (expiration, seq) order among the expired
+-- the order of (expiration, seq)
+abbrev pub isSooner : Entry → Entry → Bool
+isSooner e f = ltZ (e .expiration) (f .expiration) || (leZ (e .expiration) (f .expiration) && ltb (e .seq) (f .seq))
+
+-- the first in that order among the expired
 abbrev pub sooner : Entry → Option Entry → Option Entry
 sooner e none = some e
-sooner e (some f) = if ltZ (e .expiration) (f .expiration) || (leZ (e .expiration) (f .expiration) && ltb (e .seq) (f .seq)) then some e else some f
+sooner e (some f) = if isSooner e f then some e else some f
 
 abbrev pub soonest : ℕ → List Entry → Option Entry
 soonest now [] = none

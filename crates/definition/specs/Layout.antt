@@ -48,11 +48,11 @@ heldAt w = record { holder = idAt (drop 6 w); entry = entryOf w }
 -- ---- consumers
 
 -- how many rows a consumer has in flight, and how many it holds besides
-abbrev pub inflightOf : Row → ℕ
-inflightOf w = at 14 w
+abbrev pub inflightCount : Row → ℕ
+inflightCount w = at 14 w
 
-abbrev pub heldOf : Row → ℕ
-heldOf w = at 15 w
+abbrev pub heldCount : Row → ℕ
+heldCount w = at 15 w
 
 -- what a consumer holds is a snapshot where it browses a queue, and else what waits for it on a topic
 abbrev pub browserAt : Kind → Bool → List Entry → Option (List Entry)
@@ -88,7 +88,7 @@ module _ {A : Type 0} (of : Row → List Row → List Row → A) where
   unfoldable pub eachSub : List Row → List Row → List A
   eachSub [] rows = []
   eachSub (w ∷ ws) rows =
-      of w (take (inflightOf w) rows) (take (heldOf w) (drop (inflightOf w) rows)) ∷ eachSub ws (drop (heldOf w) (drop (inflightOf w) rows))
+      of w (take (inflightCount w) rows) (take (heldCount w) (drop (inflightCount w) rows)) ∷ eachSub ws (drop (heldCount w) (drop (inflightCount w) rows))
 
 abbrev pub subsAt : Kind → List Row → List Row → List Sub
 subsAt k ws rows = eachSub (subAt k) ws rows
@@ -96,7 +96,7 @@ subsAt k ws rows = eachSub (subAt k) ws rows
 -- how many rows the consumers have
 unfoldable pub subRows : List Row → ℕ
 subRows [] = 0
-subRows (w ∷ ws) = inflightOf w + (heldOf w + subRows ws)
+subRows (w ∷ ws) = inflightCount w + (heldCount w + subRows ws)
 
 -- ---- the head
 
@@ -146,7 +146,7 @@ view b = let h = b .head in record {
 
 unfoldable pub ringsFormed : ℕ → List ℕ → Bool
 ringsFormed zero l = true
-ringsFormed (suc n) l = Ring.auditOk (ringAt l) && ringsFormed n (drop 1029 l)
+ringsFormed (suc n) l = Ring.ringSound (ringAt l) && ringsFormed n (drop 1029 l)
 
 -- rows in use: those of the consumers, reserved ones, waiting ones
 abbrev pub usedRows : Buffers → ℕ

@@ -10,7 +10,7 @@ use Rattle.definition.specs.Types.{queue, Id, Dest, Event}
 use Rattle.definition.specs.Consumer.{sameId}
 use Rattle.definition.specs.Destination.{subOf}
 use Rattle.definition.specs.Calls.{Lengths, discarding, missing, Result, call}
-use Rattle.definition.specs.Words.{idOf, step}
+use Rattle.definition.specs.Words.{idIn, step}
 use Rattle.definition.specs.Runs.{run, end}
 
 -- as accepted calls left it: the latest accepted open, and the accepted calls since; whether a clear is among these
@@ -29,7 +29,7 @@ pub record Lent : Type 0 where
 
 -- whose call it is, in words 0 to 2
 abbrev pub caller : Lent → Id
-caller c = idOf (c .words)
+caller c = idIn (c .words)
 
 -- what it gets
 pub record Reply : Type 0 where
@@ -43,8 +43,8 @@ result c t = step (c .lengths) (c .code) (c .words) t
 abbrev pub reply : Lent → Dest → Reply
 reply c t = record { refusal = result c t .refusal; answer = result c t .answer; events = result c t .events }
 
-abbrev pub left : Lent → Dest → Dest
-left c t = result c t .dest
+abbrev pub destLeft : Lent → Dest → Dest
+destLeft c t = result c t .dest
 
 -- one consumer's own calls, and what they got
 abbrev pub callsOf : Id → List Lent → List Lent
@@ -69,8 +69,8 @@ Qualifies cleared t = t .kind ≡ queue → (cleared ≡ false) × (t .pending �
 
 -- each call gets the same refusal, answer and events, and the two runs end in the same state
 pub record SameRuns (l m : List Lent) (t : Dest) : Type 0 where
-  pub replies : (i : Id) → repliesOf i (run reply left l t) ≡ repliesOf i (run reply left m t)
-  pub states : end left l t ≡ end left m t
+  pub replies : (i : Id) → repliesOf i (run reply destLeft l t) ≡ repliesOf i (run reply destLeft m t)
+  pub states : end destLeft l t ≡ end destLeft m t
 
 -- demand 3, "a single claim about the whole list and its orders"
 abbrev pub Reordering : Type 0

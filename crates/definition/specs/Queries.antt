@@ -7,7 +7,7 @@ use lib.Dec.{leb, ltb}
 use lib.ListN.{length, take, drop}
 use lib.IntN.{ℤ, pos}
 use lib.Signed.{ltZ}
-use Rattle.definition.specs.Base.{if_then_else_, all, empty, nth, member}
+use Rattle.definition.specs.Base.{if_then_else_, all, empty, nth, member, is-some}
 use Rattle.definition.specs.Types.{Kind, queue, topic, Entry, Sub, Stats, Dest}
 use Rattle.definition.specs.Consumer.{zeroStats}
 use Rattle.definition.specs.Destination.{heldRows}
@@ -35,14 +35,10 @@ abbrev pub idleSeconds : ℕ → Option ℕ → ℕ
 idleSeconds now none = 0
 idleSeconds now (some mark) = (now - mark) / 1000
 
-abbrev pub marked : Option ℕ → Bool
-marked none = false
-marked (some mark) = true
-
 -- Dest::idle_for
 unfoldable pub idleFor : ℕ → ℕ → Dest → Bool
 idleFor now secs t =
-    empty (t .pending) && (empty (t .subs) && (empty (t .producers) && (marked (t .idle) && leb secs (idleSeconds now (t .idle)))))
+    empty (t .pending) && (empty (t .subs) && (empty (t .producers) && (is-some (t .idle) && leb secs (idleSeconds now (t .idle)))))
 
 -- Dest::message_count: waiting and in flight, of all consumers
 abbrev pub messageCount : Dest → ℕ

@@ -11,17 +11,17 @@ use Rattle.definition.specs.Types.{Dest}
 use Rattle.definition.specs.Consumer.{zeroStats}
 use Rattle.definition.specs.Destination.{subOf, isProducer, auditOf}
 use Rattle.definition.specs.Calls.{Lengths, stateShort, short, sound, seqs, allRows, freeRows, rowsFor, overShare, snapshotRows, discarding, missing, Result, call}
-use Rattle.definition.specs.Words.{at, idOf, entryOf, specOf, openWords, decode, step}
+use Rattle.definition.specs.Words.{at, idIn, entryIn, specIn, openWords, decode, step}
 use Rattle.definition.specs.Queries.{Query, queryOk, query, counters, page}
 use Rattle.definition.specs.Layout.{Buffers, view, soundBuffers, lengthsOf, bufferStep, bufferCall, bufferQuery, bufferCounters, bufferPage}
 
 -- a place of checking: its number, and whether it refuses
-pub record Place : Type 0 where
+pub record CheckPlace : Type 0 where
   pub number : ℕ
   pub test : Bool
 
 infix 70 _when_
-abbrev pub _when_ : ℕ → Bool → Place
+abbrev pub _when_ : ℕ → Bool → CheckPlace
 n when b = record { number = n; test = b }
 
 -- an open's words are an open's; any other call's code is known, its numbers are in their ranges and its unused words 0
@@ -29,7 +29,7 @@ abbrev pub argumentsRight : ℕ → List ℕ → Bool
 argumentsRight code ws = if eqb code 0 then openWords ws else is-some (decode code ws)
 
 -- the table, for a call of the call file: whether a lent buffer is short, whether the state is sound, the code, its words, the state
-abbrev pub table : Bool → Bool → ℕ → List ℕ → Dest → List Place
+abbrev pub table : Bool → Bool → ℕ → List ℕ → Dest → List CheckPlace
 table isShort isSound code ws t =
     -- every call, buffers: a state buffer is short, or an event list holds under 545
     1 when isShort
@@ -42,67 +42,67 @@ table isShort isSound code ws t =
     -- enqueue: the sequence number is held in any row
     ∷ 4 when (eqb code 1 && member (at 0 ws) (seqs (allRows t)))
     -- enqueue: more rows than a share below 512 (document 02 §11)
-    ∷ 14 when (eqb code 1 && overShare (entryOf ws) t)
+    ∷ 14 when (eqb code 1 && overShare (entryIn ws) t)
     -- enqueue: too few free rows
-    ∷ 5 when (eqb code 1 && ltb (freeRows t) (rowsFor (entryOf ws) t (t .kind)))
+    ∷ 5 when (eqb code 1 && ltb (freeRows t) (rowsFor (entryIn ws) t (t .kind)))
     -- join: that consumer is present
-    ∷ 6 when (eqb code 2 && is-some (subOf (idOf ws) t))
+    ∷ 6 when (eqb code 2 && is-some (subOf (idIn ws) t))
     -- join: 32 consumers are present
     ∷ 7 when (eqb code 2 && leb 32 (length (t .subs)))
     -- browser join: too few free rows (a join of another kind needs none)
-    ∷ 5 when (eqb code 2 && ltb (freeRows t) (snapshotRows (at 6 ws) (specOf ws) t))
+    ∷ 5 when (eqb code 2 && ltb (freeRows t) (snapshotRows (at 6 ws) (specIn ws) t))
     -- add producer: a new producer, and 32 registered
-    ∷ 8 when (eqb code 11 && (not (isProducer (idOf ws) (t .producers)) && leb 32 (length (t .producers))))
+    ∷ 8 when (eqb code 11 && (not (isProducer (idIn ws) (t .producers)) && leb 32 (length (t .producers))))
     -- duplicate test: a new producer, and 8 audited (connection 0 is no producer)
-    ∷ 8 when (eqb code 13 && (not (eqb (at 0 ws) 0) && (not (is-some (find (auditOf (idOf ws)) (t .audits))) && leb 8 (length (t .audits)))))
+    ∷ 8 when (eqb code 13 && (not (eqb (at 0 ws) 0) && (not (is-some (find (auditOf (idIn ws)) (t .audits))) && leb 8 (length (t .audits)))))
     ∷ []
 
-abbrev pub places : Lengths → ℕ → List ℕ → Dest → List Place
-places lent code ws t = table (short lent) (sound t) code ws t
+abbrev pub checkPlaces : Lengths → ℕ → List ℕ → Dest → List CheckPlace
+checkPlaces lent code ws t = table (short lent) (sound t) code ws t
 
 -- of a call on buffers: 2 is for counts that do not fit the tables, too
-abbrev pub bufferPlaces : Buffers → ℕ → ℕ → List ℕ → List Place
+abbrev pub bufferPlaces : Buffers → ℕ → ℕ → List ℕ → List CheckPlace
 bufferPlaces b events code ws = table (short (lengthsOf b events)) (soundBuffers b) code ws (view b)
 
 -- the table for add_discarded and expired_before_storing, which have no code and no arguments
-abbrev pub uncodedTable : Bool → Bool → Dest → List Place
+abbrev pub uncodedTable : Bool → Bool → Dest → List CheckPlace
 uncodedTable isShort isSound t = 1 when isShort ∷ 2 when not isSound ∷ 9 when eqb (t .callsUsed) (t .callLimit) ∷ []
 
-abbrev pub uncodedPlaces : Lengths → Dest → List Place
+abbrev pub uncodedPlaces : Lengths → Dest → List CheckPlace
 uncodedPlaces lent t = uncodedTable (short lent) (sound t) t
 
-abbrev pub bufferUncodedPlaces : Buffers → ℕ → List Place
+abbrev pub bufferUncodedPlaces : Buffers → ℕ → List CheckPlace
 bufferUncodedPlaces b events = uncodedTable (short (lengthsOf b events)) (soundBuffers b) (view b)
 
 -- the table for the queries: whether a lent buffer is short, whether the state is sound, and whether the arguments are in their ranges
-abbrev pub queryTable : Bool → Bool → Bool → List Place
+abbrev pub queryTable : Bool → Bool → Bool → List CheckPlace
 queryTable isShort isSound inRange = 1 when isShort ∷ 2 when not isSound ∷ 3 when not inRange ∷ []
 
-abbrev pub queryPlaces : Bool → Bool → Dest → List Place
+abbrev pub queryPlaces : Bool → Bool → Dest → List CheckPlace
 queryPlaces isShort inRange t = queryTable isShort (sound t) inRange
 
 -- ---- exactly
 
-abbrev pub passes : Place → Bool
+abbrev pub passes : CheckPlace → Bool
 passes p = not (p .test)
 
 -- n comes from these places: one of that number refuses, and none before it does
-pub record Comes (n : ℕ) (ps : List Place) : Type 0 where
-  pub before : List Place
-  pub here : Place
-  pub after : List Place
+pub record Comes (n : ℕ) (ps : List CheckPlace) : Type 0 where
+  pub before : List CheckPlace
+  pub here : CheckPlace
+  pub after : List CheckPlace
   pub split : ps ≡ before ++ here ∷ after
   pub passed : all passes before ≡ true
   pub refuses : here .test ≡ true
   pub numbered : here .number ≡ n
 
 -- a refusal has a number exactly if it comes from these places, and there is none exactly if no place refuses
-pub record Exact (refusal : ℕ) (ps : List Place) : Type 0 where
+pub record Exact (refusal : ℕ) (ps : List CheckPlace) : Type 0 where
   pub number : (n : ℕ) → 1 ≤ n → (refusal ≡ n) ↔ Comes n ps
   pub accepted : (refusal ≡ 0) ↔ (all passes ps ≡ true)
 
 -- a refused call answers 0, sends nothing and changes nothing
-pub record Refuses (r : Result) (ps : List Place) (t : Dest) : Type 0 where
+pub record Refuses (r : Result) (ps : List CheckPlace) (t : Dest) : Type 0 where
   pub exact : Exact (r .refusal) ps
   pub answer : (r .refusal ≡ 0 → ⊥) → r .answer ≡ 0
   pub events : (r .refusal ≡ 0 → ⊥) → r .events ≡ []
@@ -112,7 +112,7 @@ pub record Refuses (r : Result) (ps : List Place) (t : Dest) : Type 0 where
 
 -- of every call of the call file, open too
 abbrev pub StepRefuses : Type 0
-StepRefuses = (lent : Lengths) (code : ℕ) (words : List ℕ) (t : Dest) → Refuses (step lent code words t) (places lent code words t) t
+StepRefuses = (lent : Lengths) (code : ℕ) (words : List ℕ) (t : Dest) → Refuses (step lent code words t) (checkPlaces lent code words t) t
 
 -- of every call of the call file, on buffers
 abbrev pub BufferRefuses : Type 0

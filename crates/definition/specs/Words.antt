@@ -19,8 +19,8 @@ abbrev pub at : ℕ → List ℕ → ℕ
 at k ws = getD ws k 0
 
 -- words 0 to 2
-abbrev pub idOf : List ℕ → Id
-idOf ws = Model.idOf (at 0 ws) (at 1 ws) (at 2 ws)
+abbrev pub idIn : List ℕ → Id
+idIn ws = Model.idOf (at 0 ws) (at 1 ws) (at 2 ws)
 
 -- the words from k on are unused
 abbrev pub unusedFrom : ℕ → List ℕ → Bool
@@ -30,17 +30,17 @@ unusedFrom k ws = all (eqb 0) (drop k ws)
 abbrev pub present : Bool → ℕ → Option ℕ
 present b w = if b then some w else none
 
-abbrev pub ackOf : List ℕ → Ack
-ackOf ws = record { type = at 3 ws % 256; transacted = bit (at 3 ws) 8; first = present (bit (at 3 ws) 9) (at 4 ws); last = present (bit (at 3 ws) 10) (at 5 ws); cause = bit (at 3 ws) 11 }
+abbrev pub ackIn : List ℕ → Ack
+ackIn ws = record { type = at 3 ws % 256; transacted = bit (at 3 ws) 8; first = present (bit (at 3 ws) 9) (at 4 ws); last = present (bit (at 3 ws) 10) (at 5 ws); cause = bit (at 3 ws) 11 }
 
 abbrev pub ackWords : List ℕ → Bool
 ackWords ws = ltb (at 3 ws) 4096 && ((bit (at 3 ws) 9 || eqb (at 4 ws) 0) && ((bit (at 3 ws) 10 || eqb (at 5 ws) 0) && unusedFrom 7 ws))
 
-abbrev pub entryOf : List ℕ → Entry
-entryOf ws = record { seq = at 0 ws; expiration = signed (at 1 ws); persistent = eqb (at 2 ws) 1; producer = at 3 ws; «match_word» = at 4 ws; redelivery = signed (at 5 ws); size = at 7 ws }
+abbrev pub entryIn : List ℕ → Entry
+entryIn ws = record { seq = at 0 ws; expiration = signed (at 1 ws); persistent = eqb (at 2 ws) 1; producer = at 3 ws; «match_word» = at 4 ws; redelivery = signed (at 5 ws); size = at 7 ws }
 
-abbrev pub specOf : List ℕ → Spec
-specOf ws = record { id = idOf ws; prefetch = signed (at 3 ws); selector = at 4 ws; noLocal = bit (at 5 ws) 0; browser = bit (at 5 ws) 1 }
+abbrev pub specIn : List ℕ → Spec
+specIn ws = record { id = idIn ws; prefetch = signed (at 3 ws); selector = at 4 ws; noLocal = bit (at 5 ws) 0; browser = bit (at 5 ws) 1 }
 
 -- what the words say, and whether their flags are known and the unused ones 0
 unfoldable pub provided : Bool → Call → Option Call
@@ -48,31 +48,31 @@ provided b c = if b then some c else none
 
 unfoldable pub read : ℕ → List ℕ → Option Call
 read code ws =
-    if eqb code 1 then provided (leb (at 2 ws) 1 && unusedFrom 8 ws) (enqueuing (entryOf ws) (at 6 ws))
-    else if eqb code 2 then provided (leb (at 5 ws) 3 && unusedFrom 7 ws) (joining (specOf ws) (at 6 ws))
-    else if eqb code 3 then provided (unusedFrom 5 ws) (leaving (idOf ws) (signed (at 3 ws)) (at 4 ws))
-    else if eqb code 4 then provided (ackWords ws) (asking (idOf ws) (acknowledge (ackOf ws) (at 6 ws)))
-    else if eqb code 5 then provided (unusedFrom 5 ws) (asking (idOf ws) (pulling (signed (at 3 ws)) (at 4 ws)))
-    else if eqb code 6 then provided (unusedFrom 4 ws) (asking (idOf ws) (timedOut (at 3 ws)))
-    else if eqb code 7 then provided (unusedFrom 5 ws) (asking (idOf ws) (prefetching (signed (at 3 ws)) (at 4 ws)))
-    else if eqb code 8 then provided (unusedFrom 3 ws) (unmarking (idOf ws))
+    if eqb code 1 then provided (leb (at 2 ws) 1 && unusedFrom 8 ws) (enqueuing (entryIn ws) (at 6 ws))
+    else if eqb code 2 then provided (leb (at 5 ws) 3 && unusedFrom 7 ws) (joining (specIn ws) (at 6 ws))
+    else if eqb code 3 then provided (unusedFrom 5 ws) (leaving (idIn ws) (signed (at 3 ws)) (at 4 ws))
+    else if eqb code 4 then provided (ackWords ws) (asking (idIn ws) (acknowledge (ackIn ws) (at 6 ws)))
+    else if eqb code 5 then provided (unusedFrom 5 ws) (asking (idIn ws) (pulling (signed (at 3 ws)) (at 4 ws)))
+    else if eqb code 6 then provided (unusedFrom 4 ws) (asking (idIn ws) (timedOut (at 3 ws)))
+    else if eqb code 7 then provided (unusedFrom 5 ws) (asking (idIn ws) (prefetching (signed (at 3 ws)) (at 4 ws)))
+    else if eqb code 8 then provided (unusedFrom 3 ws) (unmarking (idIn ws))
     else if eqb code 9 then provided (unusedFrom 2 ws) (sweeping (at 0 ws) (at 1 ws))
     else if eqb code 10 then provided (unusedFrom 0 ws) clearing
-    else if eqb code 11 then provided (unusedFrom 3 ws) (adding (idOf ws))
-    else if eqb code 12 then provided (unusedFrom 4 ws) (removing (idOf ws) (at 3 ws))
-    else if eqb code 13 then provided (unusedFrom 4 ws) (testing (idOf ws) (at 3 ws))
+    else if eqb code 11 then provided (unusedFrom 3 ws) (adding (idIn ws))
+    else if eqb code 12 then provided (unusedFrom 4 ws) (removing (idIn ws) (at 3 ws))
+    else if eqb code 13 then provided (unusedFrom 4 ws) (testing (idIn ws) (at 3 ws))
     else if eqb code 14 then provided (unusedFrom 1 ws) (forgetting (at 0 ws))
-    else if eqb code 15 then provided (unusedFrom 4 ws) (releasing (idOf ws) (at 3 ws))
+    else if eqb code 15 then provided (unusedFrom 4 ws) (releasing (idIn ws) (at 3 ws))
     else none
 
 -- in range, too
-abbrev pub inRange : Option Call → Option Call
-inRange none = none
-inRange (some c) = provided (argumentsOk c) c
+abbrev pub rangedCall : Option Call → Option Call
+rangedCall none = none
+rangedCall (some c) = provided (argumentsOk c) c
 
 -- the call, or none where these are no arguments (refusal 3)
 unfoldable pub decode : ℕ → List ℕ → Option Call
-decode code ws = inRange (read code ws)
+decode code ws = rangedCall (read code ws)
 
 abbrev pub kindBy : Bool → Kind
 kindBy true = queue

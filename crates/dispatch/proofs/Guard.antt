@@ -12,14 +12,14 @@ use Rattle.definition.specs.Base.{if_then_else_, all}
 use Rattle.definition.specs.Words.{at}
 use Rattle.definition.specs.Layout.{Row}
 use Rattle.definition.proofs.Tests.{if-true, if-false, and-left, and-right}
-use Rattle.consumers.specs.Table.{fitting}
+use Rattle.consumers.specs.Table.{fitting, nextFits}
 use Rattle.consumers.proofs.Strict.{all-weaker}
 use Rattle.state.specs.declared.Head.{Head}
 use Rattle.state.specs.State.{dueBy}
 use Rattle.state.specs.Fits.{fits, Fits}
 use Rattle.state.specs.Ready.{Stands}
 use Rattle.state.proofs.Fitting.{fits-facts}
-use Rattle.queues.specs.Scan.{scans, nextFits}
+use Rattle.queues.specs.Scan.{scans}
 use Rattle.queues.proofs.Guard.{scans-facts, scans-yes}
 use Rattle.dispatch.specs.Dispatch.{oneOf, browses, queueFits, dispatches}
 

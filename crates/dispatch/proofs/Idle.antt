@@ -15,7 +15,7 @@ use Rattle.definition.specs.Destination.{dispatchQueue, dispatchTopic, dispatch
 use Rattle.definition.specs.Layout.{Row, subRows}
 use Rattle.definition.proofs.Tests.{if-true, if-false, or-no-left, or-no-right}
 use Rattle.consumers.specs.declared.Sub.{Sub}
-use Rattle.consumers.specs.Consumers.{subOf, creditOf}
+use Rattle.consumers.specs.Consumers.{rowSub, creditOf}
 use Rattle.consumers.proofs.Strict.{all-weaker}
 use Rattle.state.specs.declared.Head.{Head}
 use Rattle.state.specs.State.{dueBy}
@@ -36,7 +36,7 @@ use Rattle.dispatch.proofs.Guard.{lacks, one-by, one-none, queue-stands
 use Rattle.dispatch.proofs.Sorts.{without-browser, none-there, of-queue, of-topic}
 
 -- the test of one consumer, as the code has it
-module _ (waiting : ℕ) (queue : Bool) (w : Row) (s : Sub) (is : s ≡ subOf w) (credit : Bool) (has : credit ≡ creditOf s) where
+module _ (waiting : ℕ) (queue : Bool) (w : Row) (s : Sub) (is : s ≡ rowSub w) (credit : Bool) (has : credit ≡ creditOf s) where
   pub can-queue : queue ≡ true → (s .browser || (not (eqb waiting 0) && credit)) ≡ canGo waiting queue w
   unfolding canGo
   can-queue q = ap (λ (b : Bool). s .browser || (not (eqb waiting 0) && b)) has ∙ ap (λ (x : Sub). x .browser || (not (eqb waiting 0) && creditOf x)) is ∙ sym (if-true _ _ q)
@@ -49,7 +49,7 @@ module _ (clock : ℕ) (d : Head) (subs rows events : List Row) (short : d .cons
     (no : goesOut (d .consumers) (d .waiting) (d .queue) subs ≡ false)
   where
     abbrev here : ℕ → Sub
-    here i = subOf (getD subs i [])
+    here i = rowSub (getD subs i [])
 
     none-go : all (lacks (canGo (d .waiting) (d .queue))) (take (d .consumers) subs) ≡ true
     unfolding goesOut
@@ -89,10 +89,10 @@ module _ (clock : ℕ) (d : Head) (subs rows events : List Row) (short : d .cons
       unfolding canGo
       not-going i h = sym (if-true (here i .browser || (not (eqb (d .waiting) 0) && creditOf (here i))) (canServe (getD subs i [])) q) ∙ none-goes i h
 
-      no-browser : all (λ w. not (subOf w .browser)) (take (d .consumers) subs) ≡ true
+      no-browser : all (λ w. not (rowSub w .browser)) (take (d .consumers) subs) ≡ true
       unfolding canGo
-      no-browser = all-weaker (lacks (canGo (d .waiting) (d .queue))) (λ w. not (subOf w .browser))
-          (λ w e. ap not (or-no-left (subOf w .browser) (not (eqb (d .waiting) 0) && creditOf (subOf w)) (sym (if-true _ (canServe w) q) ∙ not-true _ e)))
+      no-browser = all-weaker (lacks (canGo (d .waiting) (d .queue))) (λ w. not (rowSub w .browser))
+          (λ w e. ap not (or-no-left (rowSub w .browser) (not (eqb (d .waiting) 0) && creditOf (rowSub w)) (sym (if-true _ (canServe w) q) ∙ not-true _ e)))
           (take (d .consumers) subs) none-go
 
       not-taking : 0 < d .waiting → (i : ℕ) → i < d .consumers → canTake (getD subs i []) ≡ false
@@ -103,7 +103,7 @@ module _ (clock : ℕ) (d : Head) (subs rows events : List Row) (short : d .cons
 
       none-browses : browses (d .consumers) subs ≡ false
       unfolding browses
-      none-browses = sym (one-by (λ w. subOf w .browser) (d .consumers) subs true short no-browser)
+      none-browses = sym (one-by (λ w. rowSub w .browser) (d .consumers) subs true short no-browser)
 
       module _ (ok : Scans subs d (length rows) (length events)) where
         scan-on : 0 < d .waiting → (k : ℕ) → k ≤ d .consumers → Seeking clock subs rows events d subs rows events d k

@@ -3,7 +3,7 @@
 use mathlib.Core.Path.{_≡_, refl, sym, ap, _∙_}
 use mathlib.Core.Bool.{true, false, not}
 use mathlib.Core.List.{List, [], _∷_, _++_}
-use Prim.Native.Nat.{ℕ, zero, suc, _+_, _≤_, _<_, _^_}
+use Prim.Native.Nat.{ℕ, zero, suc, _≤_, _<_, _^_}
 use native.Mathlib.Omega.{arith}
 use borrow.Author.Tests.{not-true}
 use lib.ListN.{length, take, drop}
@@ -12,10 +12,10 @@ use Rattle.definition.specs.Base.{empty, all}
 use Rattle.definition.specs.Types.{Kind, Id, Audit, Entry, Dest, withPending, withSubs, withStats}
 use Rattle.definition.specs.Consumer.{zeroStats, isBrowser}
 use Rattle.definition.specs.Destination.{Out, Browsed, count, browsers, dispatchQueue}
-use Rattle.definition.specs.Layout.{Row, inflightOf, heldOf, subAt, eachSub, subsAt}
+use Rattle.definition.specs.Layout.{Row, inflightCount, heldCount, subAt, eachSub, subsAt}
 use Rattle.definition.proofs.Tests.{if-true, if-false, and-left, and-right}
 use Rattle.definition.proofs.Local.{⊕-zero}
-use Rattle.consumers.specs.Consumers.{subOf}
+use Rattle.consumers.specs.Consumers.{rowSub}
 use Rattle.consumers.proofs.View.{sub-at}
 use Rattle.consumers.proofs.Laws.{browser-sub}
 use Rattle.state.specs.declared.Head.{Head}
@@ -24,7 +24,7 @@ use Rattle.state.specs.Fits.{Fits}
 use Rattle.state.specs.Leaves.{silent, both, Leaves, LeavesIf}
 use Rattle.state.specs.Ready.{Stands}
 use Rattle.state.proofs.Leaves.{leaves-as, leaves-both, leaves-rest, leaves-when}
-use Rattle.browsers.specs.Browsers.{browsed, Served}
+use Rattle.browsers.specs.Browsers.{browsed, BrowsersServed}
 use Rattle.queues.specs.Scan.{served, scans, Scans, Onward}
 use Rattle.queues.proofs.Guard.{scans-yes}
 use Rattle.dispatch.specs.Dispatch.{Sent}
@@ -40,14 +40,14 @@ some-joined (suc n) k [] rows h l = absurd (omega arith)
 some-joined (suc n) k (w ∷ ws) rows h l = refl
 
 -- consumers that are no browsers are passed over
-browsers-none : (now : ℕ) (k : Kind) (ws rows : List Row) (p : List Entry) → all (λ w. not (subOf w .browser)) ws ≡ true → browsers now (subsAt k ws rows) p ≡ record { subs = subsAt k ws rows; pending = p; counts = zeroStats; events = [] }
+browsers-none : (now : ℕ) (k : Kind) (ws rows : List Row) (p : List Entry) → all (λ w. not (rowSub w .browser)) ws ≡ true → browsers now (subsAt k ws rows) p ≡ record { subs = subsAt k ws rows; pending = p; counts = zeroStats; events = [] }
 unfolding browsers eachSub
 browsers-none now k [] rows p h = refl
 browsers-none now k (w ∷ ws) rows p h =
-    let flying : List Row = take (inflightOf w) rows in
-    let held : List Row = take (heldOf w) (drop (inflightOf w) rows) in
-    let no : isBrowser (subAt k w flying held) ≡ false = ap isBrowser (sub-at k w flying held) ∙ browser-sub k (subOf w) flying held ∙ not-true (subOf w .browser) (and-left (not (subOf w .browser)) _ h) in
-    rw (no, browsers-none now k ws (drop (heldOf w) (drop (inflightOf w) rows)) p (and-right (not (subOf w .browser)) _ h))
+    let flying : List Row = take (inflightCount w) rows in
+    let held : List Row = take (heldCount w) (drop (inflightCount w) rows) in
+    let no : isBrowser (subAt k w flying held) ≡ false = ap isBrowser (sub-at k w flying held) ∙ browser-sub k (rowSub w) flying held ∙ not-true (rowSub w .browser) (and-left (not (rowSub w .browser)) _ h) in
+    rw (no, browsers-none now k ws (drop (heldCount w) (drop (inflightCount w) rows)) p (and-right (not (rowSub w .browser)) _ h))
 
 -- no consumer
 pub queue-none : (clock : ℕ) (d : Head) (subs rows events : List Row) → Stands d subs → d .consumers ≡ 0 → Leaves (dispatchQueue clock) d d subs rows events subs rows events × Sent d d
@@ -66,7 +66,7 @@ module _ (clock : ℕ) (d r : Head) (subs rows events subs″ rows″ events″ 
   in-two l = leaves-as (both (browsed clock) (served clock)) (dispatchQueue clock) d r subs rows events subs″ rows″ events″ (λ p a h. sym (if-false _ _ (some-joined (d .consumers) _ subs rows some short))) l
 
   -- no browser: the scan alone
-  module _ (no : all (λ w. not (subOf w .browser)) (take (d .consumers) subs) ≡ true) (ok : Scans subs d (length rows) (length events)) where
+  module _ (no : all (λ w. not (rowSub w .browser)) (take (d .consumers) subs) ≡ true) (ok : Scans subs d (length rows) (length events)) where
     none-shown : (p : List Id) (a : List Audit) → browsed clock (headView d subs rows p a) ≡ record { dest = headView d subs rows p a; events = [] }
     unfolding headView
     none-shown p a =
@@ -83,7 +83,7 @@ module _ (clock : ℕ) (d r : Head) (subs rows events subs″ rows″ events″ 
     )
 
 module _ (clock : ℕ) (d : Head) (subs rows events : List Row) (f : Fits subs d (length rows) (length events)) (late : clock ≤ 2 ^ 62) (q : d .queue ≡ true) (some : 0 < d .consumers)
-    (m : Head) (subs′ rows′ events′ : List Row) (l : Leaves (browsed clock) d m subs rows events subs′ rows′ events′) (s : Served d m subs′)
+    (m : Head) (subs′ rows′ events′ : List Row) (l : Leaves (browsed clock) d m subs rows events subs′ rows′ events′) (s : BrowsersServed d m subs′)
   where
     between : scans clock subs′ m (length rows′) (length events′) ≡ true
     between = scans-yes clock subs′ m (length rows′) (length events′) late (l .queue ∙ q) (omega (arith, l .subs-length, f .subs-long)) (omega (arith, l .rows-length, f .rows-long)) (l .consumers)

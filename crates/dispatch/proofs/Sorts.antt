@@ -11,7 +11,7 @@ use Rattle.words.proofs.Tests.{by-test}
 use Rattle.definition.specs.Types.{Id, Audit, Dest}
 use Rattle.definition.specs.Destination.{Out, dispatchQueue, dispatchTopic, dispatchBy, dispatch}
 use Rattle.definition.specs.Layout.{Row}
-use Rattle.consumers.specs.Consumers.{subOf}
+use Rattle.consumers.specs.Consumers.{rowSub}
 use Rattle.state.specs.declared.Head.{Head}
 use Rattle.state.specs.State.{headView, kindBy, dueBy}
 use Rattle.state.specs.Fits.{fits}
@@ -53,7 +53,7 @@ module _ (d r : Head) (subs rows events subs′ rows′ events′ : List Row) wh
         (λ y z.
         let ok : Scans subs d (length rows) (length events) = scans-facts clock subs d (length rows) (length events) y .0 in
         let short : d .consumers ≤ length subs = omega (arith, ok .consumers, ok .subs-long) in
-        queue-alone clock d r subs rows events subs′ rows′ events′ some short (one-none (λ w. subOf w .browser) (d .consumers) subs short b) ok z)
+        queue-alone clock d r subs rows events subs′ rows′ events′ some short (one-none (λ w. rowSub w .browser) (d .consumers) subs short b) ok z)
         l
 
   -- due is what entries expire by at the clock

@@ -8,7 +8,7 @@ use lib.Dec.{leb, ltb, eqb}
 use lib.ListN.{length, take}
 use Rattle.definition.specs.Base.{if_then_else_, all}
 use Rattle.definition.specs.Layout.{Row}
-use Rattle.consumers.specs.Consumers.{subOf, creditOf}
+use Rattle.consumers.specs.Consumers.{rowSub, creditOf}
 use Rattle.state.specs.declared.Head.{Head}
 use Rattle.state.specs.State.{dueBy}
 use Rattle.state.specs.Fits.{fits}
@@ -22,7 +22,7 @@ Sent d r = (r .consumers ≡ d .consumers) × (r .events ≤ d .events + d .used
 -- one that has credit
 unfoldable pub canGo : ℕ → Bool → Row → Bool
 canGo waiting queue w =
-    if queue then subOf w .browser || (not (eqb waiting 0) && creditOf (subOf w)) else ltb 0 (subOf w .held) && creditOf (subOf w)
+    if queue then rowSub w .browser || (not (eqb waiting 0) && creditOf (rowSub w)) else ltb 0 (rowSub w .held) && creditOf (rowSub w)
 
 -- one of the first n rows is such a one; no, where the table is shorter
 abbrev pub oneOf : (Row → Bool) → ℕ → List Row → Bool
@@ -34,7 +34,7 @@ goesOut n waiting queue subs = oneOf (canGo waiting queue) n subs
 
 -- one of the first n is a browser
 unfoldable pub browses : ℕ → List Row → Bool
-browses n subs = oneOf (λ w. subOf w .browser) n subs
+browses n subs = oneOf (λ w. rowSub w .browser) n subs
 
 -- a queue's numbers fit the tables: with a browser all of them, without one those that the scan goes by
 unfoldable pub queueFits : ℕ → List Row → Head → ℕ → ℕ → Bool

@@ -2,17 +2,21 @@
 -- Assumes nothing.
 use mathlib.Core.Path.{_≡_, refl, sym, ap, ap₂, _∙_}
 use mathlib.Core.Bool.{Bool, true, false, not, _&&_, _||_, and-true, and-false, or-false, or-assoc}
-use mathlib.Core.List.{List, [], _∷_, _++_}
+use mathlib.Core.List.{List, [], _∷_, _++_, map-append}
 use Prim.Native.Nat.{ℕ, zero, suc, _+_, _%_, _≤_, _<_}
 use native.Mathlib.Numerals.{add-one}
 use native.Mathlib.Omega.{arith}
-use borrow.Author.Tests.{eqb-true, eq-eqb, ne-eqb, ltb-true, lt-ltb, le-ltb}
+use borrow.Author.Tests.{eqb-true, eq-eqb, ne-eqb, lt-ltb, le-ltb}
 use lib.Dec.{ltb, eqb}
 use lib.ListN.{length, take, drop, getD, set, take-append-drop}
 use lib.Seq.{slice, slice-empty, slice-cons, take-suc, take-take, getD-set-same}
 use Rattle.words.proofs.Tests.{by-test}
 use Rattle.definition.specs.Base.{all, member, distinct, rising}
-use Rattle.definition.proofs.Tests.{and-left, and-right}
+use Rattle.definition.proofs.Tests.{and-left}
+use Rattle.definition.specs.Types.{Entry}
+use Rattle.definition.specs.Calls.{seqs}
+pub use Rattle.words.proofs.Tests.{eqb-comm}
+pub use Rattle.definition.proofs.Thin.{rising-new, rising-distinct}
 
 -- ---- tests
 
@@ -21,14 +25,14 @@ iff true b f g = sym (f refl)
 iff false true f g = g refl
 iff false false f g = refl
 
-pub eqb-comm : (a b : ℕ) → eqb a b ≡ eqb b a
-eqb-comm a b = iff (eqb a b) (eqb b a) (λ h. eq-eqb b a (sym (eqb-true a b h))) (λ h. eq-eqb a b (sym (eqb-true b a h)))
-
 -- ---- one more element, and two lists one after the other
 
 pub member-append : (x : ℕ) (a b : List ℕ) → member x (a ++ b) ≡ (member x a || member x b)
 member-append x [] b = refl
 member-append x (y ∷ a) b = ap (λ (t : Bool). eqb x y || t) (member-append x a b) ∙ sym (or-assoc (eqb x y) (member x a) (member x b))
+
+pub member-seqs : (x : ℕ) (l m : List Entry) → member x (seqs (l ++ m)) ≡ (member x (seqs l) || member x (seqs m))
+member-seqs x l m = ap (member x) (map-append (λ e. e .seq) l m) ∙ member-append x (seqs l) (seqs m)
 
 -- no number of the one is in the other
 abbrev pub apart : List ℕ → List ℕ → Bool
@@ -130,19 +134,6 @@ pub distinct-next : (xs : List ℕ) (i n : ℕ) → i < n → n ≤ length xs �
 distinct-next xs i n h k e m = distinct-turn xs i (omega arith) e ∙ ap not m
 
 -- ---- numbers that rise
-
--- those above k do not meet what is not above it
-pub rising-new : (k x : ℕ) (l : List ℕ) → rising k l ≡ true → x ≤ k → member x l ≡ false
-rising-new k x [] e h = refl
-rising-new k x (y ∷ l) e h =
-    let t : k < y = ltb-true k y (and-left (ltb k y) (rising y l) e) in
-    rw (ne-eqb x y (λ q. omega (arith, q))) (rising-new y x l (and-right (ltb k y) (rising y l) e) (omega arith))
-
-pub rising-distinct : (k : ℕ) (l : List ℕ) → rising k l ≡ true → distinct l ≡ true
-rising-distinct k [] e = refl
-rising-distinct k (y ∷ l) e =
-    let r : rising y l ≡ true = and-right (ltb k y) (rising y l) e in
-    rw (rising-new y y l r (omega arith)) (rising-distinct y l r)
 
 module _ (xs : List ℕ) (i n k : ℕ) (h : n ≤ length xs) (total : Bool) (e : rising k (slice i n xs) ≡ total) where
   rising-turn : i < n → (ltb k (getD xs i 0) && rising (getD xs i 0) (slice (i + 1) n xs)) ≡ total

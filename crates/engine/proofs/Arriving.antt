@@ -21,7 +21,7 @@ use Rattle.definition.proofs.Reach.{stored-fine, fanned-fine}
 use Rattle.definition.proofs.Kept as Kept
 use Rattle.state.specs.declared.Head.{Head}
 use Rattle.state.specs.declared.Answer.{Answer}
-use Rattle.state.specs.State.{headView, dueBy, freeRows, refusedAs, doneAs}
+use Rattle.state.specs.State.{headView, dueBy, rowsFree, refusedAs, doneAs}
 use Rattle.state.specs.Fits.{fits}
 use Rattle.state.specs.Leaves.{silent, both, Leaves, LeavesIf}
 use Rattle.state.specs.Ready.{Ready}
@@ -29,7 +29,7 @@ use Rattle.state.proofs.Leaves.{leaves-as, leaves-when}
 use Rattle.state.proofs.Ready.{Keeps, seen, ready-fits, ready-test}
 use Rattle.dispatch.specs.Dispatch.{dispatches, Sent}
 use Rattle.joins.specs.declared.SubSpec.{SubSpec}
-use Rattle.joins.specs.Joins.{specOf, Refused, joins}
+use Rattle.joins.specs.Joins.{specOf, Refused, joinsWhen}
 use Rattle.joins.proofs.Refusals.{free-is}
 use Rattle.engine.specs.Called.{performed, Performs}
 use Rattle.engine.specs.Requests.{Sends}
@@ -166,7 +166,7 @@ module _ (d : Head) (subs rows events : List Row) (a : Ready d subs rows events)
             let o : Own storing d subs rows 0 = λ ps us z. sym zero ∙ enqueue-own ps us z in
             part-performs d subs rows events a clock late storing (keptBy clock e) (enqueue-parts clock e) o enqueue-says 1024 (omega arith)
             (kept-keeps clock e (seen d subs rows events a) ok (sym (o (a .producers) (a .audits) (a .as-many))))
-            m subs′ rows′ z (l .1 .0) q subs″ rows″ events″ p r h
+            m subs′ rows′ z (l .1 .room) q subs″ rows″ events″ p r h
 
 -- ---- a consumer
 
@@ -222,12 +222,12 @@ module _ (d : Head) (subs rows events : List Row) (a : Ready d subs rows events)
       none-refuses : (ps : List Id) (us : List Audit) → ownRefusal (headView d subs rows ps us) entering ≡ 0
       none-refuses ps us = sym (join-exact ps us) ∙ zero
 
-      joins-it : joins clock spec subs d rows (length events) ≡ true
-      unfolding joins
+      joins-it : joinsWhen clock spec subs d rows (length events) ≡ true
+      unfolding joinsWhen
       joins-it =
           let f = ready-fits d subs rows events a in
           let n : ℕ = snapshotRows clock (specOf spec) (headView d subs rows [] []) in
-          let free : Calls.freeRows (headView d subs rows [] []) ≡ freeRows d = free-is d subs rows [] [] (omega (arith, f .subs-long, f .consumers)) (f .rows-used) (omega (arith, f .rows-long, f .used)) in
+          let free : Calls.freeRows (headView d subs rows [] []) ≡ rowsFree d = free-is d subs rows [] [] (omega (arith, f .subs-long, f .consumers)) (f .rows-used) (omega (arith, f .rows-long, f .used)) in
           let room : n ≤ Calls.freeRows (headView d subs rows [] []) = snapshot-room clock (specOf spec) (headView d subs rows [] []) (none-refuses [] []) in
           all-every
           (leb clock (2 ^ 62)
@@ -241,7 +241,7 @@ module _ (d : Head) (subs rows events : List Row) (a : Ready d subs rows events)
           )
 
       module _ (also : Type 0) (m : Head) (subs′ rows′ : List Row) (q : Head) (subs″ rows″ events″ : List Row) where
-        pub join-done : LeavesIf (joins clock spec subs d rows (length events)) ((m .events + m .used ≤ 512) × also) (silent (joined clock (specOf spec))) d m subs rows events subs′ rows′ events
+        pub join-done : LeavesIf (joinsWhen clock spec subs d rows (length events)) ((m .events + m .used ≤ 512) × also) (silent (joined clock (specOf spec))) d m subs rows events subs′ rows′ events
             → LeavesIf (dispatches clock subs′ m (length rows′) (length events)) (Sent m q) (dispatch clock) m q subs′ rows′ events subs″ rows″ events″
             → r ≡ doneAs 0 q → Performs entering d r subs rows events subs″ rows″ events″
         join-done s p h =

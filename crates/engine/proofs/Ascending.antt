@@ -16,7 +16,7 @@ use Rattle.definition.proofs.Thin.{ascending-tail}
 use Rattle.table.specs.Table.{holdsSeq, placeFrom}
 use Rattle.table.proofs.Lists.{slice-snoc}
 use Rattle.engine.specs.Storing.{holds}
-use Rattle.engine.specs.Arrivals.{inOrder}
+use Rattle.engine.specs.Arrivals.{rowsInOrder}
 use Rattle.engine.proofs.Used.{holds-numbers}
 
 -- ---- the last of a list
@@ -36,7 +36,7 @@ module _ (r : Row) where
   rising-front j [] h = refl
   rising-front j (x ∷ l) h = and-both (ltb j (num x)) _ (and-left (ltb j (num x)) _ h) (rising-front (num x) l (and-right (ltb j (num x)) _ h))
 
-  order-front : (l : List Row) → inOrder (l ++ r ∷ []) ≡ true → inOrder l ≡ true
+  order-front : (l : List Row) → rowsInOrder (l ++ r ∷ []) ≡ true → rowsInOrder l ≡ true
   order-front [] h = refl
   order-front (x ∷ l) h = rising-front (num x) l h
 
@@ -48,12 +48,12 @@ module _ (r : Row) where
 
   -- it is below, and so are the others
   module _ (q : ℕ) (less : num r < q) where
-    place-after : (i : ℕ) (l : List Row) → inOrder (l ++ r ∷ []) ≡ true → placeFrom i q (l ++ r ∷ []) ≡ i + length l + 1
+    place-after : (i : ℕ) (l : List Row) → rowsInOrder (l ++ r ∷ []) ≡ true → placeFrom i q (l ++ r ∷ []) ≡ i + length l + 1
     unfolding placeFrom
     place-after i [] h = rw (lt-leb q (num r) less) (omega arith)
     place-after i (x ∷ l) h = rw (lt-leb q (num x) (omega (arith, below-last (num x) l h))) (place-after (suc i) l (ascending-tail (num x) (nums (l ++ r ∷ [])) h) ∙ omega arith)
 
-    absent-above : (l : List Row) → inOrder (l ++ r ∷ []) ≡ true → holdsSeq q (l ++ r ∷ []) ≡ false
+    absent-above : (l : List Row) → rowsInOrder (l ++ r ∷ []) ≡ true → holdsSeq q (l ++ r ∷ []) ≡ false
     absent-above [] h = rw (ne-eqb q (num r) (λ e. omega (arith, e)))
     absent-above (x ∷ l) h =
         let b = below-last (num x) l h in
@@ -73,11 +73,11 @@ module _ (rows : List Row) (from i q : ℕ) (some : from < i) (within : i ≤ le
   pub place-down : q ≤ getD last 0 0 → placeFrom from q (slice from i rows) ≡ placeFrom from q (slice from (i - 1) rows)
   place-down h = ap (placeFrom from q) ends ∙ place-before last from q (slice from (i - 1) rows) h
 
-  module _ (o : inOrder (slice from i rows) ≡ true) where
-    ordered : inOrder (slice from (i - 1) rows ++ last ∷ []) ≡ true
-    ordered = ap (λ (l : List Row). inOrder l) (sym ends) ∙ o
+  module _ (o : rowsInOrder (slice from i rows) ≡ true) where
+    ordered : rowsInOrder (slice from (i - 1) rows ++ last ∷ []) ≡ true
+    ordered = ap (λ (l : List Row). rowsInOrder l) (sym ends) ∙ o
 
-    pub order-down : inOrder (slice from (i - 1) rows) ≡ true
+    pub order-down : rowsInOrder (slice from (i - 1) rows) ≡ true
     order-down = order-front last (slice from (i - 1) rows) ordered
 
     pub place-here : getD last 0 0 < q → placeFrom from q (slice from i rows) ≡ i

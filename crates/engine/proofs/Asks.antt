@@ -15,7 +15,7 @@ use Rattle.definition.specs.Types.{Id, Dest, Event, null}
 use Rattle.definition.specs.Types as Def
 use Rattle.definition.specs.Consumer.{Ack, ackSub, sendNull}
 use Rattle.definition.specs.Destination.{Out, Answer, subOf, putSub, touchIdle, dispatch, reservedOf, ackReserved, ackAt, ack, pulled, resumed, pullAt, pull, setPrefetch}
-use Rattle.definition.specs.Calls.{bound, within}
+use Rattle.definition.specs.Calls.{bound, signedWithin}
 use Rattle.definition.proofs.Tests.{by-test, by-if, if-true, if-false}
 use Rattle.definition.proofs.Whole.{Fine, fine-more}
 use Rattle.definition.proofs.Ops.{acked-fine, registered-fine, reserved-fine, prefetch-fine}
@@ -96,7 +96,7 @@ module _ (now : ℕ) (i : Id) (p : ℤ) (t : Dest) where
   unfolding setPrefetch prefetched
   prefetch-parts = refl
 
-  pub prefetched-keeps : within (2147483648) p ≡ true → Keeps 1 t (silent (prefetched i p) t)
+  pub prefetched-keeps : signedWithin (2147483648) p ≡ true → Keeps 1 t (silent (prefetched i p) t)
   unfolding prefetched
   prefetched-keeps w g = prefetch-fine (t .callLimit) (t .callsUsed) (t .kind) (bound (t .callsUsed)) i p t (subOf i t) w refl g
 

@@ -19,7 +19,7 @@ use Rattle.definition.proofs.Tests.{by-test, and-left}
 use Rattle.definition.proofs.Kept.{call-sound}
 use Rattle.state.specs.declared.Head.{Head}
 use Rattle.state.specs.declared.Answer.{Answer}
-use Rattle.state.specs.State.{headView, loaded, stored, withStats, doneAs}
+use Rattle.state.specs.State.{headView, loaded, storedHead, withCounters, doneAs}
 use Rattle.state.specs.Fits.{Fits}
 use Rattle.state.specs.Leaves.{silent, Leaves}
 use Rattle.state.specs.Ready.{Ready}
@@ -151,9 +151,9 @@ module _ (c : Call) (ok : argumentsOk c ≡ true) (free : (t : Dest) → ownRefu
     bare-fits = ready-fits d subs rows events ready
 
     module _ (x : Stats) (adds : x ≡ d .stats ⊕ s) where
-      leaves : Leaves (silent (count s)) d (withStats x d) subs rows events subs rows events
+      leaves : Leaves (silent (count s)) d (withCounters x d) subs rows events subs rows events
       leaves = record {
-        view = λ p u e. ap (λ (y : Stats). headView (withStats y d) subs rows p u) adds ∙ count-view subs rows p u s d;
+        view = λ p u e. ap (λ (y : Stats). headView (withCounters y d) subs rows p u) adds ∙ count-view subs rows p u s d;
         sent = λ p u e. sym (append-nil (take (d .events) events));
         later = refl;
         more = omega arith;
@@ -173,38 +173,38 @@ module _ (c : Call) (ok : argumentsOk c ≡ true) (free : (t : Dest) → ownRefu
         events-length = refl;
       }
 
-      performs : Performs c d (doneAs 0 (withStats x d)) subs rows events subs rows events
-      performs = silent-performs c d (withStats x d) (doneAs 0 (withStats x d)) subs rows events subs rows events (silent (count s)) free does refl (leaves, omega (arith, ready .none-sent))
+      performs : Performs c d (doneAs 0 (withCounters x d)) subs rows events subs rows events
+      performs = silent-performs c d (withCounters x d) (doneAs 0 (withCounters x d)) subs rows events subs rows events (silent (count s)) free does refl (leaves, omega (arith, ready .none-sent))
 
-      counted-done : Called q b (lent (stored (counted (withStats x d)) h) subs rows) events events (outcome 0 0 (d .events))
-      counted-done = performed-called h subs rows events roomy whole c q (bare-done c ok free b (length events) z) (bare-leaves c ok free b (length events) z) (doneAs 0 (withStats x d)) subs rows events performs refl
+      counted-done : Called q b (lent (storedHead (counted (withCounters x d)) h) subs rows) events events (outcome 0 0 (d .events))
+      counted-done = performed-called h subs rows events roomy whole c q (bare-done c ok free b (length events) z) (bare-leaves c ok free b (length events) z) (doneAs 0 (withCounters x d)) subs rows events performs refl
 
-      pub counted-called : (a : Answer) → a ≡ doneAs 0 (withStats x d) → (r : Outcome) → r ≡ finished a → (h′ : List ℕ) → h′ ≡ (if eqb (a .refusal) 0 then stored (counted (a .head)) h else h)
+      pub counted-called : (a : Answer) → a ≡ doneAs 0 (withCounters x d) → (r : Outcome) → r ≡ finished a → (h′ : List ℕ) → h′ ≡ (if eqb (a .refusal) 0 then storedHead (counted (a .head)) h else h)
           → Called q b (lent h′ subs rows) events events r
       counted-called a e r f h′ g =
-          subst⁻¹ (λ (k : List ℕ). Called q b (lent k subs rows) events events r) (subst (λ (y : Answer). h′ ≡ (if eqb (y .refusal) 0 then stored (counted (y .head)) h else h)) e g)
-          (subst⁻¹ (λ (o : Outcome). Called q b (lent (stored (counted (withStats x d)) h) subs rows) events events o) (f ∙ ap finished e) counted-done)
+          subst⁻¹ (λ (k : List ℕ). Called q b (lent k subs rows) events events r) (subst (λ (y : Answer). h′ ≡ (if eqb (y .refusal) 0 then storedHead (counted (y .head)) h else h)) e g)
+          (subst⁻¹ (λ (o : Outcome). Called q b (lent (storedHead (counted (withCounters x d)) h) subs rows) events events o) (f ∙ ap finished e) counted-done)
 
 -- ---- the two calls
 
 module _ (h : List ℕ) (subs rows events : List Row) (z : bareRefusal (lent h subs rows) (length events) ≡ 0) (d x : Head) (is : d ≡ loaded h subs) (a : Answer) (e : a ≡ doneAs 0 x)
-    (r : Outcome) (f : r ≡ finished a) (h′ : List ℕ) (g : h′ ≡ (if eqb (a .refusal) 0 then stored (counted (a .head)) h else h))
+    (r : Outcome) (f : r ≡ finished a) (h′ : List ℕ) (g : h′ ≡ (if eqb (a .refusal) 0 then storedHead (counted (a .head)) h else h))
   where
-    pub discarded-called : x ≡ withStats (withDiscardedBy (d .stats) 1) d → Called (bufferCall (lent h subs rows) (length events) discarding) (lent h subs rows) (lent h′ subs rows) events events r
+    pub discarded-called : x ≡ withCounters (withDiscardedBy (d .stats) 1) d → Called (bufferCall (lent h subs rows) (length events) discarding) (lent h subs rows) (lent h′ subs rows) events events r
     unfolding argumentsOk ownRefusal perform
     discarded-called y =
         let n : Head = loaded h subs in
         let k = bare-fits discarding refl (λ t. refl) h subs rows events z (addDiscarded 1) (λ t. refl) .discarded in
         counted-called discarding refl (λ t. refl) h subs rows events z (addDiscarded 1) (λ t. refl) (withDiscardedBy (n .stats) 1) (discarded-plain (n .stats) 1 (omega (arith, k)))
-        a (e ∙ ap (doneAs 0) (y ∙ ap (λ (m : Head). withStats (withDiscardedBy (m .stats) 1) m) is)) r f h′ g
+        a (e ∙ ap (doneAs 0) (y ∙ ap (λ (m : Head). withCounters (withDiscardedBy (m .stats) 1) m) is)) r f h′ g
 
-    pub missing-called : x ≡ withStats (withExpiredBy (d .stats) 1) d → Called (bufferCall (lent h subs rows) (length events) missing) (lent h subs rows) (lent h′ subs rows) events events r
+    pub missing-called : x ≡ withCounters (withExpiredBy (d .stats) 1) d → Called (bufferCall (lent h subs rows) (length events) missing) (lent h subs rows) (lent h′ subs rows) events events r
     unfolding argumentsOk ownRefusal perform
     missing-called y =
         let n : Head = loaded h subs in
         let k = bare-fits missing refl (λ t. refl) h subs rows events z (addExpired 1) (λ t. refl) .expired in
         counted-called missing refl (λ t. refl) h subs rows events z (addExpired 1) (λ t. refl) (withExpiredBy (n .stats) 1) (expired-plain (n .stats) 1 (omega (arith, k)))
-        a (e ∙ ap (doneAs 0) (y ∙ ap (λ (m : Head). withStats (withExpiredBy (m .stats) 1) m) is)) r f h′ g
+        a (e ∙ ap (doneAs 0) (y ∙ ap (λ (m : Head). withCounters (withExpiredBy (m .stats) 1) m) is)) r f h′ g
 
 -- refused, each
 module _ (h : List ℕ) (subs rows events : List Row) (k : ℕ) (e : k ≡ bareRefusal (lent h subs rows) (length events)) (n : k ≡ 0 → ⊥) (r : Outcome) (f : r ≡ outcome k 0 0) where

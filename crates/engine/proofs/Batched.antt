@@ -21,7 +21,7 @@ use Rattle.definition.proofs.Tests.{by-test, and-left, and-right, if-true, if-f
 use Rattle.engine.specs.declared.Outcome.{Outcome}
 use Rattle.engine.specs.declared.batch.Done.{Done}
 use Rattle.engine.specs.Called.{Past, Called}
-use Rattle.engine.specs.Batch.{Batch, undone, outcomeWords, followed, wordsOf, less, batch, bufferBatch, refusing, Batched}
+use Rattle.engine.specs.Batch.{Batch, undone, outcomeWords, followed, eightWords, less, batch, bufferBatch, refusing, Batched}
 use Rattle.engine.proofs.Ran.{short-events, short-state, not-short}
 
 -- ---- the definition, a call at a time
@@ -42,7 +42,7 @@ unfolding batch
 batch-over l k [] t h = refl
 batch-over l k (w ∷ ws) t h = absurd (omega arith)
 
-batch-next : (l : Lengths) (k : ℕ) (w : Row) (ws : List Row) (t : Dest) (r : Result) → short l ≡ false → r ≡ step l (at 0 w) (wordsOf w) t
+batch-next : (l : Lengths) (k : ℕ) (w : Row) (ws : List Row) (t : Dest) (r : Result) → short l ≡ false → r ≡ step l (at 0 w) (eightWords w) t
     → batch l (suc k) (w ∷ ws) t ≡ followed r (batch (less (length (r .events)) l) k ws (r .dest))
 unfolding batch
 batch-next l k w ws t r h e = rw h (sym (ap (λ (x : Result). followed x (batch (less (length (x .events)) l) k ws (x .dest))) e))
@@ -144,11 +144,11 @@ module _ (ws : List Row) (b₀ : Buffers) (events₀ outcomes₀ : List Row) (b 
       same : lengthsOf b 0 ≡ lengthsOf b₀ 0
       same = λ j. record { head = s .past .head-length j; subs = s .past .subs-length j; rows = s .past .rows-length j; events = 0 }
 
-  module _ (w : Row) (x : Call) (named : x ≡ newCall (at 0 w) (wordsOf w)) (b′ : Buffers) (events′ : List Row) (r : Outcome)
+  module _ (w : Row) (x : Call) (named : x ≡ newCall (at 0 w) (eightWords w)) (b′ : Buffers) (events′ : List Row) (r : Outcome)
       (by : Called (bufferStep b n (x .code) (x .words)) b b′ (drop from events) (drop from events′) r) (front : take from events′ ≡ take from events)
     where
       abbrev q : Result
-      q = bufferStep b n (at 0 w) (wordsOf w)
+      q = bufferStep b n (at 0 w) (eightWords w)
 
       called : Called q b b′ (drop from events) (drop from events′) r
       called = subst (λ (y : Call). Called (bufferStep b n (y .code) (y .words)) b b′ (drop from events) (drop from events′) r) named by
@@ -186,7 +186,7 @@ module _ (ws : List Row) (b₀ : Buffers) (events₀ outcomes₀ : List Row) (b 
               let p : length outcomes - i ≡ suc (length outcomes′ - (i + 1)) = omega (arith, same-outcomes) in
               let l : drop i ws ≡ w ∷ drop (i + 1) ws = rw add-one (drop-cons ws i [] more ∙ ap (λ (x : Row). x ∷ drop (suc i) ws) (sym is)) in
               ap₂ (λ (m : ℕ) (x : List Row). batch (lengthsOf b n) m x (view b)) p l
-              ∙ batch-next (lengthsOf b n) (length outcomes′ - (i + 1)) w (drop (i + 1) ws) (view b) q roomy (sound-step b n (at 0 w) (wordsOf w) (s .is-sound))
+              ∙ batch-next (lengthsOf b n) (length outcomes′ - (i + 1)) w (drop (i + 1) ws) (view b) q roomy (sound-step b n (at 0 w) (eightWords w) (s .is-sound))
               ∙ ap₂ (λ (x : Lengths) (t : Dest). followed q (batch x (length outcomes′ - (i + 1)) (drop (i + 1) ws) t)) lengths-are (sym (called .shows))
 
           said : r .refusal ∷ r .answer ∷ k ∷ [] ≡ outcomeWords q

@@ -15,7 +15,7 @@ use Rattle.definition.specs.Layout.{Row, Buffers, eachSub, subsAt, subRows, ids
 use Rattle.definition.proofs.Tests.{and-both}
 use Rattle.state.specs.declared.Head.{Head}
 use Rattle.state.specs.declared.Answer.{Answer}
-use Rattle.state.specs.State.{headView, loaded, stored, withCallsUsed}
+use Rattle.state.specs.State.{headView, loaded, storedHead, withUsedCalls}
 use Rattle.state.proofs.View.{stored-any, stored-formed, stored-past, stored-length}
 use Rattle.state.proofs.Fitting.{not-short}
 pub use Rattle.sound.specs.Sound.{lent}
@@ -47,7 +47,7 @@ module _ (h : List ℕ) (subs rows events : List Row) (roomy : short (lengthsOf 
     b₀ = lent h subs rows
 
     abbrev b′ : Buffers
-    b′ = lent (stored (withCallsUsed (more (a .head .«calls_used»)) (a .head)) h) subs′ rows′
+    b′ = lent (storedHead (withUsedCalls (more (a .head .«calls_used»)) (a .head)) h) subs′ rows′
 
     pub performed-called : Called q b₀ b′ events events′ (outcome 0 (a .answer) (a .head .events))
     performed-called =
@@ -77,7 +77,7 @@ module _ (h : List ℕ) (subs rows events : List Row) (code : ℕ) (ws : List �
   -- opened
   module _ (zero : eqb code 0 ≡ true) (o : openWords ws ≡ true) where
     abbrev new : Buffers
-    new = lent (stored (openedHead ws) h) subs rows
+    new = lent (storedHead (openedHead ws) h) subs rows
 
     new-shows : view new ≡ openedBy ws
     unfolding headView openedHead eachSub idsAt auditsAt
@@ -124,7 +124,7 @@ module _ (h : List ℕ) (subs rows events : List Row) (code : ℕ) (ws : List �
       pub own-called : (k : ℕ) → a .refusal ≡ suc k → Called q b b events events (outcome (suc k) 0 0)
       own-called k e = refused-called k b events q (step-refused b (length events) code ws roomy coded s c decoded ok k left (sym own ∙ e))
 
-      pub done-called : a .refusal ≡ 0 → Called q b (lent (stored (withCallsUsed (more (a .head .«calls_used»)) (a .head)) h) subs′ rows′) events events′ (outcome 0 (a .answer) (a .head .events))
+      pub done-called : a .refusal ≡ 0 → Called q b (lent (storedHead (withUsedCalls (more (a .head .«calls_used»)) (a .head)) h) subs′ rows′) events events′ (outcome 0 (a .answer) (a .head .events))
       done-called e =
           let own-none : ownRefusal (view b) c ≡ 0 = sym own ∙ e in
           performed-called h subs rows events roomy s c q (step-done b (length events) code ws roomy coded s c decoded ok left own-none) (done-sound b (length events) code ws roomy coded s c decoded ok left own-none) a subs′ rows′ events′ p e

@@ -3,7 +3,7 @@ use mathlib.Core.Path.{_≡_, refl, sym, ap, ap₂, _∙_, subst⁻¹}
 use mathlib.Core.Bool.{Bool, true, false, not, _||_}
 use mathlib.Core.List.{List, [], _∷_, _++_, append-assoc, map}
 use mathlib.Core.Option.{Option}
-use Prim.Native.Nat.{ℕ, zero, suc, _+_, _-_, _≤_, _^_}
+use Prim.Native.Nat.{ℕ, _+_, _-_, _≤_, _^_}
 use native.Mathlib.Omega.{arith}
 use borrow.Author.Tests.{leb-true, leb-false, eq-eqb, ne-eqb}
 use lib.Dec.{eqb, leb}
@@ -13,38 +13,34 @@ use lib.Seq.{slice, length-take-le}
 use Rattle.words.proofs.Words.{signed-pos}
 use Rattle.words.proofs.Tests.{by-test}
 use Rattle.stats.specs.declared.Stats.{Stats}
-use Rattle.entry.specs.Entry.{expired, entryOf, rowOf}
+use Rattle.entry.specs.Entry.{expired, entryOf, rowOf, expiredRow}
 use Rattle.definition.specs.Base as Base
 use Rattle.definition.specs.Base.{if_then_else_, keep, tally}
 use Rattle.definition.specs.Types.{Entry, topic, withTpending}
 use Rattle.definition.specs.Types as Def
 use Rattle.definition.specs.Consumer.{_⊕_, Step, zeroStats, addExpired, addDiscarded}
 use Rattle.definition.specs.Destination.{insert, Trimmed, trim, fanOut}
-use Rattle.definition.specs.Layout.{Row, browserAt, entryStrict}
+use Rattle.definition.specs.Layout.{Row, entryStrict}
 use Rattle.definition.proofs.Tests.{by-if, if-false, or-no-left}
-use Rattle.definition.proofs.Lists.{all-keep}
-use Rattle.table.specs.Table.{expiredRow, placeFrom, placeOf, insertRow, closeGap, removeRows, removedRows}
+use Rattle.definition.proofs.Lists.{all-keep, map-drop}
+use Rattle.definition.proofs.Stored.{same-browser}
+use Rattle.table.specs.Table.{placeFrom, placeOf, insertRow, closeGap, removeRows, removedRows}
 use Rattle.table.proofs.Search.{place-from-within}
 use Rattle.table.proofs.Lists.{guarded₃}
 use Rattle.table.proofs.Segments.{tally-map, keep-map, kept-length, tally-most}
 use Rattle.table.proofs.Laws.{close-length, close-after, close-parts, insert-length, insert-after, remove-length, remove-after, gone-parts, remove-parts}
 use Rattle.consumers.specs.declared.Sub.{Sub}
-use Rattle.consumers.specs.Consumers.{subView, acceptsOf}
+use Rattle.consumers.specs.Consumers.{subView, acceptsOf, withHeld}
 use Rattle.consumers.proofs.Laws.{accepts-sub}
 use Rattle.consumers.proofs.Strict.{all-rest}
 use Rattle.engine.specs.declared.fanning.Gone.{Gone}
 use Rattle.engine.specs.declared.fanning.Copied.{Copied}
 use Rattle.engine.specs.Storing.{holds}
-use Rattle.engine.specs.Copies.{withHeld, overLimit, goneOf, trimmed, putIn, copied, copiedRows}
+use Rattle.engine.specs.Copies.{overLimit, goneOf, trimmed, putIn, copied, copiedRows}
 use Rattle.engine.proofs.Insert.{insert-placed}
 use Rattle.engine.proofs.RowParts.{withRow, with-row-length, own-row-strict, with-row-strict, put-in}
 
 -- ---- small laws
-
-map-drop : (n : ℕ) (l : List Row) → map entryOf (drop n l) ≡ drop n (map entryOf l)
-map-drop zero l = refl
-map-drop (suc n) [] = refl
-map-drop (suc n) (r ∷ l) = map-drop n l
 
 pub over-most : (limit n : ℕ) → overLimit limit n ≤ n
 over-most limit n = by-test (eqb limit 0) (λ t. rw t (omega arith)) (λ t. rw t (omega arith))
@@ -209,7 +205,7 @@ module _ (now limit from n used : ℕ) (a all c z : List Row) (la : length a ≡
       rows-are = rows-come;
       holding = omega (arith, expired-is, over-is, length-drop over live, kept-length p all);
       strict = λ b. all-rest entryStrict over live (all-keep entryStrict (λ r. not (p r)) all b);
-      list = map-drop over live ∙ sym (ap (λ (r : Trimmed). r .list) fewer ∙ ap₂ drop over-are lives-are);
+      list = sym (map-drop entryOf over live) ∙ sym (ap (λ (r : Trimmed). r .list) fewer ∙ ap₂ drop over-are lives-are);
       counts = ap₂ lost expired-is over-is ∙ lost-is (tally p all) over ∙ sym (ap (λ (r : Trimmed). r .counts) fewer ∙ ap₂ (λ (x y : ℕ). addExpired x ⊕ addDiscarded y) expired-are over-are);
     })
 
@@ -244,11 +240,6 @@ module _ (clock limit : ℕ) (e : Entry) (base : ℕ) (s : Sub) (used : ℕ) (ro
   unfolding copied
   copied-few = by-if (λ (r : Copied). (r .sub .inflight ≡ s .inflight) × (r .sub .held ≤ s .held + 1) × (r .expired + r .over ≤ s .held + 1)) (acceptsOf s e) (got s used went) (record { sub = s; used = used; expired = 0; over = 0 })
       (λ _. (refl, omega arith, gone-few clock limit (base + s .inflight) (s .held + 1) (used + 1) (putIn e base s used rows))) (λ _. (refl, omega arith, omega arith))
-
--- a topic's consumer shows what it browses whatever it holds
-same-browser : (b : Bool) (l m : List Entry) → browserAt topic b l ≡ browserAt topic b m
-same-browser true l m = refl
-same-browser false l m = refl
 
 -- a consumer with what a trimmed list keeps
 abbrev given : Def.Sub → Trimmed → Step

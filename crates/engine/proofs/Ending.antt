@@ -18,7 +18,7 @@ use Rattle.definition.proofs.Tests.{and-left, and-right, and-both}
 use Rattle.definition.proofs.Thin.{every-all, all-every}
 use Rattle.definition.proofs.Sound.{facts}
 use Rattle.state.specs.declared.Head.{Head}
-use Rattle.state.specs.State.{headOf, headView, strictTables, loaded, stored, withCallsUsed}
+use Rattle.state.specs.State.{headOf, headView, strictTables, loaded, storedHead, withUsedCalls}
 use Rattle.state.specs.Leaves.{Leaves}
 use Rattle.state.specs.Ready.{Ready}
 use Rattle.state.proofs.View.{loaded-view, settled, settled-same, stored-view, stored-formed, stored-past, stored-length}
@@ -102,10 +102,10 @@ module _ (h : List ℕ) (subs rows events : List Row)
         (z : sound (used (f (view b) .dest)) ≡ true)
       where
         abbrev last : Head
-        last = withCallsUsed (more (r .«calls_used»)) r
+        last = withUsedCalls (more (r .«calls_used»)) r
 
         abbrev pub b′ : Buffers
-        b′ = record { head = stored last h; subs = subs′; rows = rows′ }
+        b′ = record { head = storedHead last h; subs = subs′; rows = rows′ }
 
         left : headView r subs′ rows′ ids rings ≡ f (view b) .dest
         left = l .view ids rings as-many ∙ ap (λ (t : Dest). f t .dest) shown

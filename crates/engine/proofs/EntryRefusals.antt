@@ -12,7 +12,7 @@ use Rattle.definition.specs.Base.{if_then_else_, tally, member}
 use Rattle.definition.specs.Types.{Id, Entry, Audit}
 use Rattle.definition.specs.Calls.{seqs, allRows, ownRows, rowsFrom, rowsFor, enqueuing, ownRefusal}
 use Rattle.definition.specs.Layout.{Row}
-use Rattle.consumers.specs.Table.{takes}
+use Rattle.consumers.specs.Table.{takesEntry}
 use Rattle.consumers.proofs.Laws.{tally-subs}
 use Rattle.state.specs.declared.Head.{Head}
 use Rattle.state.specs.State.{headView, kindBy}
@@ -27,7 +27,7 @@ abbrev pub choice : Bool → Bool → Bool → ℕ
 choice held over few = if held then 4 else if over then 14 else if few then 5 else 0
 
 module _ (e : Entry) (d : Head) (subs rows : List Row) where
-  needed : (producers : List Id) (audits : List Audit) (b : Bool) → rowsFor e (headView d subs rows producers audits) (kindBy b) ≡ (if b then 1 else tally (takes e) (take (d .consumers) subs))
+  needed : (producers : List Id) (audits : List Audit) (b : Bool) → rowsFor e (headView d subs rows producers audits) (kindBy b) ≡ (if b then 1 else tally (takesEntry e) (take (d .consumers) subs))
   unfolding headView
   needed producers audits true = refl
   needed producers audits false = tally-subs (kindBy (d .queue)) e (take (d .consumers) subs) rows
@@ -35,7 +35,7 @@ module _ (e : Entry) (d : Head) (subs rows : List Row) where
   pub needed-least : d .consumers ≤ 32 → rowsNeeded e d subs ≤ 32
   needed-least h =
       let l : List Row = take (d .consumers) subs in
-      by-test (d .queue) (λ t. rw t (omega arith)) (λ t. rw t (omega (arith, h, tally-least (takes e) l, length-take (d .consumers) subs)))
+      by-test (d .queue) (λ t. rw t (omega arith)) (λ t. rw t (omega (arith, h, tally-least (takesEntry e) l, length-take (d .consumers) subs)))
 
   -- the share, by the numbers
   pub over-none : 512 ≤ d .share → overOf e d subs rows ≡ false

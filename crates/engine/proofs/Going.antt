@@ -21,12 +21,12 @@ use Rattle.definition.proofs.Leave.{returning-fine, release-some}
 use Rattle.state.specs.declared.Head.{Head}
 use Rattle.state.specs.declared.Answer.{Answer}
 use Rattle.state.specs.State.{headView, doneAs}
-use Rattle.state.specs.Leaves.{silent, both, LeavesIf}
+use Rattle.state.specs.Leaves.{silent, both, LeavesIf, Room}
 use Rattle.state.proofs.Leaves.{leaves-as, leaves-when}
 use Rattle.state.proofs.Ready.{Keeps}
-use Rattle.returns.specs.Returns.{leftAt, left, freed}
+use Rattle.returns.specs.Returns.{departedAt, departed, freed}
 use Rattle.returns.proofs.Freeing.{freed-none}
-use Rattle.expiry.specs.Expiry.{clearOut, sweepOut, Kept, Answers}
+use Rattle.expiry.specs.Expiry.{clearOut, sweepOut, SweepAnswers}
 use Rattle.engine.specs.Called.{performed, Performs}
 use Rattle.engine.specs.Requests.{sentOn, Sends}
 use Rattle.engine.proofs.Parts.{sends-as}
@@ -64,10 +64,10 @@ module _ (c : Call) (d : Head) (subs rows events subs′ rows′ events′ : Lis
   -- by a function that is total, where its test holds
   pub performs-tested : (a : Answer) (test : Bool) → test ≡ true → (f : Dest → Destination.Answer) (g : Dest → Out)
       → ((t : Dest) → f t ≡ perform t c) → ((t : Dest) → g t ≡ performed c t)
-      → LeavesIf test (Kept d (a .head)) g d (a .head) subs rows events subs′ rows′ events′ → Answers test f d subs rows a
+      → LeavesIf test (Room d (a .head)) g d (a .head) subs rows events subs′ rows′ events′ → SweepAnswers test f d subs rows a
       → Performs c d a subs rows events subs′ rows′ events′
   performs-tested a test holds f g f-is g-is l q =
-      let k = leaves-when test (Kept d (a .head)) g d (a .head) subs rows events subs′ rows′ events′ holds l in
+      let k = leaves-when test (Room d (a .head)) g d (a .head) subs rows events subs′ rows′ events′ holds l in
       performs a (q .refusal ∙ if-true 0 2 holds)
       (λ p u e. q .answer p u e ∙ if-true (f (headView d subs rows p u) .answer) 0 holds ∙ ap (λ (r : Destination.Answer). r .answer) (f-is (headView d subs rows p u)))
       (leaves-as g (performed c) d (a .head) subs rows events subs′ rows′ events′ (λ p u e. g-is (headView d subs rows p u)) (k .0), omega (arith, k .1 .room))
@@ -118,14 +118,14 @@ module _ (now : ℕ) (i : Id) (last : ℤ) where
   own-leave t = refl
 
   present-at : (t : Dest) (o : Option Def.Sub) → is-some o ≡ true
-      → removeAt now i last t o ≡ withAnswer 1 (sentOn now (silent (λ u. leftAt now i last u o)) t)
+      → removeAt now i last t o ≡ withAnswer 1 (sentOn now (silent (λ u. departedAt now i last u o)) t)
   unfolding removeAt
   present-at t none e = absurd (true≢false (sym e))
   present-at t (some s) e = refl
 
   -- of a consumer that is there
   pub leave-present : (t : Dest) → is-some (subOf i t) ≡ true
-      → perform t (leaving i last now) ≡ withAnswer 1 (sentOn now (silent (left now i last)) t)
+      → perform t (leaving i last now) ≡ withAnswer 1 (sentOn now (silent (departed now i last)) t)
   unfolding perform removeSub
   leave-present t e = present-at t (subOf i t) e
 
@@ -139,11 +139,11 @@ module _ (now : ℕ) (i : Id) (last : ℤ) where
   unfolding perform removeSub
   leave-absent t e = absent-at t (subOf i t) e
 
-  left-keeps-at : (t : Dest) (o : Option Def.Sub) → subOf i t ≡ o → Keeps 512 t (silent (λ u. leftAt now i last u o) t)
+  left-keeps-at : (t : Dest) (o : Option Def.Sub) → subOf i t ≡ o → Keeps 512 t (silent (λ u. departedAt now i last u o) t)
   left-keeps-at t none e g = fine-more (t .callLimit) (t .callsUsed) (t .kind) (bound (t .callsUsed)) (bound (t .callsUsed) + 512) t (omega arith) g
   left-keeps-at t (some s) e g = returning-fine (t .callLimit) (t .callsUsed) (t .kind) (bound (t .callsUsed)) now i last s t e g
 
-  pub left-keeps : (t : Dest) → Keeps 512 t (silent (left now i last) t)
+  pub left-keeps : (t : Dest) → Keeps 512 t (silent (departed now i last) t)
   left-keeps t = left-keeps-at t (subOf i t) refl
 
 -- ---- the halves of a release

@@ -13,12 +13,12 @@ use Rattle.definition.specs.Base.{is-some, find}
 use Rattle.definition.specs.Types.{Id, Audit, Dest}
 use Rattle.definition.specs.Destination.{Answer, auditOf, testAt, isDuplicate}
 use Rattle.definition.specs.Calls.{Call, adding, removing, testing, forgetting, perform}
-use Rattle.definition.specs.Words.{at, idOf, unusedFrom, read, decode}
+use Rattle.definition.specs.Words.{at, idIn, unusedFrom, read, decode}
 use Rattle.definition.proofs.Tests.{by-test, by-if, or-no-left, or-no-right}
 use Rattle.calls.proofs.Decoded.{Decoded, decoded}
 use Rattle.state.specs.declared.Head.{Head}
 use Rattle.state.specs.declared.Answer as State
-use Rattle.producers.specs.Producers.{Left, headFits, added, removed, tested, released, Promised}
+use Rattle.producers.specs.Producers.{HeadLeft, headFits, added, producerRemoved, tested, released, Promised}
 use Rattle.producers.proofs.Past.{added-past, removed-past, tested-past, released-past}
 use Rattle.engine.specs.Called.{InHead, HeadBy, onTables}
 
@@ -32,20 +32,20 @@ far-code n w h = rw (no 1 (omega arith), no 2 (omega arith), no 3 (omega arith),
 
 module _ (w : List ℕ) (d : Head) (h : List ℕ) (a : State.Answer) (k : List ℕ) (f : headFits (length h) d ≡ true) where
   -- from a function's promise to the call that the words give
-  by-promise : (o : Option Call) (c e : Call) (all : Left) → o ≡ some c → e ≡ c → Promised e all d h a k → drop 8345 (all .words) ≡ drop 8345 h → ((t : Dest) → perform t c .events ≡ []) → HeadBy o d h a k
+  by-promise : (o : Option Call) (c e : Call) (all : HeadLeft) → o ≡ some c → e ≡ c → Promised e all d h a k → drop 8345 (all .words) ≡ drop 8345 h → ((t : Dest) → perform t c .events ≡ []) → HeadBy o d h a k
   by-promise o c e all q x p past quiet = subst⁻¹ (λ (o : Option Call). HeadBy o d h a k) q (record {
     performs = subst (λ (y : Call). Promised y all d h a k) x p .performs;
-    past = ap (λ (y : Left). drop 8345 (y .words)) (p .exact) ∙ past;
+    past = ap (λ (y : HeadLeft). drop 8345 (y .words)) (p .exact) ∙ past;
     silent = quiet;
   })
 
-  pub add-head : is-some (decode 11 w) ≡ true → (i : Id) → i ≡ idOf w → Promised (adding i) (added i d h) d h a k → HeadBy (decode 11 w) d h a k
+  pub add-head : is-some (decode 11 w) ≡ true → (i : Id) → i ≡ idIn w → Promised (adding i) (added i d h) d h a k → HeadBy (decode 11 w) d h a k
   unfolding read perform
-  add-head t i e p = by-promise (decode 11 w) (adding (idOf w)) (adding i) (added i d h) (decoded 11 w (unusedFrom 3 w) (adding (idOf w)) refl t .call) (ap adding e) p (added-past d h f i) (λ t. refl)
+  add-head t i e p = by-promise (decode 11 w) (adding (idIn w)) (adding i) (added i d h) (decoded 11 w (unusedFrom 3 w) (adding (idIn w)) refl t .call) (ap adding e) p (added-past d h f i) (λ t. refl)
 
-  pub remove-head : is-some (decode 12 w) ≡ true → (i : Id) → i ≡ idOf w → Promised (removing i (at 3 w)) (removed (at 3 w) i d h) d h a k → HeadBy (decode 12 w) d h a k
+  pub remove-head : is-some (decode 12 w) ≡ true → (i : Id) → i ≡ idIn w → Promised (removing i (at 3 w)) (producerRemoved (at 3 w) i d h) d h a k → HeadBy (decode 12 w) d h a k
   unfolding read perform
-  remove-head t i e p = by-promise (decode 12 w) (removing (idOf w) (at 3 w)) (removing i (at 3 w)) (removed (at 3 w) i d h) (decoded 12 w (unusedFrom 4 w) (removing (idOf w) (at 3 w)) refl t .call)
+  remove-head t i e p = by-promise (decode 12 w) (removing (idIn w) (at 3 w)) (removing i (at 3 w)) (producerRemoved (at 3 w) i d h) (decoded 12 w (unusedFrom 4 w) (removing (idIn w) (at 3 w)) refl t .call)
       (ap (λ (j : Id). removing j (at 3 w)) e) p (removed-past d h f (at 3 w) i) (λ t. refl)
 
   tested-quiet : (i : Id) (q : ℕ) (t : Dest) (o : Option Audit) → testAt i q t o .events ≡ []
@@ -57,10 +57,10 @@ module _ (w : List ℕ) (d : Head) (h : List ℕ) (a : State.Answer) (k : List �
   unfolding perform isDuplicate
   test-quiet i q t = by-if (λ (r : Answer). r .events ≡ []) (eqb (i .conn) 0) _ _ (λ c. refl) (λ c. tested-quiet i q t (find (auditOf i) (t .audits)))
 
-  pub test-head : is-some (decode 13 w) ≡ true → (i : Id) → i ≡ idOf w → Promised (testing i (at 3 w)) (tested i (at 3 w) d h) d h a k → HeadBy (decode 13 w) d h a k
+  pub test-head : is-some (decode 13 w) ≡ true → (i : Id) → i ≡ idIn w → Promised (testing i (at 3 w)) (tested i (at 3 w) d h) d h a k → HeadBy (decode 13 w) d h a k
   unfolding read
-  test-head t i e p = by-promise (decode 13 w) (testing (idOf w) (at 3 w)) (testing i (at 3 w)) (tested i (at 3 w) d h) (decoded 13 w (unusedFrom 4 w) (testing (idOf w) (at 3 w)) refl t .call)
-      (ap (λ (j : Id). testing j (at 3 w)) e) p (tested-past i (at 3 w) d h f) (test-quiet (idOf w) (at 3 w))
+  test-head t i e p = by-promise (decode 13 w) (testing (idIn w) (at 3 w)) (testing i (at 3 w)) (tested i (at 3 w) d h) (decoded 13 w (unusedFrom 4 w) (testing (idIn w) (at 3 w)) refl t .call)
+      (ap (λ (j : Id). testing j (at 3 w)) e) p (tested-past i (at 3 w) d h f) (test-quiet (idIn w) (at 3 w))
 
   pub forget-head : is-some (decode 14 w) ≡ true → Promised (forgetting (at 0 w)) (released (at 0 w) d h) d h a k → HeadBy (decode 14 w) d h a k
   unfolding read perform

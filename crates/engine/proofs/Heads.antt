@@ -20,11 +20,11 @@ use Rattle.definition.proofs.Thin.{every-all, all-every}
 use Rattle.definition.proofs.Sound.{facts}
 use Rattle.state.specs.declared.Head.{Head}
 use Rattle.state.specs.declared.Answer.{Answer}
-use Rattle.state.specs.State.{headOf, headView, strictTables, loaded, stored, withCallsUsed, withProducers, withAudits, withIdle}
+use Rattle.state.specs.State.{headOf, headView, strictTables, loaded, storedHead, withUsedCalls, withProducerCount, withAuditCount, withIdleMark}
 use Rattle.state.proofs.View.{loaded-view, settled, settled-same, stored-view, stored-formed, stored-past, stored-length}
 use Rattle.state.proofs.Counts.{used-view}
 use Rattle.state.proofs.Fitting.{sound-facts}
-use Rattle.producers.specs.Producers.{Left, headFits, destOf, Performs}
+use Rattle.producers.specs.Producers.{HeadLeft, headFits, headDest, PerformsInHead}
 use Rattle.producers.proofs.Tables.{counts}
 use Rattle.engine.specs.Called.{outcome, Called}
 use Rattle.engine.proofs.Refusing.{step-refused, step-done, done-sound}
@@ -48,7 +48,7 @@ module _ (h : List ℕ) (subs rows events : List Row) (roomy : short (lengthsOf 
 module _ (h : List ℕ) (subs rows events : List Row) (code : ℕ) (ws : List ℕ) (roomy : short (lengthsOf (lent h subs rows) (length events)) ≡ false)
     (coded : eqb code 0 ≡ false) (s : soundBuffers (lent h subs rows) ≡ true) (c : Call) (decoded : decode code ws ≡ some c) (ok : argumentsOk c ≡ true)
     (left : eqb (view (lent h subs rows) .callsUsed) (view (lent h subs rows) .callLimit) ≡ false)
-    (a : Answer) (k : List ℕ) (p : Performs c (loaded h subs) h a k) (past : drop 8345 k ≡ drop 8345 h) (silent : perform (view (lent h subs rows)) c .events ≡ [])
+    (a : Answer) (k : List ℕ) (p : PerformsInHead c (loaded h subs) h a k) (past : drop 8345 k ≡ drop 8345 h) (silent : perform (view (lent h subs rows)) c .events ≡ [])
   where
     abbrev b : Buffers
     b = lent h subs rows
@@ -68,9 +68,9 @@ module _ (h : List ℕ) (subs rows events : List Row) (code : ℕ) (ws : List �
     numbers : (at 12 h ≤ 32) × (at 13 h ≤ 32) × (at 14 h ≤ 8) × (usedRows b ≤ 512) × (ringsFormed (at 14 h) (drop 113 h) ≡ true)
     numbers = counted-numbers h subs rows events roomy s
 
-    shown : destOf d h subs rows ≡ view b
+    shown : headDest d h subs rows ≡ view b
     unfolding headOf
-    shown = ap (λ (x : Head). destOf x h subs rows) d-is ∙ loaded-view subs rows h (usedRows b)
+    shown = ap (λ (x : Head). headDest x h subs rows) d-is ∙ loaded-view subs rows h (usedRows b)
 
     fit : headFits (length h) d ≡ true
     fit = loaded-fit h subs rows events roomy s
@@ -83,7 +83,7 @@ module _ (h : List ℕ) (subs rows events : List Row) (code : ℕ) (ws : List �
     own = p .refusal rings subs rows ∙ rw fit (ap (λ (t : Dest). ownRefusal t c) shown)
 
     pub own-kept : (n : ℕ) → a .refusal ≡ suc n → k ≡ h
-    own-kept n e = ap (λ (x : Left). x .words) (p .kept (λ z. absurd (omega (arith, z, e))))
+    own-kept n e = ap (λ (x : HeadLeft). x .words) (p .kept (λ z. absurd (omega (arith, z, e))))
 
     pub own-called : (n : ℕ) → a .refusal ≡ suc n → Called q b b events events (outcome (suc n) 0 0)
     own-called n e = refused-called n b events q (step-refused b (length events) code ws roomy coded s c decoded ok n left (sym own ∙ e))
@@ -99,10 +99,10 @@ module _ (h : List ℕ) (subs rows events : List Row) (code : ℕ) (ws : List �
       r = a .head
 
       abbrev last : Head
-      last = withCallsUsed (more (r .«calls_used»)) r
+      last = withUsedCalls (more (r .«calls_used»)) r
 
       abbrev b′ : Buffers
-      b′ = lent (stored last k) subs rows
+      b′ = lent (storedHead last k) subs rows
 
       long′ : 8347 ≤ length k
       long′ = omega (arith, long, p .long)
@@ -127,7 +127,7 @@ module _ (h : List ℕ) (subs rows events : List Row) (code : ℕ) (ws : List �
       same-strict : strictTables r subs rows ≡ strictTables d subs rows
       same-strict = ap (λ (x : Head). strictTables x subs rows) (p .others)
 
-      left-dest : destOf r k subs rows ≡ perform (view b) c .dest
+      left-dest : headDest r k subs rows ≡ perform (view b) c .dest
       left-dest =
           let f = sound-facts b (length events) (Ending.long h subs rows events roomy s) s in
           p .done e rings subs rows (few-consumers (f .subs-long)) (few-rows (f .rows-long)) ∙ ap (λ (t : Dest). perform t c .dest) shown
@@ -141,8 +141,8 @@ module _ (h : List ℕ) (subs rows events : List Row) (code : ℕ) (ws : List �
       few-calls : r .«calls_used» < 18446744073709551615
       unfolding headView
       few-calls =
-          let y : sound (used (destOf r k subs rows)) ≡ true = ap (λ (t : Dest). sound (used t)) left-dest ∙ z in
-          let t = facts (used (destOf r k subs rows)) y in
+          let y : sound (used (headDest r k subs rows)) ≡ true = ap (λ (t : Dest). sound (used t)) left-dest ∙ z in
+          let t = facts (used (headDest r k subs rows)) y in
           omega (arith, leb-true (r .«calls_used» + 1) (r .«call_limit») (t .calls), leb-true (r .«call_limit») (2 ^ 40) (t .limit-high))
 
       shows : view b′ ≡ used (perform (view b) c .dest)

@@ -7,6 +7,7 @@ use native.Mathlib.Omega.{arith}
 use borrow.Author.Tests.{leb-true, leb-false, ltb-true, ltb-false, eqb-false, lt-ltb, le-ltb, ne-eqb}
 use lib.Dec.{leb, ltb, eqb}
 use lib.ListN.{length, take, drop, getD}
+use Rattle.definition.specs.Layout.{Row}
 use Rattle.words.proofs.Tests.{by-test}
 use Rattle.entry.specs.Entry.{entryOf}
 use Rattle.definition.specs.Base.{if_then_else_, member}
@@ -14,7 +15,7 @@ use Rattle.definition.specs.Types.{Entry}
 use Rattle.definition.specs.Destination.{insert}
 use Rattle.definition.specs.Calls.{seqs}
 use Rattle.definition.proofs.Tests.{or-no-left, or-no-right}
-use Rattle.table.specs.Table.{Row, placeFrom}
+use Rattle.table.specs.Table.{placeFrom}
 use Rattle.table.proofs.Search.{place-from-within}
 
 -- the number of a row's entry is its first word

@@ -12,13 +12,13 @@ use Rattle.definition.specs.Base.{all, ascending, empty}
 use Rattle.definition.specs.Types.{topic, Dest}
 use Rattle.definition.specs.Types as Def
 use Rattle.definition.specs.Calls.{seqs, placed, subSound}
-use Rattle.definition.specs.Layout.{Row, heldAt, inflightOf, heldOf, subAt, subsAt, subRows}
+use Rattle.definition.specs.Layout.{Row, heldAt, inflightCount, heldCount, subAt, subsAt, subRows}
 use Rattle.definition.proofs.Tests.{and-left, and-right}
 use Rattle.definition.proofs.Lists.{empty-nil}
 use Rattle.definition.proofs.Fit as Fit
 use Rattle.definition.proofs.Sound.{facts}
 use Rattle.consumers.specs.declared.Sub.{Sub}
-use Rattle.consumers.specs.Consumers.{subOf}
+use Rattle.consumers.specs.Consumers.{rowSub}
 use Rattle.consumers.specs.Seats.{heldIn, subIn}
 use Rattle.consumers.proofs.View.{inflight-loaded, held-loaded, rows-split, rows-next, subs-split}
 use Rattle.consumers.proofs.Strict.{all-right, all-weaker}
@@ -28,7 +28,7 @@ use Rattle.state.specs.Fits.{fits}
 use Rattle.state.specs.Ready.{Ready}
 use Rattle.state.proofs.Fitting.{view-fits, facts-fit}
 use Rattle.state.proofs.Ready.{seen}
-use Rattle.engine.specs.Arrivals.{inOrder, holdsInOrder, FannedOut, Standing}
+use Rattle.engine.specs.Arrivals.{rowsInOrder, holdsInOrder, FannedOut, Standing}
 use Rattle.engine.proofs.Insert.{entry-seq}
 use Rattle.engine.proofs.Used.{reservedRows, waitingRows}
 use Rattle.engine.proofs.RowParts.{reserved-length, waiting-length}
@@ -41,41 +41,41 @@ numbers (r ∷ l) = ap₂ (λ (n : ℕ) (ns : List ℕ). n ∷ ns) (entry-seq r)
 
 -- ---- the rows that a topic's consumer holds
 
-held-order : (ws rows : List Row) (i : ℕ) → holdsInOrder (subIn topic ws rows i) ≡ true → inOrder (heldIn ws rows i) ≡ true
+held-order : (ws rows : List Row) (i : ℕ) → holdsInOrder (subIn topic ws rows i) ≡ true → rowsInOrder (heldIn ws rows i) ≡ true
 unfolding subAt
 held-order ws rows i h = ap ascending (sym (numbers (heldIn ws rows i))) ∙ h
 
 -- the consumer at i, as loaded; its rows begin at base
-module _ (ws rows : List Row) (i base : ℕ) (s : Sub) (begins : base ≡ subRows (take i ws)) (es : s ≡ subOf (getD ws i [])) where
+module _ (ws rows : List Row) (i base : ℕ) (s : Sub) (begins : base ≡ subRows (take i ws)) (es : s ≡ rowSub (getD ws i [])) where
   abbrev w : Row
   w = getD ws i []
 
-  pub flies : s .inflight ≡ inflightOf w
+  pub flies : s .inflight ≡ inflightCount w
   flies = ap (λ (x : Sub). x .inflight) es ∙ inflight-loaded w
 
-  pub keeps : s .held ≡ heldOf w
+  pub keeps : s .held ≡ heldCount w
   keeps = ap (λ (x : Sub). x .held) es ∙ held-loaded w
 
   held-slice : heldIn ws rows i ≡ slice (base + s .inflight) (base + s .inflight + s .held) rows
   held-slice =
       let n : ℕ = subRows (take i ws) in
-      ap (take (heldOf w)) (drop-drop (inflightOf w) n rows)
-      ∙ part (n + inflightOf w) (heldOf w) rows
+      ap (take (heldCount w)) (drop-drop (inflightCount w) n rows)
+      ∙ part (n + inflightCount w) (heldCount w) rows
       ∙ sym (λ j. slice (begins j + flies j) (begins j + flies j + keeps j) rows)
 
-  pub held-rise : holdsInOrder (subIn topic ws rows i) ≡ true → inOrder (slice (base + s .inflight) (base + s .inflight + s .held) rows) ≡ true
-  held-rise h = ap (λ (l : List Row). inOrder l) (sym held-slice) ∙ held-order ws rows i h
+  pub held-rise : holdsInOrder (subIn topic ws rows i) ≡ true → rowsInOrder (slice (base + s .inflight) (base + s .inflight + s .held) rows) ≡ true
+  held-rise h = ap (λ (l : List Row). rowsInOrder l) (sym held-slice) ∙ held-order ws rows i h
 
 -- one turn over n consumers
-module _ (n : ℕ) (subs rows : List Row) (f : FannedOut n subs rows) (i base : ℕ) (s : Sub) (less : i < n) (begins : base ≡ subRows (take i (take n subs))) (es : s ≡ subOf (getD subs i [])) where
+module _ (n : ℕ) (subs rows : List Row) (f : FannedOut n subs rows) (i base : ℕ) (s : Sub) (less : i < n) (begins : base ≡ subRows (take i (take n subs))) (es : s ≡ rowSub (getD subs i [])) where
   abbrev ws : List Row
   ws = take n subs
 
   here : i < length ws
   here = omega (arith, length-take-le n subs (f .subs-long))
 
-  loaded : s ≡ subOf (getD ws i [])
-  loaded = es ∙ ap subOf (sym (getD-take n subs i [] less))
+  loaded : s ≡ rowSub (getD ws i [])
+  loaded = es ∙ ap rowSub (sym (getD-take n subs i [] less))
 
   pub turn-within : base + s .inflight + s .held ≤ subRows ws
   turn-within = omega (arith, rows-split ws i here, begins, flies ws rows i base s begins loaded, keeps ws rows i base s begins loaded)
@@ -85,7 +85,7 @@ module _ (n : ℕ) (subs rows : List Row) (f : FannedOut n subs rows) (i base : 
       let e = ap (λ (j : ℕ). subRows (take j ws)) (add-one i) in
       omega (arith, e, rows-next ws i here, begins, flies ws rows i base s begins loaded, keeps ws rows i base s begins loaded)
 
-  pub turn-order : inOrder (slice (base + s .inflight) (base + s .inflight + s .held) rows) ≡ true
+  pub turn-order : rowsInOrder (slice (base + s .inflight) (base + s .inflight + s .held) rows) ≡ true
   turn-order =
       held-rise ws rows i base s begins loaded
       (and-left (holdsInOrder (subIn topic ws rows i)) _ (all-right holdsInOrder (subsAt topic (take i ws) rows) _ (ap (all holdsInOrder) (sym (subs-split topic ws rows i here)) ∙ f .held)))
@@ -113,9 +113,9 @@ module _ (d : Head) (subs rows events : List Row) (a : Ready d subs rows events)
       let last : n + d .reserved + d .waiting ≡ d .used = omega arith in
       ap (take (d .waiting)) (drop-drop (d .reserved) n rows) ∙ part (n + d .reserved) (d .waiting) rows ∙ ap₂ (λ (x y : ℕ). slice x y rows) first last
 
-  waiting-order : inOrder (slice (firstWaiting d) (d .used) rows) ≡ true
+  waiting-order : rowsInOrder (slice (firstWaiting d) (d .used) rows) ≡ true
   unfolding headView
-  waiting-order = ap (λ (l : List Row). inOrder l) (sym waiting-rows) ∙ ap ascending (sym (numbers (waitingRows d subs rows))) ∙ facts t (a .is-sound) .sorted
+  waiting-order = ap (λ (l : List Row). rowsInOrder l) (sym waiting-rows) ∙ ap ascending (sym (numbers (waitingRows d subs rows))) ∙ facts t (a .is-sound) .sorted
 
   each-order : d .queue ≡ false → all holdsInOrder (subsAt topic (take (d .consumers) subs) rows) ≡ true
   unfolding headView

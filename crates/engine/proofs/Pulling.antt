@@ -17,7 +17,7 @@ use Rattle.state.specs.State.{headView, doneAs}
 use Rattle.state.specs.Leaves.{silent, both, Leaves, LeavesIf}
 use Rattle.state.specs.Ready.{Ready}
 use Rattle.state.proofs.Leaves.{leaves-as, leaves-both, leaves-when}
-use Rattle.pulls.specs.Pulls.{pulls, registered, answered, answeredOut, OneMore, Answers, stands}
+use Rattle.pulls.specs.Pulls.{pulls, registered, answered, answeredOut, OneMore, PullAnswers, stands}
 use Rattle.pulls.proofs.Tested.{facts-stand}
 use Rattle.engine.specs.Requests.{pullOut, Pulled}
 use Rattle.engine.proofs.Asks.{pull-waits, pull-rests, registered-rests}
@@ -44,7 +44,7 @@ module _ (now : ℕ) (i : Id) (timeout : ℤ) (d : Head) (subs rows events : Lis
       (m : Head) (subs′ rows′ events′ : List Row) (l : Leaves (both (silent (registered i)) (dispatch now)) d m subs rows events subs′ rows′ events′) (few : m .events ≤ 544)
       (r : Answer) (subs″ events″ : List Row)
       (y : LeavesIf (stands subs′ m (length rows′) (length events′)) (OneMore m (r .head)) (answeredOut i timeout) m (r .head) subs′ rows′ events′ subs″ rows′ events″)
-      (z : Answers (stands subs′ m (length rows′) (length events′)) i timeout m subs′ rows′ r)
+      (z : PullAnswers (stands subs′ m (length rows′) (length events′)) i timeout m subs′ rows′ r)
     where
       stand : stands subs′ m (length rows′) (length events′) ≡ true
       stand = facts-stand subs′ m (length rows′) (length events′)

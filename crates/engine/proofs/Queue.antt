@@ -2,8 +2,7 @@
 use mathlib.Core.Path.{_≡_, refl, sym, ap, ap₂, _∙_}
 use mathlib.Core.Bool.{true}
 use mathlib.Core.List.{List, [], _∷_, _++_, append-assoc, append-nil, map}
-use Prim.Native.Nat.{ℕ, zero, suc, _+_, _-_, _≤_}
-use native.Mathlib.Nat.{not-suc-le-zero, le-of-suc-le-suc}
+use Prim.Native.Nat.{ℕ, suc, _+_, _-_, _≤_}
 use native.Mathlib.Omega.{arith}
 use lib.ListN.{length, take, drop, getD, length-append}
 use lib.Seq.{take-at, drop-at, drop-cons, take-add}
@@ -19,21 +18,14 @@ use Rattle.table.proofs.Laws.{insert-length, insert-after}
 use Rattle.consumers.specs.Table.{onFirst, heldBackRow}
 use Rattle.consumers.proofs.Laws.{on-first, on-length, hold-back-rows, hold-back-first}
 use Rattle.consumers.proofs.Strict.{all-left, all-right, strict-before, strict-front, tables-strict, strict-tables, strict-held-back}
+use Rattle.consumers.proofs.Lists.{on-past}
 use Rattle.state.specs.declared.Head.{Head}
 use Rattle.state.specs.State.{headView, kindBy, strictTables, firstWaiting}
-use Rattle.engine.specs.Storing.{rowsNeeded, queuedHead, waits}
+use Rattle.engine.specs.Storing.{rowsNeeded, queuedHead, waitsCounted}
 use Rattle.engine.specs.Arrivals.{Arrives, Arrived}
 use Rattle.engine.proofs.Insert.{insert-placed}
 use Rattle.engine.proofs.Used.{ownRows, reservedRows, waitingRows, absent-parts}
 use Rattle.engine.proofs.RowParts.{withRow, with-row-length, own-row-strict, with-row-strict, put-in, made, view-parts, rows-in-parts, own-length, reserved-length, waiting-length}
-
--- past the first n rows nothing was changed
-pub on-past : (f : Row → Row) (n m : ℕ) (ws : List Row) → n ≤ m → drop m (onFirst f n ws) ≡ drop m ws
-unfolding onFirst
-on-past f zero m ws h = refl
-on-past f (suc n) zero ws h = absurd (not-suc-le-zero h)
-on-past f (suc n) (suc m) [] h = refl
-on-past f (suc n) (suc m) (w ∷ ws) h = on-past f n m ws (le-of-suc-le-suc h)
 
 module _ (e : Entry) (d : Head) (subs rows : List Row) (a : Arrives e d subs rows) (q : d .queue ≡ true) where
   abbrev row : Row
@@ -107,7 +99,7 @@ module _ (e : Entry) (d : Head) (subs rows : List Row) (a : Arrives e d subs row
   own-rows : n ≡ subRows (take (d .consumers) subs′)
   own-rows = sym (ap subRows (on-first (heldBackRow (e .seq)) (d .consumers) subs) ∙ hold-back-rows (e .seq) (take (d .consumers) subs))
 
-  view : (ps : List Id) (qs : List Audit) → headView (queuedHead d) subs′ rows′ ps qs ≡ waits e (headView d subs rows ps qs)
+  view : (ps : List Id) (qs : List Audit) → headView (queuedHead d) subs′ rows′ ps qs ≡ waitsCounted e (headView d subs rows ps qs)
   view ps qs =
       let g : ℕ = d .waiting + 1 in
       let lo = own-length d subs rows (a .rows-used) within in
@@ -123,7 +115,7 @@ module _ (e : Entry) (d : Head) (subs rows : List Row) (a : Arrives e d subs row
       new
       ∙ ap (λ (x : List Sub). made (queuedHead d) x reserved (withRow k row waiting) ps qs) mine
       ∙ ap (λ (x : List Entry). withPending x (made (queuedHead d) (map (holdBack (e .seq)) (subsAt (kindBy (d .queue)) (take (d .consumers) subs) own)) reserved waiting ps qs)) inserted
-      ∙ ap (waits e) (sym old)
+      ∙ ap (waitsCounted e) (sym old)
 
   -- strict words stay strict
   strict : strictTables d subs rows ≡ true → strictTables (queuedHead d) subs′ rows′ ≡ true
@@ -153,7 +145,7 @@ module _ (e : Entry) (d : Head) (subs rows : List Row) (a : Arrives e d subs row
         others = ap (all entryStrict) past ∙ all-append entryStrict reserved new (all-left entryStrict reserved waiting were) (with-row-strict k row waiting (own-row-strict e (a .row)) (all-right entryStrict reserved waiting were));
       })
 
-  pub queued-arrived : Arrived (waits e) d (queuedHead d) subs rows subs′ rows′
+  pub queued-arrived : Arrived (waitsCounted e) d (queuedHead d) subs rows subs′ rows′
   queued-arrived events = (
     record {
       view = λ ps qs _. view ps qs;
@@ -175,5 +167,5 @@ module _ (e : Entry) (d : Head) (subs rows : List Row) (a : Arrives e d subs row
       rows-length = insert-length at (d .used) row rows;
       events-length = refl;
     },
-    (omega (arith, needs-one), refl),
+    record { room = omega (arith, needs-one); as-many = refl },
   )

@@ -1,23 +1,22 @@
 -- A call on sound buffers from its performance to its end. Assumes nothing.
 use mathlib.Core.Path.{_≡_, refl, sym, ap, _∙_, subst, subst⁻¹}
 use mathlib.Core.Bool.{Bool, true, false, not, _&&_, true≢false}
-use mathlib.Core.List.{List, []}
+use mathlib.Core.List.{List}
 use mathlib.Core.Option.{Option, none, some}
 use Prim.Native.Nat.{ℕ, zero, suc, _≤_, _<_}
 use native.Mathlib.Omega.{arith}
 use borrow.Author.Tests.{eq-eqb, ne-eqb, lt-ltb, le-ltb}
 use lib.Dec.{eqb, ltb, eqb·suc-zero}
-use lib.ListN.{length, drop}
+use lib.ListN.{length}
 use Rattle.definition.specs.Base.{if_then_else_, is-some}
-use Rattle.definition.specs.Types.{Dest}
-use Rattle.definition.specs.Calls.{Lengths, stateShort, short, Call, Result, argumentsOk, perform}
-use Rattle.definition.specs.Words.{provided, read, inRange, decode, openWords}
-use Rattle.definition.specs.Layout.{Row, Buffers, usedRows, view, soundBuffers, lengthsOf, bufferStep}
+use Rattle.definition.specs.Calls.{Lengths, stateShort, short, Call, Result, argumentsOk}
+use Rattle.definition.specs.Words.{read, decode, openWords}
+use Rattle.definition.specs.Layout.{Row, Buffers, view, soundBuffers, lengthsOf, bufferStep}
 use Rattle.definition.proofs.Tests.{by-test, if-true, if-false}
+use Rattle.definition.proofs.Made.{inRange-ok}
 use Rattle.state.specs.declared.Head.{Head}
 use Rattle.state.specs.declared.Answer.{Answer}
-use Rattle.state.specs.State.{headOf, headView, loaded, stored}
-use Rattle.state.specs.Leaves.{Untouched}
+use Rattle.state.specs.State.{loaded, storedHead}
 use Rattle.state.specs.Ready.{Ready}
 use Rattle.producers.specs.Producers.{headFits}
 use Rattle.engine.specs.declared.Outcome.{Outcome}
@@ -28,21 +27,6 @@ use Rattle.engine.proofs.Refusing.{step-undecoded, step-spent, step-uno
 use Rattle.engine.proofs.Called.{lent, refused-called, opened-called, own-called, done-called}
 use Rattle.engine.proofs.Ending as Ending
 use Rattle.engine.proofs.Heads as Heads
-
--- what is decoded is in range
-in-range : (o : Option Call) (c : Call) → inRange o ≡ some c → argumentsOk c ≡ true
-unfolding provided
-in-range none c e = absurd (let z : _≡_ {A = ℕ} 0 1 = ap (λ (o : Option Call). if is-some o then 1 else 0) e in omega arith)
-in-range (some x) c e = by-test (argumentsOk x)
-    (λ t. subst (λ (y : Call). argumentsOk y ≡ true) (same (sym (if-true (some x) none t) ∙ e)) t)
-    (λ t. absurd (let z : _≡_ {A = ℕ} 0 1 = ap (λ (o : Option Call). if is-some o then 1 else 0) (sym (if-false (some x) none t) ∙ e) in omega arith))
-  where
-    same : {y z : Call} → some y ≡ some z → y ≡ z
-    same {y} {z} e = ap (λ (o : Option Call). from y o) e
-      where
-        from : Call → Option Call → Call
-        from d none = d
-        from d (some v) = v
 
 module _ (h : List ℕ) (subs rows events : List Row) (code : ℕ) (ws : List ℕ)
     (roomy : short (lengthsOf (lent h subs rows) (length events)) ≡ false)
@@ -70,7 +54,7 @@ module _ (h : List ℕ) (subs rows events : List Row) (code : ℕ) (ws : List �
     spent-at : (o : Option Call) → decode code ws ≡ o → is-some o ≡ true → eqb (view b .callsUsed) (view b .callLimit) ≡ true → Called q b b events events (outcome 9 0 0)
     unfolding decode
     spent-at none e t l = absurd (true≢false (sym t))
-    spent-at (some c) e t l = refused-called 8 b events q (step-spent b (length events) code ws roomy coded s c e (in-range (read code ws) c e) l)
+    spent-at (some c) e t l = refused-called 8 b events q (step-spent b (length events) code ws roomy coded s c e (inRange-ok (read code ws) c e) l)
 
     pub spent-called : is-some (decode code ws) ≡ true → d .«calls_used» ≡ d .«call_limit» → Called q b b events events (outcome 9 0 0)
     spent-called t e = spent-at (decode code ws) refl t (sym (Ending.calls-are h subs rows events roomy s) ∙ eq-eqb _ _ e)
@@ -87,20 +71,20 @@ module _ (h : List ℕ) (subs rows events : List Row) (code : ℕ) (ws : List �
 
       module _ (a : Answer) (r : Outcome) (said : r ≡ finished a) where
         -- on the tables
-        module _ (subs′ rows′ events′ : List Row) (h′ : List ℕ) (ends : h′ ≡ (if eqb (a .refusal) 0 then stored (counted (a .head)) h else h)) where
+        module _ (subs′ rows′ events′ : List Row) (h′ : List ℕ) (ends : h′ ≡ (if eqb (a .refusal) 0 then storedHead (counted (a .head)) h else h)) where
           at-zero : (c : Call) → decode code ws ≡ some c → argumentsOk c ≡ true → Performs c d a subs rows events subs′ rows′ events′ → a .refusal ≡ 0 → Called q b (lent h′ subs′ rows′) events events′ r
           at-zero c e ok p z =
               let t : eqb (a .refusal) 0 ≡ true = eq-eqb (a .refusal) 0 z in
-              let x : h′ ≡ stored (counted (a .head)) h = ends ∙ if-true (stored (counted (a .head)) h) h t in
+              let x : h′ ≡ storedHead (counted (a .head)) h = ends ∙ if-true (storedHead (counted (a .head)) h) h t in
               let y : r ≡ outcome 0 (a .answer) (a .head .events) = said ∙ if-true (outcome 0 (a .answer) (a .head .events)) (outcome (a .refusal) 0 0) t in
               subst⁻¹ (λ (k : List ℕ). Called q b (lent k subs′ rows′) events events′ r) x
-              (subst⁻¹ (λ (o : Outcome). Called q b (lent (stored (counted (a .head)) h) subs′ rows′) events events′ o) y
+              (subst⁻¹ (λ (o : Outcome). Called q b (lent (storedHead (counted (a .head)) h) subs′ rows′) events events′ o) y
               (done-called h subs rows events code ws roomy coded s c e ok left a subs′ rows′ events′ p z))
 
           at-more : (c : Call) → decode code ws ≡ some c → argumentsOk c ≡ true → Performs c d a subs rows events subs′ rows′ events′ → (n : ℕ) → a .refusal ≡ suc n → Called q b (lent h′ subs′ rows′) events events′ r
           at-more c e ok p n z =
               let t : eqb (a .refusal) 0 ≡ false = ap (λ (k : ℕ). eqb k 0) z ∙ eqb·suc-zero n in
-              let x : h′ ≡ h = ends ∙ if-false (stored (counted (a .head)) h) h t in
+              let x : h′ ≡ h = ends ∙ if-false (storedHead (counted (a .head)) h) h t in
               let y : r ≡ outcome (suc n) 0 0 = said ∙ if-false (outcome 0 (a .answer) (a .head .events)) (outcome (a .refusal) 0 0) t ∙ ap (λ (k : ℕ). outcome k 0 0) z in
               let u = p .kept (λ o. absurd (omega (arith, o, z))) in
               let v : Called q b b events events (outcome (suc n) 0 0) = own-called h subs rows events code ws roomy coded s c e ok left a subs′ rows′ events′ p n z in
@@ -116,27 +100,27 @@ module _ (h : List ℕ) (subs rows events : List Row) (code : ℕ) (ws : List �
           ran-at : (o : Option Call) → decode code ws ≡ o → is-some o ≡ true → PerformsBy o d a subs rows events subs′ rows′ events′ → Called q b (lent h′ subs′ rows′) events events′ r
           unfolding decode
           ran-at none e t p = absurd (true≢false (sym t))
-          ran-at (some c) e t p = by-refusal c e (in-range (read code ws) c e) p (a .refusal) refl
+          ran-at (some c) e t p = by-refusal c e (inRange-ok (read code ws) c e) p (a .refusal) refl
 
           pub ran : is-some (decode code ws) ≡ true → PerformsBy (decode code ws) d a subs rows events subs′ rows′ events′ → Called q b (lent h′ subs′ rows′) events events′ r
           ran t p = ran-at (decode code ws) refl t p
 
         -- in the head
-        module _ (k h′ : List ℕ) (ends : h′ ≡ (if eqb (a .refusal) 0 then stored (counted (a .head)) k else k)) where
+        module _ (k h′ : List ℕ) (ends : h′ ≡ (if eqb (a .refusal) 0 then storedHead (counted (a .head)) k else k)) where
           head-zero : (c : Call) → decode code ws ≡ some c → argumentsOk c ≡ true → InHead c d h a k → a .refusal ≡ 0 → Called q b (lent h′ subs rows) events events r
           head-zero c e ok p z =
               let t : eqb (a .refusal) 0 ≡ true = eq-eqb (a .refusal) 0 z in
-              let x : h′ ≡ stored (counted (a .head)) k = ends ∙ if-true (stored (counted (a .head)) k) k t in
+              let x : h′ ≡ storedHead (counted (a .head)) k = ends ∙ if-true (storedHead (counted (a .head)) k) k t in
               let n : a .head .events ≡ 0 = ap (λ (y : Head). y .events) (p .performs .others) ∙ Ending.none-sent h subs rows events roomy s in
               let y : r ≡ outcome 0 (a .answer) 0 = said ∙ if-true (outcome 0 (a .answer) (a .head .events)) (outcome (a .refusal) 0 0) t ∙ ap (outcome 0 (a .answer)) n in
               subst⁻¹ (λ (m : List ℕ). Called q b (lent m subs rows) events events r) x
-              (subst⁻¹ (λ (o : Outcome). Called q b (lent (stored (counted (a .head)) k) subs rows) events events o) y
+              (subst⁻¹ (λ (o : Outcome). Called q b (lent (storedHead (counted (a .head)) k) subs rows) events events o) y
               (Heads.done-called h subs rows events code ws roomy coded s c e ok left a k (p .performs) (p .past) (p .silent (view b)) z))
 
           head-more : (c : Call) → decode code ws ≡ some c → argumentsOk c ≡ true → InHead c d h a k → (n : ℕ) → a .refusal ≡ suc n → Called q b (lent h′ subs rows) events events r
           head-more c e ok p n z =
               let t : eqb (a .refusal) 0 ≡ false = ap (λ (m : ℕ). eqb m 0) z ∙ eqb·suc-zero n in
-              let x : h′ ≡ h = ends ∙ if-false (stored (counted (a .head)) k) k t ∙ Heads.own-kept h subs rows events code ws roomy coded s c e ok left a k (p .performs) (p .past) (p .silent (view b)) n z in
+              let x : h′ ≡ h = ends ∙ if-false (storedHead (counted (a .head)) k) k t ∙ Heads.own-kept h subs rows events code ws roomy coded s c e ok left a k (p .performs) (p .past) (p .silent (view b)) n z in
               let y : r ≡ outcome (suc n) 0 0 = said ∙ if-false (outcome 0 (a .answer) (a .head .events)) (outcome (a .refusal) 0 0) t ∙ ap (λ (m : ℕ). outcome m 0 0) z in
               subst⁻¹ (λ (m : List ℕ). Called q b (lent m subs rows) events events r) x
               (subst⁻¹ (λ (o : Outcome). Called q b b events events o) y
@@ -149,7 +133,7 @@ module _ (h : List ℕ) (subs rows events : List Row) (code : ℕ) (ws : List �
           head-at : (o : Option Call) → decode code ws ≡ o → is-some o ≡ true → HeadBy o d h a k → Called q b (lent h′ subs rows) events events r
           unfolding decode
           head-at none e t p = absurd (true≢false (sym t))
-          head-at (some c) e t p = head-refusal c e (in-range (read code ws) c e) p (a .refusal) refl
+          head-at (some c) e t p = head-refusal c e (inRange-ok (read code ws) c e) p (a .refusal) refl
 
           pub ran-head : is-some (decode code ws) ≡ true → HeadBy (decode code ws) d h a k → Called q b (lent h′ subs rows) events events r
           ran-head t p = head-at (decode code ws) refl t p
@@ -184,12 +168,12 @@ module _ (h : List ℕ) (subs rows events : List Row) (code : ℕ) (ws : List �
       pub fit-run : headFits (length h) x ≡ true
       fit-run = subst⁻¹ (λ (y : Head). headFits (length h) y ≡ true) is (run-fit h subs rows events code ws roomy known-code s more-left)
 
-      pub tables-run : (a : Answer) (r : Outcome) → r ≡ finished a → (subs′ rows′ events′ : List Row) (h′ : List ℕ) → h′ ≡ (if eqb (a .refusal) 0 then stored (counted (a .head)) h else h)
+      pub tables-run : (a : Answer) (r : Outcome) → r ≡ finished a → (subs′ rows′ events′ : List Row) (h′ : List ℕ) → h′ ≡ (if eqb (a .refusal) 0 then storedHead (counted (a .head)) h else h)
           → PerformsBy (decode code ws) x a subs rows events subs′ rows′ events′ → Called said-by (lent h subs rows) (lent h′ subs′ rows′) events events′ r
       tables-run a r said subs′ rows′ events′ h′ ends p = ran h subs rows events code ws roomy known-code s more-left a r said subs′ rows′ events′ h′ ends t
           (subst (λ (y : Head). PerformsBy (decode code ws) y a subs rows events subs′ rows′ events′) is p)
 
-      pub head-run : (a : Answer) (r : Outcome) → r ≡ finished a → (k h′ : List ℕ) → h′ ≡ (if eqb (a .refusal) 0 then stored (counted (a .head)) k else k)
+      pub head-run : (a : Answer) (r : Outcome) → r ≡ finished a → (k h′ : List ℕ) → h′ ≡ (if eqb (a .refusal) 0 then storedHead (counted (a .head)) k else k)
           → HeadBy (decode code ws) x h a k → Called said-by (lent h subs rows) (lent h′ subs rows) events events r
       head-run a r said k h′ ends p = ran-head h subs rows events code ws roomy known-code s more-left a r said k h′ ends t
           (subst (λ (y : Head). HeadBy (decode code ws) y h a k) is p)
@@ -222,12 +206,12 @@ both-yes a b e f = sym (ap (λ (x : Bool). not x && b) e) ∙ f
 -- ---- an open
 
 module _ (h : List ℕ) (subs rows events : List Row) (code : ℕ) (ws : List ℕ) (roomy : short (lengthsOf (lent h subs rows) (length events)) ≡ false) (zeroth : eqb code 0 ≡ true) where
-  pub opened-or : (r : Outcome) (h′ : List ℕ) → r ≡ (if openWords ws then outcome 0 0 0 else outcome 3 0 0) → h′ ≡ (if openWords ws then stored (openedHead ws) h else h)
+  pub opened-or : (r : Outcome) (h′ : List ℕ) → r ≡ (if openWords ws then outcome 0 0 0 else outcome 3 0 0) → h′ ≡ (if openWords ws then storedHead (openedHead ws) h else h)
       → Called (bufferStep (lent h subs rows) (length events) code ws) (lent h subs rows) (lent h′ subs rows) events events r
   opened-or r h′ e f = by-test (openWords ws)
-      (λ o. subst⁻¹ (λ (k : List ℕ). Called q (lent h subs rows) (lent k subs rows) events events r) (f ∙ if-true (stored (openedHead ws) h) h o)
-      (subst⁻¹ (λ (x : Outcome). Called q (lent h subs rows) (lent (stored (openedHead ws) h) subs rows) events events x) (e ∙ if-true (outcome 0 0 0) (outcome 3 0 0) o) (opened-called h subs rows events code ws roomy zeroth o)))
-      (λ o. subst⁻¹ (λ (k : List ℕ). Called q (lent h subs rows) (lent k subs rows) events events r) (f ∙ if-false (stored (openedHead ws) h) h o)
+      (λ o. subst⁻¹ (λ (k : List ℕ). Called q (lent h subs rows) (lent k subs rows) events events r) (f ∙ if-true (storedHead (openedHead ws) h) h o)
+      (subst⁻¹ (λ (x : Outcome). Called q (lent h subs rows) (lent (storedHead (openedHead ws) h) subs rows) events events x) (e ∙ if-true (outcome 0 0 0) (outcome 3 0 0) o) (opened-called h subs rows events code ws roomy zeroth o)))
+      (λ o. subst⁻¹ (λ (k : List ℕ). Called q (lent h subs rows) (lent k subs rows) events events r) (f ∙ if-false (storedHead (openedHead ws) h) h o)
       (subst⁻¹ (λ (x : Outcome). Called q (lent h subs rows) (lent h subs rows) events events x) (e ∙ if-false (outcome 0 0 0) (outcome 3 0 0) o) (refused-called 2 (lent h subs rows) events q (step-unopened (lent h subs rows) (length events) code ws roomy zeroth o))))
     where
       q : Result

@@ -17,13 +17,13 @@ use Rattle.definition.specs.Types as Def
 use Rattle.definition.specs.Consumer.{_⊕_, addExpired, addDiscarded}
 use Rattle.definition.specs.Destination.{Served, fanOut, fanOutAll}
 use Rattle.definition.specs.Calls.{seqs, consumerRows}
-use Rattle.definition.specs.Layout.{Row, inflightOf, heldOf, heldAt, subAt, eachSub, subsAt, subRows, entryStrict, subStrict, subsStrict}
+use Rattle.definition.specs.Layout.{Row, inflightCount, heldCount, heldAt, subAt, eachSub, subsAt, subRows, entryStrict, subStrict, subsStrict}
 use Rattle.definition.proofs.Tests.{and-left, or-no-right, if-false}
 use Rattle.definition.proofs.Local.{⊕-assoc}
 use Rattle.consumers.specs.declared.Sub.{Sub}
-use Rattle.consumers.specs.Consumers.{subOf, subWords, subView, acceptsOf}
+use Rattle.consumers.specs.Consumers.{rowSub, subWords, subView, acceptsOf}
 use Rattle.consumers.specs.Seats.{flyingIn, heldIn, afterIn, subIn}
-use Rattle.consumers.specs.Table.{takes}
+use Rattle.consumers.specs.Table.{takesEntry}
 use Rattle.consumers.proofs.View.{sub-at, sub-stored, inflight-stored, held-stored, inflight-loaded, held-loaded, rows-split, rows-take, rows-set, rows-append, each-before, subs-nth, subs-length, subs-put, rows-parts, flying-length, held-length, after-all, after-put}
 use Rattle.consumers.proofs.Laws.{rows-of-sub, consumer-rows}
 use Rattle.consumers.proofs.Strict.{all-rest, stored-strict, strict-at, strict-put, tables-strict, strict-tables}
@@ -33,7 +33,7 @@ use Rattle.state.proofs.Counts.{expired-plain, discarded-plain}
 use Rattle.engine.specs.Storing.{holds, rowsNeeded, spread}
 use Rattle.engine.specs.declared.fanning.Copied.{Copied}
 use Rattle.engine.specs.Copies.{copied, copiedRows, countedBy}
-use Rattle.engine.specs.Arrivals.{inOrder, holdsInOrder, Arrives, Arrived}
+use Rattle.engine.specs.Arrivals.{rowsInOrder, holdsInOrder, Arrives, Arrived}
 use Rattle.engine.proofs.Used.{reservedRows, waitingRows, holds-append, absent-parts}
 use Rattle.engine.proofs.Order.{held-rise}
 use Rattle.engine.proofs.Copy.{lost, lost-is, Copy, copy, copied-few}
@@ -52,7 +52,7 @@ pub record Round (now : ℕ) (e : Entry) (subs₀ rows₀ : List Row) (d₀ : He
   pub rows-past : drop 512 rows ≡ drop 512 rows₀
   pub begins : base ≡ subRows (take i (take (d₀ .consumers) subs))
   pub uses : subRows (take (d₀ .consumers) subs) + (d₀ .reserved + d₀ .waiting) ≡ used
-  pub room : d₀ .events + used + tally (takes e) (drop i (take (d₀ .consumers) subs)) ≤ 512
+  pub room : d₀ .events + used + tally (takesEntry e) (drop i (take (d₀ .consumers) subs)) ≤ 512
   pub few : expired + over + used ≤ 512 + i
   pub said : subsAt topic (take (d₀ .consumers) subs) rows
       ≡ fan now (d₀ .«topic_limit») e i (subsAt topic (take (d₀ .consumers) subs₀) rows₀) .subs ++ drop i (subsAt topic (take (d₀ .consumers) subs₀) rows₀)
@@ -85,8 +85,8 @@ module _ (now : ℕ) (e : Entry) (subs₀ rows₀ : List Row) (d₀ : Head) (a :
   abbrev all : List Def.Sub
   all = subsAt topic ws₀ rows₀
 
-  needs-tally : rowsNeeded e d₀ subs₀ ≡ tally (takes e) ws₀
-  needs-tally = if-false 1 (tally (takes e) ws₀) plain
+  needs-tally : rowsNeeded e d₀ subs₀ ≡ tally (takesEntry e) ws₀
+  needs-tally = if-false 1 (tally (takesEntry e) ws₀) plain
 
   -- before the first
   pub round-first : Round now e subs₀ rows₀ d₀ subs₀ rows₀ (d₀ .used) 0 0 0 0
@@ -129,7 +129,7 @@ module _ (now : ℕ) (e : Entry) (subs₀ rows₀ : List Row) (d₀ : Head) (a :
       w = getD ws i []
 
       abbrev s : Sub
-      s = subOf w
+      s = rowSub w
 
       abbrev post : List Row
       post = drop (suc i) ws
@@ -141,19 +141,19 @@ module _ (now : ℕ) (e : Entry) (subs₀ rows₀ : List Row) (d₀ : Head) (a :
       row-is = sym (getD-take n subs i [] less)
 
       split : subRows ws ≡ subRows (take i ws) + (s .inflight + (s .held + subRows post))
-      unfolding subOf
+      unfolding rowSub
       split = rows-split ws i here
 
       fits : subRows ws ≤ length rows
       fits = omega (arith, g .uses, g .room, g .same-rows, a .rows-long)
 
-      among : (t : Sub) → t ≡ subOf (getD subs i []) → (base + t .inflight + t .held ≤ used) × (used ≤ 512)
+      among : (t : Sub) → t ≡ rowSub (getD subs i []) → (base + t .inflight + t .held ≤ used) × (used ≤ 512)
       among t q =
           let f : (base + s .inflight + s .held ≤ used) × (used ≤ 512) = (omega (arith, split, g .begins, g .uses), omega (arith, g .room)) in
           rw (q, row-is) f
 
       -- no sum below is large
-      pub round-few : (t : Sub) (r : Copied) → t ≡ subOf (getD subs i []) → r ≡ copied now limit e base t used rows
+      pub round-few : (t : Sub) (r : Copied) → t ≡ rowSub (getD subs i []) → r ≡ copied now limit e base t used rows
           → (base + r .sub .inflight + r .sub .held ≤ 513) × (expired + r .expired ≤ 1057) × (over + r .over ≤ 1057)
       round-few t r q p =
           let f = copied-few now limit e base t used rows in
@@ -195,11 +195,11 @@ module _ (now : ℕ) (e : Entry) (subs₀ rows₀ : List Row) (d₀ : Head) (a :
       holding = held-length ws rows i here fits ∙ sym (held-loaded w)
 
       later-length : length later ≡ m
-      unfolding subOf
+      unfolding rowSub
       later-length =
           let x : ℕ = subRows (take i ws) in
           length-take-le m after
-          (omega (arith, length-drop (heldOf w) (drop (inflightOf w) (drop x rows)), length-drop (inflightOf w) (drop x rows), length-drop x rows, split, g .uses, g .room, g .same-rows, a .rows-long))
+          (omega (arith, length-drop (heldCount w) (drop (inflightCount w) (drop x rows)), length-drop (inflightCount w) (drop x rows), length-drop x rows, split, g .uses, g .room, g .same-rows, a .rows-long))
 
       -- the consumer is one that the definition has yet to serve
       abbrev it : Def.Sub
@@ -215,12 +215,12 @@ module _ (now : ℕ) (e : Entry) (subs₀ rows₀ : List Row) (d₀ : Head) (a :
       rest-is = nth-rest (fan now limit e i all .subs) (drop i all) it (ap₂ nth done-length (sym (g .said)) ∙ subs-nth topic ws rows i here)
 
       -- its rows are those that it had: what it holds is in order
-      pub round-fine : (t : Sub) → t ≡ subOf (getD subs i [])
-          → (base + t .inflight + t .held ≤ used) × (used ≤ 512) × (used ≤ length rows) × (inOrder (slice (base + t .inflight) (base + t .inflight + t .held) rows) ≡ true)
+      pub round-fine : (t : Sub) → t ≡ rowSub (getD subs i [])
+          → (base + t .inflight + t .held ≤ used) × (used ≤ 512) × (used ≤ length rows) × (rowsInOrder (slice (base + t .inflight) (base + t .inflight + t .held) rows) ≡ true)
       round-fine t q =
           let f = among t q in
           let o : holdsInOrder it ≡ true = and-left (holdsInOrder it) _ (ap (λ (l : List Def.Sub). Base.all holdsInOrder l) (sym rest-is) ∙ all-rest holdsInOrder i all (a .order .held plain)) in
-          (f .0, f .1, omega (arith, f .1, g .same-rows, a .rows-long), held-rise ws rows i base t (g .begins) (q ∙ ap subOf row-is) o)
+          (f .0, f .1, omega (arith, f .1, g .same-rows, a .rows-long), held-rise ws rows i base t (g .begins) (q ∙ ap rowSub row-is) o)
 
       missing : holds (e .seq) held ≡ false
       missing =
@@ -230,8 +230,8 @@ module _ (now : ℕ) (e : Entry) (subs₀ rows₀ : List Row) (d₀ : Head) (a :
           ap (λ (l : List Entry). member (e .seq) (seqs l)) (sym (rows-of-sub topic w flying held)) ∙ absent-first (e .seq) it (drop 1 (drop i all)) h in
           or-no-right (holds (e .seq) flying) _ (sym (holds-append (e .seq) flying held) ∙ o)
 
-      tally-is : tally (takes e) (drop i ws) ≡ (if acceptsOf s e then 1 else 0) + tally (takes e) post
-      tally-is = ap (tally (takes e)) (drop-cons ws i [] here)
+      tally-is : tally (takesEntry e) (drop i ws) ≡ (if acceptsOf s e then 1 else 0) + tally (takesEntry e) post
+      tally-is = ap (tally (takesEntry e)) (drop-cons ws i [] here)
 
       mine : Copy now limit e front flying held later s used rows (copied now limit e base s used rows) (copiedRows now limit e base s used rows)
       mine =
@@ -255,10 +255,10 @@ module _ (now : ℕ) (e : Entry) (subs₀ rows₀ : List Row) (d₀ : Head) (a :
         ws-is : take n subs′ ≡ set ws i w′
         ws-is = take-set-lt n subs i w′ less
 
-        in-flight : length flying ≡ inflightOf w′
+        in-flight : length flying ≡ inflightCount w′
         in-flight = flies ∙ sym (k .flying) ∙ sym (inflight-stored t)
 
-        held-now : length (k .held) ≡ heldOf w′
+        held-now : length (k .held) ≡ heldCount w′
         held-now = k .holding ∙ sym (held-stored t)
 
         before-long : subRows (take i ws) ≤ length rows
@@ -353,10 +353,10 @@ module _ (now : ℕ) (e : Entry) (subs₀ rows₀ : List Row) (d₀ : Head) (a :
         unfolding subWords
         used-next = omega (arith, rows-set ws i w′ here, split, k .flying, k .uses, g .uses)
 
-        room-next : d₀ .events + r .used + tally (takes e) (drop (i + 1) (set ws i w′)) ≤ 512
+        room-next : d₀ .events + r .used + tally (takesEntry e) (drop (i + 1) (set ws i w′)) ≤ 512
         room-next =
             let p : drop (i + 1) (set ws i w′) ≡ post = drop-set-lt (i + 1) ws i w′ (omega arith) ∙ ap (λ (j : ℕ). drop j ws) (add-one i) in
-            omega (arith, ap (tally (takes e)) p, tally-is, g .room, k .uses, k .most)
+            omega (arith, ap (tally (takesEntry e)) p, tally-is, g .room, k .uses, k .most)
 
         round-next : Round now e subs₀ rows₀ d₀ subs′ rows′ (r .used) (expired + r .expired) (over + r .over) (base + t .inflight + t .held) (i + 1)
         round-next = record {
@@ -376,10 +376,10 @@ module _ (now : ℕ) (e : Entry) (subs₀ rows₀ : List Row) (d₀ : Head) (a :
           strict = rw ws-is strict-next;
         }
 
-      pub round-turn : (t : Sub) (r : Copied) (subs′ rows′ : List Row) → t ≡ subOf (getD subs i []) → r ≡ copied now limit e base t used rows → rows′ ≡ copiedRows now limit e base t used rows
+      pub round-turn : (t : Sub) (r : Copied) (subs′ rows′ : List Row) → t ≡ rowSub (getD subs i []) → r ≡ copied now limit e base t used rows → rows′ ≡ copiedRows now limit e base t used rows
           → subs′ ≡ set subs i (subWords (r .sub)) → Round now e subs₀ rows₀ d₀ subs′ rows′ (r .used) (expired + r .expired) (over + r .over) (base + r .sub .inflight + r .sub .held) (i + 1)
       round-turn t r subs′ rows′ q p l h =
-          let is : t ≡ s = q ∙ ap subOf row-is in
+          let is : t ≡ s = q ∙ ap rowSub row-is in
           rw (h, p, l, is) (round-next (copied now limit e base s used rows) (copiedRows now limit e base s used rows) mine)
 
     -- all have theirs
@@ -473,5 +473,5 @@ module _ (now : ℕ) (e : Entry) (subs₀ rows₀ : List Row) (d₀ : Head) (a :
           rows-length = g .same-rows;
           events-length = refl;
         },
-        (omega (arith, g .room), refl),
+        record { room = omega (arith, g .room); as-many = refl },
       )

@@ -10,16 +10,17 @@ use lib.Seq.{slice, take-add, drop-drop}
 use Rattle.words.proofs.Tests.{by-test}
 use Rattle.entry.specs.Entry.{entryOf}
 use Rattle.definition.specs.Base.{if_then_else_, tally}
-use Rattle.definition.specs.Types.{Kind, Entry, Inflight, queue, topic}
+use Rattle.definition.specs.Types.{Kind, Entry, queue, topic}
 use Rattle.definition.specs.Consumer.{isBrowser}
 use Rattle.definition.specs.Words.{at}
 use Rattle.definition.specs.Calls.{rowsOf, flying, taken, consumerRows, ownRows, rowsFrom}
-use Rattle.definition.specs.Layout.{Row, flag, inflightAt, heldAt, inflightOf, heldOf, subAt, eachSub, subsAt, subRows}
+use Rattle.definition.specs.Layout.{Row, flag, heldAt, inflightCount, heldCount, subAt, eachSub, subsAt, subRows}
 use Rattle.definition.proofs.Thin.{tally-append}
+use Rattle.definition.proofs.Stored.{flying-rows}
 use Rattle.table.proofs.Lists.{slice-take}
 use Rattle.table.proofs.Segments.{tally-map, kept-length, tally-most}
 use Rattle.consumers.specs.declared.Sub.{Sub}
-use Rattle.consumers.specs.Consumers.{subOf}
+use Rattle.consumers.specs.Consumers.{rowSub}
 use Rattle.consumers.proofs.Lists.{first-next, first-ended}
 use Rattle.consumers.proofs.Laws.{browser-sub, rows-of-sub}
 use Rattle.consumers.proofs.View.{sub-at, inflight-loaded, held-loaded}
@@ -39,12 +40,8 @@ tally-least p l = omega (arith, kept-length p l)
 
 -- ---- the consumers' rows
 
-browser-at : (k : Kind) (w : Row) (f h : List Row) → isBrowser (subAt k w f h) ≡ subOf w .browser
-browser-at k w f h = ap isBrowser (sub-at k w f h) ∙ browser-sub k (subOf w) f h
-
-flown : (f : List Row) → map (λ (i : Inflight). i .entry) (map inflightAt f) ≡ map entryOf f
-flown [] = refl
-flown (r ∷ f) = ap (λ (l : List Entry). entryOf r ∷ l) (flown f)
+browser-at : (k : Kind) (w : Row) (f h : List Row) → isBrowser (subAt k w f h) ≡ rowSub w .browser
+browser-at k w f h = ap isBrowser (sub-at k w f h) ∙ browser-sub k (rowSub w) f h
 
 pub part : (base n : ℕ) (rows : List Row) → take n (drop base rows) ≡ slice base (base + n) rows
 part base n rows =
@@ -64,40 +61,40 @@ module _ (c : ℕ) where
   joined l m = tally-append (λ (e : Entry). eqb c (e .producer)) l m
 
   -- one consumer's, on a queue and on a topic
-  one-queue : (w : Row) (h rows : List Row) → (b : Bool) → subOf w .browser ≡ b
-      → rowsFrom c (if b then [] else flying (subAt queue w (take (inflightOf w) rows) h)) ≡ tally (cameFrom c) (take (if b then 0 else inflightOf w) rows)
+  one-queue : (w : Row) (h rows : List Row) → (b : Bool) → rowSub w .browser ≡ b
+      → rowsFrom c (if b then [] else flying (subAt queue w (take (inflightCount w) rows) h)) ≡ tally (cameFrom c) (take (if b then 0 else inflightCount w) rows)
   unfolding subAt
   one-queue w h rows true e = refl
-  one-queue w h rows false e = ap (rowsFrom c) (flown (take (inflightOf w) rows)) ∙ counted (take (inflightOf w) rows)
+  one-queue w h rows false e = ap (rowsFrom c) (flying-rows (take (inflightCount w) rows)) ∙ counted (take (inflightCount w) rows)
 
   one-topic : (w : Row) (rows : List Row)
-      → rowsFrom c (rowsOf (subAt topic w (take (inflightOf w) rows) (take (heldOf w) (drop (inflightOf w) rows)))) ≡ tally (cameFrom c) (take (inflightOf w + heldOf w) rows)
+      → rowsFrom c (rowsOf (subAt topic w (take (inflightCount w) rows) (take (heldCount w) (drop (inflightCount w) rows)))) ≡ tally (cameFrom c) (take (inflightCount w + heldCount w) rows)
   one-topic w rows =
-      let f : List Row = take (inflightOf w) rows in
-      let h : List Row = take (heldOf w) (drop (inflightOf w) rows) in
-      ap (rowsFrom c) (rows-of-sub topic w f h) ∙ counted (f ++ h) ∙ ap (tally (cameFrom c)) (sym (take-add (inflightOf w) (heldOf w) rows))
+      let f : List Row = take (inflightCount w) rows in
+      let h : List Row = take (heldCount w) (drop (inflightCount w) rows) in
+      ap (rowsFrom c) (rows-of-sub topic w f h) ∙ counted (f ++ h) ∙ ap (tally (cameFrom c)) (sym (take-add (inflightCount w) (heldCount w) rows))
 
   -- all of them, from a place on
   all-queue : (base : ℕ) (ws rows : List Row) → rowsFrom c (taken (subsAt queue ws (drop base rows))) ≡ takenFrom true c base ws rows
-  unfolding eachSub takenFrom subOf
+  unfolding eachSub takenFrom rowSub
   all-queue base [] rows = refl
   all-queue base (w ∷ ws) rows =
-      let a : ℕ = inflightOf w in
-      let b : ℕ = heldOf w in
+      let a : ℕ = inflightCount w in
+      let b : ℕ = heldCount w in
       let r : List Row = drop base rows in
       let s = subAt queue w (take a r) (take b (drop a r)) in
       let t = browser-at queue w (take a r) (take b (drop a r)) in
       joined (if isBrowser s then [] else flying s) (taken (subsAt queue ws (drop b (drop a r))))
       ∙ ap₂ (λ (x y : ℕ). x + y)
-      (ap (λ (x : Bool). rowsFrom c (if x then [] else flying s)) t ∙ one-queue w (take b (drop a r)) r (subOf w .browser) refl ∙ ap (tally (cameFrom c)) (part base (ownOf true (subOf w)) rows))
+      (ap (λ (x : Bool). rowsFrom c (if x then [] else flying s)) t ∙ one-queue w (take b (drop a r)) r (rowSub w .browser) refl ∙ ap (tally (cameFrom c)) (part base (ownOf true (rowSub w)) rows))
       (ap (λ (x : List Row). rowsFrom c (taken (subsAt queue ws x))) (later base a b rows) ∙ all-queue (base + (a + b)) ws rows)
 
   all-topic : (base : ℕ) (ws rows : List Row) → rowsFrom c (consumerRows (subsAt topic ws (drop base rows))) ≡ takenFrom false c base ws rows
-  unfolding eachSub takenFrom subOf
+  unfolding eachSub takenFrom rowSub
   all-topic base [] rows = refl
   all-topic base (w ∷ ws) rows =
-      let a : ℕ = inflightOf w in
-      let b : ℕ = heldOf w in
+      let a : ℕ = inflightCount w in
+      let b : ℕ = heldCount w in
       let r : List Row = drop base rows in
       joined (rowsOf (subAt topic w (take a r) (take b (drop a r)))) (consumerRows (subsAt topic ws (drop b (drop a r))))
       ∙ ap₂ (λ (x y : ℕ). x + y)
@@ -141,7 +138,7 @@ module _ (c : ℕ) where
 
   module _ (q : Bool) (i k : ℕ) (subs rows : List Row) where
     pub taken-next : (base : ℕ) → i < min k (length subs) → takenFrom q c base (slice i k subs) rows
-        ≡ tally (cameFrom c) (slice base (base + ownOf q (subOf (getD subs i []))) rows) + takenFrom q c (base + (inflightOf (getD subs i []) + heldOf (getD subs i []))) (slice (i + 1) k subs) rows
+        ≡ tally (cameFrom c) (slice base (base + ownOf q (rowSub (getD subs i []))) rows) + takenFrom q c (base + (inflightCount (getD subs i []) + heldCount (getD subs i []))) (slice (i + 1) k subs) rows
     unfolding takenFrom
     taken-next base h = rw (first-next i k subs [] h)
 
@@ -150,8 +147,8 @@ module _ (c : ℕ) where
     taken-none base h = rw (first-ended i k subs h)
 
   -- no more than the rows
-  own-least : (q : Bool) (w : Row) → ownOf q (subOf w) ≤ inflightOf w + heldOf w
-  unfolding subOf
+  own-least : (q : Bool) (w : Row) → ownOf q (rowSub w) ≤ inflightCount w + heldCount w
+  unfolding rowSub
   own-least q w = by-test q (λ t. rw t (by-test (flag (at 6 w)) (λ u. rw u (omega arith)) (λ u. rw u (omega arith)))) (λ t. rw t (omega arith))
 
   taken-least : (q : Bool) (base : ℕ) (ws rows : List Row) → base + subRows ws ≤ length rows → takenFrom q c base ws rows ≤ subRows ws
@@ -159,9 +156,9 @@ module _ (c : ℕ) where
   taken-least q base [] rows h = omega arith
   taken-least q base (w ∷ ws) rows h =
       let o = own-least q w in
-      let own : ℕ = ownOf q (subOf w) in
+      let own : ℕ = ownOf q (rowSub w) in
       let t = tally-most (cameFrom c) base (base + own) rows (omega arith) (omega (arith, o)) in
-      omega (arith, o, t, taken-least q (base + (inflightOf w + heldOf w)) ws rows (omega arith))
+      omega (arith, o, t, taken-least q (base + (inflightCount w + heldCount w)) ws rows (omega arith))
 
   -- no more than the rows in use
   pub held-least : (d : Head) (subs rows : List Row) → subRows (take (d .consumers) subs) + (d .reserved + d .waiting) ≡ d .used → d .used ≤ length rows → heldFrom c d subs rows ≤ d .used
@@ -170,11 +167,11 @@ module _ (c : ℕ) where
       omega (arith, held-from d subs rows e, taken-least (d .queue) 0 (take (d .consumers) subs) rows (omega arith), tally-most (cameFrom c) n (d .used) rows (omega arith) l)
 
   -- one turn: the consumer as loaded, how many of its rows belong to connections, and how many of these to this one
-  module _ (q : Bool) (i k : ℕ) (subs rows : List Row) (base own got : ℕ) (s : Sub) (h : i < min k (length subs)) (es : s ≡ subOf (getD subs i [])) (eo : own ≡ ownOf q s) where
+  module _ (q : Bool) (i k : ℕ) (subs rows : List Row) (base own got : ℕ) (s : Sub) (h : i < min k (length subs)) (es : s ≡ rowSub (getD subs i [])) (eo : own ≡ ownOf q s) where
     abbrev w : Row
     w = getD subs i []
 
-    all-of : s .inflight + s .held ≡ inflightOf w + heldOf w
+    all-of : s .inflight + s .held ≡ inflightCount w + heldCount w
     all-of = ap (λ (x : Sub). x .inflight + x .held) es ∙ ap₂ (λ (x y : ℕ). x + y) (inflight-loaded w) (held-loaded w)
 
     -- its rows stand before those of the others
@@ -190,6 +187,6 @@ module _ (c : ℕ) where
 
       pub turn-taken : (count : ℕ) → count + takenFrom q c base (slice i k subs) rows ≡ count + got + takenFrom q c (base + (s .inflight + s .held)) (slice (i + 1) k subs) rows
       turn-taken count =
-          let g : got ≡ tally (cameFrom c) (slice base (base + ownOf q (subOf w)) rows) = eg ∙ ap (λ (m : ℕ). tally (cameFrom c) (slice base (base + m) rows)) (eo ∙ ap (ownOf q) es) in
+          let g : got ≡ tally (cameFrom c) (slice base (base + ownOf q (rowSub w)) rows) = eg ∙ ap (λ (m : ℕ). tally (cameFrom c) (slice base (base + m) rows)) (eo ∙ ap (ownOf q) es) in
           let b = ap (λ (m : ℕ). takenFrom q c (base + m) (slice (i + 1) k subs) rows) all-of in
           omega (arith, taken-next q i k subs rows base h, g, b)

@@ -13,12 +13,12 @@ use Rattle.definition.specs.Layout.{Row, subsAt, subRows}
 use Rattle.state.specs.declared.Head.{Head}
 use Rattle.state.specs.State.{firstWaiting}
 use Rattle.state.specs.Fits.{fits}
-use Rattle.state.specs.Leaves.{silent, Leaves}
-use Rattle.engine.specs.Storing.{holds, rowsNeeded, Room}
+use Rattle.state.specs.Leaves.{silent, Leaves, Room}
+use Rattle.engine.specs.Storing.{holds, rowsNeeded}
 
 -- the numbers of these rows rise
-abbrev pub inOrder : List Row → Bool
-inOrder rows = ascending (map (λ r. getD r 0 0) rows)
+abbrev pub rowsInOrder : List Row → Bool
+rowsInOrder rows = ascending (map (λ r. getD r 0 0) rows)
 
 -- those of the entries that a consumer holds
 abbrev pub holdsInOrder : Sub → Bool
@@ -26,7 +26,7 @@ holdsInOrder s = ascending (seqs (s .tpending))
 
 -- rows that wait are in order: a queue's, and on a topic those of each consumer
 pub record Ordered (d : Head) (subs rows : List Row) : Type 0 where
-  pub waiting : inOrder (slice (firstWaiting d) (d .used) rows) ≡ true
+  pub waiting : rowsInOrder (slice (firstWaiting d) (d .used) rows) ≡ true
   pub held : d .queue ≡ false → all holdsInOrder (subsAt topic (take (d .consumers) subs) rows) ≡ true
 
 -- the rows of n consumers on a topic are among the rows, and those that each holds are in order

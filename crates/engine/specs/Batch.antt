@@ -30,8 +30,8 @@ abbrev pub followed : Result → Batch → Batch
 followed r q = record { outcomes = outcomeWords r ∷ q .outcomes; events = map eventWords (r .events) ++ q .events; dest = q .dest }
 
 -- the eight words after the code
-abbrev pub wordsOf : Row → List ℕ
-wordsOf w = at 1 w ∷ at 2 w ∷ at 3 w ∷ at 4 w ∷ at 5 w ∷ at 6 w ∷ at 7 w ∷ at 8 w ∷ []
+abbrev pub eightWords : Row → List ℕ
+eightWords w = at 1 w ∷ at 2 w ∷ at 3 w ∷ at 4 w ∷ at 5 w ∷ at 6 w ∷ at 7 w ∷ at 8 w ∷ []
 
 -- with so many places for events fewer
 abbrev pub less : ℕ → Lengths → Lengths
@@ -43,7 +43,7 @@ unfoldable pub batch : Lengths → ℕ → List Row → Dest → Batch
 batch l places [] t = undone t
 batch l zero (w ∷ ws) t = undone t
 batch l (suc k) (w ∷ ws) t =
-    let r = step l (at 0 w) (wordsOf w) t in
+    let r = step l (at 0 w) (eightWords w) t in
     if short l then undone t else followed r (batch (less (length (r .events)) l) k ws (r .dest))
 
 -- on lent buffers: where they are not sound, none

@@ -71,7 +71,7 @@ PerformsBy (some c) d a subs rows events subs′ rows′ events′ = Performs c 
 
 -- a call in the head's words: it performs, the allowance, the share and what is no part of the state are as they were, and it sends nothing
 pub record InHead (c : Call) (d : Head) (h : List ℕ) (a : Answer) (k : List ℕ) : Type 0 where
-  pub performs : Producers.Performs c d h a k
+  pub performs : Producers.PerformsInHead c d h a k
   pub past : drop 8345 k ≡ drop 8345 h
   pub silent : (t : Dest) → perform t c .events ≡ []
 

@@ -3,20 +3,17 @@ use Prim.Native.Nat.{ℕ, _+_, _-_}
 use mathlib.Core.List.{List}
 use lib.Dec.{eqb}
 use Rattle.stats.specs.Counted.{withExpiredBy, withDiscardedBy}
-use Rattle.entry.specs.Entry.{rowOf}
+use Rattle.entry.specs.Entry.{rowOf, expiredRow}
 use Rattle.definition.specs.Base.{if_then_else_}
 use Rattle.definition.specs.Types.{Entry}
 use Rattle.definition.specs.Layout.{Row}
-use Rattle.table.specs.Table.{expiredRow, placeOf, insertRow, closeGap, removeRows, removedRows}
+use Rattle.table.specs.Table.{placeOf, insertRow, closeGap, removeRows, removedRows}
 use Rattle.consumers.specs.declared.Sub.{Sub}
-use Rattle.consumers.specs.Consumers.{acceptsOf}
+use Rattle.consumers.specs.Consumers.{acceptsOf, withHeld}
 use Rattle.state.specs.declared.Head.{Head}
-use Rattle.state.specs.State.{withStats, withUsed}
+use Rattle.state.specs.State.{withCounters, withUsed}
 use Rattle.engine.specs.declared.fanning.Gone.{Gone}
 use Rattle.engine.specs.declared.fanning.Copied.{Copied}
-
-abbrev pub withHeld : ℕ → Sub → Sub
-withHeld x s = record { conn = s .conn; session = s .session; value = s .value; prefetch = s .prefetch; selector = s .selector; «next_dseq» = s .«next_dseq»; cursor = s .cursor; pull = s .pull; generation = s .generation; freed = s .freed; inflight = s .inflight; held = x; «no_local» = s .«no_local»; browser = s .browser; finished = s .finished; pulling = s .pulling }
 
 -- how many of n rows are over the limit; 0 is no limit
 abbrev pub overLimit : ℕ → ℕ → ℕ
@@ -50,4 +47,4 @@ copiedRows clock limit e base s used rows = if acceptsOf s e then trimmed clock 
 
 -- a head with so many rows in use, and so many expired and discarded more
 abbrev pub countedBy : ℕ → ℕ → ℕ → Head → Head
-countedBy used expired over d = withStats (withDiscardedBy (withExpiredBy (d .stats) expired) over) (withUsed used d)
+countedBy used expired over d = withCounters (withDiscardedBy (withExpiredBy (d .stats) expired) over) (withUsed used d)

@@ -9,7 +9,7 @@ use Rattle.definition.specs.Base.{if_then_else_}
 use Rattle.stats.specs.Counted.{more}
 use Rattle.state.specs.declared.Head.{Head}
 use Rattle.state.specs.declared.Answer.{Answer}
-use Rattle.state.specs.State.{withCallsUsed}
+use Rattle.state.specs.State.{withUsedCalls}
 use Rattle.engine.specs.declared.Outcome.{Outcome}
 use Rattle.engine.specs.Called.{outcome}
 
@@ -36,7 +36,7 @@ openedHead ws = record {
 
 -- one call more
 abbrev pub counted : Head → Head
-counted d = withCallsUsed (more (d .«calls_used»)) d
+counted d = withUsedCalls (more (d .«calls_used»)) d
 
 -- a refused call answers its refusal alone
 abbrev pub finished : Answer → Outcome

@@ -8,9 +8,9 @@ use Rattle.entry.specs.Entry.{entryOf}
 use Rattle.definition.specs.Base.{if_then_else_, tally}
 use Rattle.definition.specs.Types.{Entry}
 use Rattle.definition.specs.Calls.{ownRows, rowsFrom, overShare}
-use Rattle.definition.specs.Layout.{Row, inflightOf, heldOf}
+use Rattle.definition.specs.Layout.{Row, inflightCount, heldCount}
 use Rattle.consumers.specs.declared.Sub.{Sub}
-use Rattle.consumers.specs.Consumers.{subOf}
+use Rattle.consumers.specs.Consumers.{rowSub}
 use Rattle.state.specs.declared.Head.{Head}
 use Rattle.state.specs.State.{headView, kindBy}
 
@@ -25,7 +25,7 @@ ownOf queue s = if queue then (if s .browser then 0 else s .inflight) else s .in
 -- those of one connection, where the rows of these consumers begin at a place
 unfoldable pub takenFrom : Bool → ℕ → ℕ → List Row → List Row → ℕ
 takenFrom queue c base [] rows = 0
-takenFrom queue c base (w ∷ ws) rows = tally (cameFrom c) (slice base (base + ownOf queue (subOf w)) rows) + takenFrom queue c (base + (inflightOf w + heldOf w)) ws rows
+takenFrom queue c base (w ∷ ws) rows = tally (cameFrom c) (slice base (base + ownOf queue (rowSub w)) rows) + takenFrom queue c (base + (inflightCount w + heldCount w)) ws rows
 
 -- and all of the destination's
 abbrev pub heldFrom : ℕ → Head → List Row → List Row → ℕ

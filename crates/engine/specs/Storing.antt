@@ -11,7 +11,7 @@ use Rattle.definition.specs.Types.{Kind, queue, topic, Entry, Dest, withPending
 use Rattle.definition.specs.Destination.{insert, holdBack, fanOutAll, count, stored, fannedOut}
 use Rattle.definition.specs.Calls.{seqs, enqueuing, ownRefusal}
 use Rattle.definition.specs.Layout.{Row}
-use Rattle.consumers.specs.Table.{takes}
+use Rattle.consumers.specs.Table.{takesEntry}
 use Rattle.state.specs.declared.Head.{Head}
 use Rattle.state.specs.State.{headView, withUsed, withWaiting, notIdle}
 
@@ -26,8 +26,8 @@ abbrev pub kept : ℕ → Entry → Dest → Dest
 kept now e t = storedBy now e t (t .kind)
 
 -- the same two after the entry was counted
-abbrev pub waits : Entry → Dest → Dest
-waits e t = withIdle none (withPending (insert e (t .pending)) (withSubs (map (holdBack (e .seq)) (t .subs)) t))
+abbrev pub waitsCounted : Entry → Dest → Dest
+waitsCounted e t = withIdle none (withPending (insert e (t .pending)) (withSubs (map (holdBack (e .seq)) (t .subs)) t))
 
 abbrev pub spread : ℕ → Entry → Dest → Dest
 spread now e t = let r = fanOutAll now (t .topicLimit) e (t .subs) in count (r .counts) (withSubs (r .subs) t)
@@ -40,7 +40,7 @@ holds seq rows = member seq (seqs (map entryOf rows))
 
 -- the rows that an entry needs: one on a queue, one for each consumer that accepts it on a topic
 abbrev pub rowsNeeded : Entry → Head → List Row → ℕ
-rowsNeeded e d subs = if d .queue then 1 else tally (takes e) (take (d .consumers) subs)
+rowsNeeded e d subs = if d .queue then 1 else tally (takesEntry e) (take (d .consumers) subs)
 
 -- the refusal that is the entry's own. It looks at no producer, no audit and no clock.
 abbrev pub ownRefusalOf : Entry → Head → List Row → List Row → ℕ
@@ -51,7 +51,3 @@ ownRefusalOf e d subs rows = ownRefusal (headView d subs rows [] []) (enqueuing 
 -- on a queue one more waits, and the destination is not idle
 abbrev pub queuedHead : Head → Head
 queuedHead d = notIdle (withWaiting (d .waiting + 1) (withUsed (d .used + 1) d))
-
--- what a dispatch sends still has room, and the consumers are as many
-abbrev pub Room : Head → Head → Type 0
-Room d r = (r .events + r .used ≤ 512) × (r .consumers ≡ d .consumers)

@@ -3,7 +3,7 @@ ghost use mathlib.Core.Path.{_≡_};
 ghost use mathlib.Core.Bool.{true, false};
 ghost use mathlib.Core.List.{List, map};
 ghost use mathlib.Core.Option.{some};
-ghost use Prim.Native.Nat.{_+_, _-_, _<_, _≤_, min};
+ghost use Prim.Native.Nat.{_+_, _<_, _≤_};
 ghost use lib.ListN.{length, take};
 ghost use lib.Seq.{slice};
 ghost use Rattle.model.specs.declared.Id.{Id};
@@ -13,19 +13,20 @@ ghost use Rattle.definition.specs.Base.{if_then_else_, all, tally};
 ghost use Rattle.definition.specs.Types as Def;
 ghost use Rattle.definition.specs.Consumer.{or0, bySeq, free, redeliver, ackSub};
 ghost use Rattle.definition.specs.Layout.{Row, inflightAt};
-ghost use Rattle.consumers.specs.declared.Found.the-variants.{At};
+ghost use Rattle.entry.specs.declared.Found.the-variants.{At};
 ghost use Rattle.consumers.specs.Table.{positionFrom};
 ghost use Rattle.state.specs.State.{kindBy};
 ghost use Rattle.state.specs.Fits.{Fits};
-ghost use Rattle.state.specs.Leaves.{Leaves};
+ghost use Rattle.state.specs.Leaves.{Leaves, Room};
 ghost use Rattle.acks.specs.Acks.{ackOf, acked};
 ghost use Rattle.acks.specs.Rules.{spanOf, inSpan, silently, acts, removedCounts, removedEvents};
-ghost use Rattle.acks.specs.Parts.{full, Own, Dying, Told, Acted, Kept};
+ghost use Rattle.acks.specs.Parts.{fullRow, Own, Dying, Told, Acted};
 use acks::Ack;
 use acks::Span;
 use consumers::Sub;
 use consumers::SubRow;
 use entry::DSEQ;
+use entry::Found;
 use entry::Row;
 use model::AckCount;
 use model::AckEffect;
@@ -42,12 +43,6 @@ struct Acked {
 
 // ---- which rows an ack means
 
-fn least(a: u64, b: u64) -> u64
-    ensures { λ r. ⌜ r ≡ min a b ⌝ }
-{
-    if a <= b { a } else { b }
-}
-
 // The delivery number of the ack's first, among the rows from..to in flight; or 0.
 fn first_of(rows: &[Row], from: usize, to: usize, a: Ack) -> u64
     requires { ⌜ (from ≤ to) × (to ≤ length (now rows)) ⌝ }
@@ -57,8 +52,8 @@ fn first_of(rows: &[Row], from: usize, to: usize, a: Ack) -> u64
         return 0;
     }
     match table::find_seq(rows, from, to, a.first) {
-        table::Found::At(i) => rows[i][DSEQ],
-        table::Found::Nothing => 0,
+        Found::At(i) => rows[i][DSEQ],
+        Found::Nothing => 0,
     }
 }
 
@@ -71,12 +66,12 @@ fn span_of(rows: &[Row], from: usize, to: usize, a: Ack, range: AckRange) -> Spa
         return Span::none();
     }
     match table::find_seq(rows, from, to, a.last) {
-        table::Found::At(i) => {
+        Found::At(i) => {
             let last = rows[i][DSEQ];
             let first = first_of(rows, from, to, a);
             ranged(range, first, last)
         }
-        table::Found::Nothing => Span::none(),
+        Found::Nothing => Span::none(),
     }
 }
 
@@ -86,7 +81,7 @@ fn ranged(range: AckRange, first: u64, last: u64) -> Span
     match range {
         AckRange::Empty => Span::none(),
         AckRange::Between => Span {
-            first: least(first, last),
+            first: consumers::least(first, last),
             last,
         },
         AckRange::Cumulative => Span { first: 0, last },
@@ -97,13 +92,13 @@ fn ranged(range: AckRange, first: u64, last: u64) -> Span
 // ---- what becomes of them
 
 fn sized(row: Row)
-    ensures { λ _. ⌜ full row ≡ true ⌝ }
+    ensures { λ _. ⌜ fullRow row ≡ true ⌝ }
 {}
 
 // Each row of from..to has all its words: nothing is done, this is said for the proofs.
 fn full_rows(rows: &[Row], from: usize, to: usize)
     requires { ⌜ (from ≤ to) × (to ≤ length (now rows)) ⌝ }
-    ensures { λ _. ⌜ all full (slice from to (now (rows .entry))) ≡ true ⌝ }
+    ensures { λ _. ⌜ all fullRow (slice from to (now (rows .entry))) ≡ true ⌝ }
 {
     let mut i = from;
     while i < to {
@@ -133,13 +128,6 @@ fn raise(rows: &mut [Row], base: usize, s: Sub, d: Head, p: Span) -> Acked
     full_rows(rows, base, end);
     table::redeliver_range(rows, base, end, p.first, p.last);
     Acked { sub: s, head: d }
-}
-
-// a - b, and 0 where b is above a.
-fn less(a: usize, b: usize) -> usize
-    ensures { λ r. ⌜ r ≡ a - b ⌝ }
-{
-    if b <= a { a - b } else { 0 }
 }
 
 // The dead letters of the rows from..to, in their order.
@@ -219,7 +207,7 @@ fn remove(
     let end = base + s.inflight;
     let out = table::remove_range(rows, base, end, d.used, p.first, p.last);
     s.inflight = s.inflight - out.rows;
-    s.freed = less(s.freed, out.freed);
+    s.freed = state::less(s.freed, out.freed);
     r.used = r.used - out.rows;
     Acked { sub: s, head: r }
 }
@@ -294,7 +282,7 @@ pub(crate) fn ack_at(
     a: Ack,
 ) -> Head
     requires { ⌜ Fits (now subs) d (length (now rows)) (length (now events)) × (i < d .consumers) ⌝ }
-    ensures { λ r. ⌜ ((id : Id) → positionFrom 0 id (take (d .consumers) (now (subs .entry))) ≡ At i → Leaves (acked id (ackOf a)) d r (now (subs .entry)) (now (rows .entry)) (now (events .entry)) (now (subs .exit)) (now (rows .exit)) (now (events .exit)) × Kept d r) ⌝ }
+    ensures { λ r. ⌜ ((id : Id) → positionFrom 0 id (take (d .consumers) (now (subs .entry))) ≡ At i → Leaves (acked id (ackOf a)) d r (now (subs .entry)) (now (rows .entry)) (now (events .entry)) (now (subs .exit)) (now (rows .exit)) (now (events .exit)) × Room d r) ⌝ }
 {
     let base = consumers::base_of(subs, i);
     let s = consumers::load(subs, i);

@@ -18,7 +18,7 @@ use state::Head;
 
 // The ack in a call's words.
 fn ack_of(w: [u64; 8]) -> Ack
-    ensures { λ r. ⌜ ackOf r ≡ Words.ackOf w ⌝ }
+    ensures { λ r. ⌜ ackOf r ≡ Words.ackIn w ⌝ }
 {
     let flags = w[3];
     let kind = calls::kind_of(flags);

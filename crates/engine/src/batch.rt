@@ -9,7 +9,7 @@ ghost use Rattle.definition.specs.Layout.{view, soundBuffers, lengthsOf, buffer
 ghost use Rattle.calls.specs.Calls.{newCall};
 ghost use Rattle.sound.specs.Sound.{lent};
 ghost use Rattle.engine.specs.Called.{Called};
-ghost use Rattle.engine.specs.Batch.{wordsOf, batch, bufferBatch, Batched};
+ghost use Rattle.engine.specs.Batch.{eightWords, batch, bufferBatch, Batched};
 use crate::Outcome;
 use calls::Call;
 use consumers::SubRow;
@@ -25,7 +25,7 @@ pub struct Done {
 
 // A call in nine words: its code, and the eight after it.
 fn call_of(w: [u64; 9]) -> Call
-    ensures { λ r. ⌜ r ≡ newCall (at 0 w) (wordsOf w) ⌝ }
+    ensures { λ r. ⌜ r ≡ newCall (at 0 w) (eightWords w) ⌝ }
 {
     Call::new(w[0], [w[1], w[2], w[3], w[4], w[5], w[6], w[7], w[8]])
 }

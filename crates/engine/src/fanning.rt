@@ -6,7 +6,7 @@ ghost use lib.ListN.{length};
 ghost use lib.Seq.{slice};
 ghost use Rattle.engine.specs.Storing.{spread};
 ghost use Rattle.engine.specs.Copies.{overLimit, goneOf, trimmed, copied, copiedRows};
-ghost use Rattle.engine.specs.Arrivals.{inOrder, Arrives, Arrived};
+ghost use Rattle.engine.specs.Arrivals.{rowsInOrder, Arrives, Arrived};
 use crate::ordered;
 use consumers::Sub;
 use consumers::SubRow;
@@ -70,7 +70,7 @@ fn fan_out(
     e: Entry,
     clock: u64,
 ) -> Copied
-    requires { ⌜ (base + s .inflight + s .held ≤ used) × (used ≤ 512) × (used ≤ length (now rows)) × (inOrder (slice (base + s .inflight) (base + s .inflight + s .held) (now rows)) ≡ true) ⌝ }
+    requires { ⌜ (base + s .inflight + s .held ≤ used) × (used ≤ 512) × (used ≤ length (now rows)) × (rowsInOrder (slice (base + s .inflight) (base + s .inflight + s .held) (now rows)) ≡ true) ⌝ }
     ensures { λ r. ⌜ r ≡ copied clock limit e base s used (now (rows .entry)) ⌝ }
     ensures { λ _. ⌜ now (rows .exit) ≡ copiedRows clock limit e base s used (now (rows .entry)) ⌝ }
 {

@@ -37,7 +37,7 @@ pub(crate) fn enqueue(
 // The consumer in a join's words.
 fn spec_of(w: [u64; 8]) -> SubSpec
     requires { ⌜ is-some (decode 2 w) ≡ true ⌝ }
-    ensures { λ r. ⌜ specOf r ≡ Words.specOf w ⌝ }
+    ensures { λ r. ⌜ specOf r ≡ Words.specIn w ⌝ }
 {
     calls::words_fit(w);
     let prefetch = words::int_of(w[3]);

@@ -11,7 +11,7 @@ ghost use Rattle.definition.specs.Calls.{short};
 ghost use Rattle.definition.specs.Words.{decode};
 ghost use Rattle.definition.specs.Layout.{soundBuffers, lengthsOf, bufferStep};
 ghost use Rattle.sound.specs.Sound.{lent};
-ghost use Rattle.state.specs.State.{stored};
+ghost use Rattle.state.specs.State.{storedHead};
 ghost use Rattle.engine.specs.Called.{outcome, Called};
 ghost use Rattle.engine.specs.Opened.{openedHead, counted, finished};
 
@@ -102,7 +102,7 @@ fn opened(words: [u64; 8]) -> Head
 // Opens a destination, where the words are those of an open.
 fn open(head: &mut [u64], c: Call) -> Outcome
     ensures { λ r. ⌜ r ≡ (if openWords (c .words) then outcome 0 0 0 else outcome 3 0 0) ⌝ }
-    ensures { λ _. ⌜ now (head .exit) ≡ (if openWords (c .words) then stored (openedHead (c .words)) (now (head .entry)) else now (head .entry)) ⌝ }
+    ensures { λ _. ⌜ now (head .exit) ≡ (if openWords (c .words) then storedHead (openedHead (c .words)) (now (head .entry)) else now (head .entry)) ⌝ }
 {
     if !c.opens() {
         return Outcome::refused(3);
@@ -120,7 +120,7 @@ fn open(head: &mut [u64], c: Call) -> Outcome
 // Stores what a call leaves, with one call more used; a refused one stores nothing.
 fn finish(head: &mut [u64], a: Answer) -> Outcome
     ensures { λ r. ⌜ r ≡ finished a ⌝ }
-    ensures { λ _. ⌜ now (head .exit) ≡ (if eqb (a .refusal) 0 then stored (counted (a .head)) (now (head .entry)) else now (head .entry)) ⌝ }
+    ensures { λ _. ⌜ now (head .exit) ≡ (if eqb (a .refusal) 0 then storedHead (counted (a .head)) (now (head .entry)) else now (head .entry)) ⌝ }
 {
     if a.refusal != 0 {
         return Outcome::refused(a.refusal);

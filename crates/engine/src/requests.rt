@@ -4,9 +4,9 @@ ghost use mathlib.Core.Bool.{true};
 ghost use Prim.Native.Nat.{_<_, _≤_, _^_};
 ghost use lib.ListN.{take};
 ghost use Rattle.model.specs.declared.Id.{Id};
-ghost use Rattle.definition.specs.Calls.{within};
+ghost use Rattle.definition.specs.Calls.{signedWithin};
 ghost use Rattle.definition.specs.Destination.{ack, setPrefetch, pullTimeout};
-ghost use Rattle.consumers.specs.declared.Found.the-variants.{At};
+ghost use Rattle.entry.specs.declared.Found.the-variants.{At};
 ghost use Rattle.consumers.specs.Table.{positionFrom};
 ghost use Rattle.acks.specs.Acks.{ackOf, acked};
 ghost use Rattle.state.specs.Ready.{Ready};
@@ -14,6 +14,7 @@ ghost use Rattle.engine.specs.Requests.{sentOn, Absent, Sends, Pulled};
 use crate::acking;
 use acks::Ack;
 use consumers::SubRow;
+use entry::Found;
 use entry::Row;
 use model::Id;
 use state::Answer;
@@ -77,8 +78,8 @@ pub(crate) fn ack(
     ensures { λ r. ⌜ Sends (ack clock id (ackOf a)) d r (now (subs .entry)) (now (rows .entry)) (now (events .entry)) (now (subs .exit)) (now (rows .exit)) (now (events .exit)) ⌝ }
 {
     match consumers::position(subs, d.consumers, id) {
-        consumers::Found::At(i) => ack_present(subs, rows, events, d, i, a, clock),
-        consumers::Found::Nothing => ack_absent(subs, rows, events, d, id, a, clock),
+        Found::At(i) => ack_present(subs, rows, events, d, i, a, clock),
+        Found::Nothing => ack_absent(subs, rows, events, d, id, a, clock),
     }
 }
 
@@ -107,7 +108,7 @@ pub(crate) fn set_prefetch(
     prefetch: i32,
     clock: u64,
 ) -> Head
-    requires { ⌜ Ready d (now subs) (now rows) (now events) × (clock ≤ 2 ^ 62) × (within 2147483648 prefetch ≡ true) ⌝ }
+    requires { ⌜ Ready d (now subs) (now rows) (now events) × (clock ≤ 2 ^ 62) × (signedWithin 2147483648 prefetch ≡ true) ⌝ }
     ensures { λ r. ⌜ Sends (setPrefetch clock id prefetch) d r (now (subs .entry)) (now (rows .entry)) (now (events .entry)) (now (subs .exit)) (now (rows .exit)) (now (events .exit)) ⌝ }
 {
     pulls::set_prefetch(subs, rows, events, d, id, prefetch);

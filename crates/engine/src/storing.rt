@@ -13,7 +13,7 @@ ghost use Rattle.state.specs.Fits.{fits};
 ghost use Rattle.table.specs.Table.{placeOf, insertRow};
 ghost use Rattle.engine.specs.Storing.{holds, rowsNeeded, ownRefusalOf, queuedHead, kept};
 ghost use Rattle.engine.specs.Shares.{cameFrom, ownOf, takenFrom, heldFrom, overOf};
-ghost use Rattle.engine.specs.Arrivals.{inOrder, FannedOut, Standing, Arrives, Arrived};
+ghost use Rattle.engine.specs.Arrivals.{rowsInOrder, FannedOut, Standing, Arrives, Arrived};
 use crate::fanning;
 use crate::ordered;
 use consumers::Sub;
@@ -86,7 +86,7 @@ fn rows_from(subs: &[SubRow], rows: &[Row], d: Head, conn: u64) -> usize
 
 // Whether one of a queue's rows in use has a sequence number; those that wait are the last.
 fn is_queued(rows: &[Row], first: usize, used: usize, seq: u64) -> bool
-    requires { ⌜ (first ≤ used) × (used ≤ length (now rows)) × (inOrder (slice first used (now rows)) ≡ true) ⌝ }
+    requires { ⌜ (first ≤ used) × (used ≤ length (now rows)) × (rowsInOrder (slice first used (now rows)) ≡ true) ⌝ }
     ensures { λ r. ⌜ r ≡ holds seq (take used (now (rows .entry))) ⌝ }
 {
     if ordered::has_number(rows, first, used, seq) {
@@ -170,7 +170,7 @@ pub(crate) fn refusal(subs: &[SubRow], rows: &[Row], d: Head, e: Entry) -> u64
 // ---- stored on a queue
 
 fn queued(subs: &mut [SubRow], rows: &mut [Row], mut d: Head, e: Entry) -> Head
-    requires { ⌜ (d .used ≤ 512) × (d .used ≤ length (now rows)) × (d .waiting ≤ 512) × (inOrder (slice (firstWaiting d) (d .used) (now rows)) ≡ true) ⌝ }
+    requires { ⌜ (d .used ≤ 512) × (d .used ≤ length (now rows)) × (d .waiting ≤ 512) × (rowsInOrder (slice (firstWaiting d) (d .used) (now rows)) ≡ true) ⌝ }
     ensures { λ r. ⌜ r ≡ queuedHead d ⌝ }
     ensures { λ _. ⌜ now (subs .exit) ≡ onFirst (heldBackRow (e .seq)) (d .consumers) (now (subs .entry)) ⌝ }
     ensures { λ _. ⌜ now (rows .exit) ≡ insertRow (placeOf (firstWaiting d) (d .used) (e .seq) (now (rows .entry))) (d .used) (rowOf e 0 0 0) (now (rows .entry)) ⌝ }

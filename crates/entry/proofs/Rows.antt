@@ -21,6 +21,11 @@ pub record EntryFits (e : Entry) : Type 0 where
   pub redelivery : SFits w32 (e .redelivery)
   pub size : e .size < 2 ^ 64
 
+-- of a row, the redelivery is in range whatever its word
+pub redelivery-fits : (w : List ℕ) → SFits w32 (entryOf w .redelivery)
+unfolding entryOf
+redelivery-fits w = int-fits (getD w 5 0)
+
 -- ten words, a flag and an i32 among them
 pub record RowFits (w : List ℕ) : Type 0 where
   pub ten : length w ≡ 10
@@ -30,11 +35,11 @@ pub record RowFits (w : List ℕ) : Type 0 where
 
 -- ---- a list is its elements
 
-abbrev elements : (ℕ → ℕ) → ℕ → List ℕ
+abbrev pub elements : (ℕ → ℕ) → ℕ → List ℕ
 elements f zero = []
 elements f (suc n) = f 0 ∷ elements (λ k. f (suc k)) n
 
-listed : (w : List ℕ) → elements (λ k. getD w k 0) (length w) ≡ w
+pub listed : (w : List ℕ) → elements (λ k. getD w k 0) (length w) ≡ w
 listed [] = refl
 listed (x ∷ xs) = ap (λ (l : List ℕ). x ∷ l) (listed xs)
 

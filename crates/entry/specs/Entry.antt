@@ -41,3 +41,7 @@ entryOf w = record { seq = getD w 0 0; expiration = signed (getD w 1 0); produce
 -- and three of its place before that
 unfoldable pub rowOf : Entry → ℕ → ℕ → ℕ → List ℕ
 rowOf e a b c = e .seq ∷ unsigned (e .expiration) ∷ boolByte (e .persistent) ∷ e .producer ∷ e .«match_word» ∷ unsigned (e .redelivery) ∷ a ∷ b ∷ c ∷ e .size ∷ []
+
+-- a row whose entry has expired by the clock that a word holds
+abbrev pub expiredRow : ℕ → List ℕ → Bool
+expiredRow clock w = expired (signed clock) (entryOf w)

@@ -30,6 +30,12 @@ pub struct Entry {
     pub size: u64,
 }
 
+// Where something stands in a table, if it does.
+pub enum Found {
+    At(usize),
+    Nothing,
+}
+
 impl Entry {
     pub fn expired(self, now: i64) -> bool
         ensures { λ r. ⌜ r ≡ expired now self ⌝ }

@@ -1,8 +1,8 @@
 -- Every entry dropped: what the tables then hold, and how many there were. Assumes nothing.
 use mathlib.Core.Path.{_≡_, refl, sym, ap, ap₂, _∙_}
-use mathlib.Core.Bool.{Bool, true, false, _&&_}
-use mathlib.Core.List.{List, [], _∷_, append-nil, map}
-use Prim.Native.Nat.{ℕ, zero, suc, _+_, _≤_, min}
+use mathlib.Core.Bool.{Bool, true, false}
+use mathlib.Core.List.{List, append-nil, map}
+use Prim.Native.Nat.{ℕ, _+_, _≤_, min}
 use native.Mathlib.Omega.{arith}
 use lib.ListN.{length, take, drop, length-map, length-drop}
 use lib.Seq.{length-take-le}
@@ -11,46 +11,25 @@ use Rattle.definition.specs.Types.{Id, Audit, Dest}
 use Rattle.definition.specs.Types as Def
 use Rattle.definition.specs.Destination as Destination
 use Rattle.definition.specs.Destination.{clear, heldRows}
-use Rattle.definition.specs.Queries.{isQueue}
-use Rattle.definition.specs.Words.{at}
-use Rattle.definition.specs.Layout.{Row, flag, heldOf, heldAt, subsAt, subRows, subsStrict}
-use Rattle.definition.proofs.Tests.{by-if}
+use Rattle.definition.specs.Layout.{Row, heldAt, subsAt, subRows, subsStrict}
 use Rattle.entry.specs.Entry.{entryOf}
-use Rattle.consumers.specs.Table.{onFirst, clearedRow, heldBy, keptRows}
-use Rattle.consumers.proofs.Laws.{on-first, on-length, clear-rows, clear-first, held-subs}
+use Rattle.consumers.specs.Table.{onFirst, clearedRow, keptRows}
+use Rattle.consumers.proofs.Laws.{on-first, on-length, clear-rows, clear-first, held-subs, kept-few}
 use Rattle.consumers.proofs.Strict.{strict-cleared, tables-strict, strict-tables}
+use Rattle.consumers.proofs.Lists.{on-past}
 use Rattle.state.specs.declared.Head.{Head}
 use Rattle.state.specs.declared.Answer as State
 use Rattle.state.specs.State.{headView, kindBy, refusedAs, doneAs}
 use Rattle.state.specs.Fits.{Fits, fits}
-use Rattle.state.specs.Leaves.{Leaves, LeavesIf}
+use Rattle.state.specs.Leaves.{Leaves, LeavesIf, Room}
 use Rattle.state.proofs.Leaves.{when-leaves, unless-touched}
 use Rattle.state.proofs.Fitting.{fits-facts}
-use Rattle.expiry.specs.Expiry.{emptied, clearOut, Kept, Answers}
-
--- past the first n nothing is changed
-on-past : (f : Row → Row) (n k : ℕ) (ws : List Row) → n ≤ k → drop k (onFirst f n ws) ≡ drop k ws
-unfolding onFirst
-on-past f zero k ws h = refl
-on-past f (suc n) k [] h = refl
-on-past f (suc n) zero (w ∷ ws) h = absurd (omega arith)
-on-past f (suc n) (suc k) (w ∷ ws) h = on-past f n k ws (omega arith)
-
--- what counts of the consumers' rows is some of them
-pub kept-few : (queue : Bool) (ws : List Row) → keptRows queue ws ≤ subRows ws
-unfolding keptRows subRows
-kept-few queue [] = omega arith
-kept-few queue (w ∷ ws) =
-    let one : heldBy queue w ≤ heldOf w = by-if (λ (n : ℕ). n ≤ heldOf w) (queue && flag (at 6 w)) 0 (heldOf w) (λ _. omega arith) (λ _. omega arith) in
-    omega (arith, one, kept-few queue ws)
-
-pub is-queue : (b : Bool) → isQueue (kindBy b) ≡ b
-is-queue true = refl
-is-queue false = refl
+use Rattle.state.proofs.View.{is-queue}
+use Rattle.expiry.specs.Expiry.{emptiedHead, clearOut, SweepAnswers}
 
 -- a test has failed
 pub refused : (b : Bool) → b ≡ false → (also : Type 0) (f : Dest → Destination.Out) (g : Dest → Destination.Answer) (d : Head) (subs rows events : List Row) (r : State.Answer) → r ≡ refusedAs 2 d
-    → LeavesIf b also f d (r .head) subs rows events subs rows events × Answers b g d subs rows r
+    → LeavesIf b also f d (r .head) subs rows events subs rows events × SweepAnswers b g d subs rows r
 refused b h also f g d subs rows events r e = (
   unless-touched b also f d (r .head) subs rows events subs rows events h (record { same-head = ap (λ (y : State.Answer). y .head) e; same-subs = refl; same-rows = refl; same-events = refl }),
   record {
@@ -72,11 +51,11 @@ module _ (d : Head) (subs rows events : List Row) (t : fits subs d (length rows)
   no-rows : subRows (take (d .consumers) subs′) ≡ 0
   no-rows = ap subRows (on-first clearedRow (d .consumers) subs) ∙ clear-rows ws
 
-  cleared-view : (ps : List Id) (qs : List Audit) → headView (emptied d) subs′ rows ps qs ≡ clear (headView d subs rows ps qs) .dest
+  cleared-view : (ps : List Id) (qs : List Audit) → headView (emptiedHead d) subs′ rows ps qs ≡ clear (headView d subs rows ps qs) .dest
   unfolding headView clear
-  cleared-view ps qs = ap (λ (l : List Def.Sub). Def.withSubs l (headView (emptied d) subs′ rows ps qs)) (clear-first (kindBy (d .queue)) (d .consumers) subs rows rows)
+  cleared-view ps qs = ap (λ (l : List Def.Sub). Def.withSubs l (headView (emptiedHead d) subs′ rows ps qs)) (clear-first (kindBy (d .queue)) (d .consumers) subs rows rows)
 
-  leaves-cleared : Leaves clearOut d (emptied d) subs rows events subs′ rows events
+  leaves-cleared : Leaves clearOut d (emptiedHead d) subs rows events subs′ rows events
   leaves-cleared = record {
     view = λ ps qs _. cleared-view ps qs;
     sent = λ ps qs _. sym (append-nil (take (d .events) events));
@@ -122,10 +101,10 @@ module _ (d : Head) (subs rows events : List Row) (t : fits subs d (length rows)
       ap (λ (x : ℕ). d .waiting + d .reserved + x) (m ∙ sym h) ∙ ap₂ (λ (x y : ℕ). x + y + heldRows (subsAt (kindBy (d .queue)) ws rows)) (sym w) (sym a)
 
   -- what `clear` leaves and answers
-  pub clears : (subs″ : List Row) (r : State.Answer) → subs″ ≡ subs′ → r ≡ doneAs total (emptied d)
-      → LeavesIf (fits subs d (length rows) (length events)) (Kept d (r .head)) clearOut d (r .head) subs rows events subs″ rows events × Answers (fits subs d (length rows) (length events)) clear d subs rows r
+  pub clears : (subs″ : List Row) (r : State.Answer) → subs″ ≡ subs′ → r ≡ doneAs total (emptiedHead d)
+      → LeavesIf (fits subs d (length rows) (length events)) (Room d (r .head)) clearOut d (r .head) subs rows events subs″ rows events × SweepAnswers (fits subs d (length rows) (length events)) clear d subs rows r
   clears subs″ r es er = rw (es, er) (
-    when-leaves (fits subs d (length rows) (length events)) _ clearOut d (emptied d) subs rows events subs′ rows events t (leaves-cleared, record { room = omega (arith, facts .sent); as-many = refl }),
+    when-leaves (fits subs d (length rows) (length events)) _ clearOut d (emptiedHead d) subs rows events subs′ rows events t (leaves-cleared, record { room = omega (arith, facts .sent); as-many = refl }),
     record {
       refusal = sym (ap (λ (y : Bool). if_then_else_ {A = ℕ} y 0 2) t);
       answer = λ ps qs _. answered ps qs ∙ sym (ap (λ (y : Bool). if_then_else_ {A = ℕ} y (clear (headView d subs rows ps qs) .answer) 0) t);

@@ -15,13 +15,13 @@ use Rattle.definition.specs.Base.{all}
 use Rattle.definition.specs.Layout.{Row, eachSub, subsAt, subRows, entryStrict, flyingStrict, subsStrict}
 use Rattle.table.proofs.Lists.{agree-drop}
 use Rattle.consumers.specs.declared.Sub.{Sub}
-use Rattle.consumers.specs.Consumers.{subOf, subWords, subView}
+use Rattle.consumers.specs.Consumers.{rowSub, subWords, subView, withHeld}
 use Rattle.consumers.proofs.Words.{round}
 use Rattle.consumers.proofs.Strict.{stored-strict}
 use Rattle.state.specs.State.{kindBy}
 use Rattle.consumers.proofs.Line.{stored-next, rows-one, subs-done, strict-done, left-size, subs-next, strict-next, subs-rest, strict-rest}
 use Rattle.expiry.specs.declared.Swept.{Swept}
-use Rattle.expiry.specs.Sweep.{listed, sweptUnless, holding, Shorter, StaysStrict}
+use Rattle.expiry.specs.Sweep.{sweepListed, sweptUnless, Shorter, StaysStrict}
 use Rattle.expiry.proofs.Held.{low, flying-same, list-is, high, sub-left, gone-left}
 
 -- the consumers, the rows after theirs, and how many went
@@ -63,18 +63,18 @@ module _ (most now : ℕ) (q : Bool) (ws : List Row) (m i base : ℕ) (w start r
     (within : i < length subs)
     (fits : base + subRows (drop i ws) + m ≡ w .used)
     (ends : base ≡ subRows (take i subs))
-    (starts : start ≡ record { used = w .used; length = subOf (getD ws i []) .held; gone = w .gone })
+    (starts : start ≡ record { used = w .used; length = rowSub (getD ws i []) .held; gone = w .gone })
     (short : Shorter most start r)
-    (said : listed (base + subOf (getD ws i []) .inflight) r rows′ ≡ sweptUnless (q && subOf (getD ws i []) .browser) most now (listed (base + subOf (getD ws i []) .inflight) start rows))
+    (said : sweepListed (base + rowSub (getD ws i []) .inflight) r rows′ ≡ sweptUnless (q && rowSub (getD ws i []) .browser) most now (sweepListed (base + rowSub (getD ws i []) .inflight) start rows))
   where
     abbrev k : Kind
     k = kindBy q
 
     abbrev s : Sub
-    s = subOf (getD ws i [])
+    s = rowSub (getD ws i [])
 
     abbrev t : Sub
-    t = holding (r .length) s
+    t = withHeld (r .length) s
 
     abbrev post : List Row
     post = drop (suc i) ws
@@ -160,7 +160,7 @@ module _ (most now : ℕ) (q : Bool) (ws : List Row) (m i base : ℕ) (w start r
     -- strict words of the consumers that are done, and of those that are left
     pub strict-turn : StaysStrict (base + s .inflight) start r rows rows′ → subsStrict (take i subs) rows ≡ true → subsStrict (drop i ws) (drop base rows) ≡ true
         → (subsStrict (take (i + 1) subs′) rows′ ≡ true) × (subsStrict (drop (i + 1) ws) (drop end′ rows′) ≡ true)
-    unfolding subWords subOf
+    unfolding subWords rowSub
     strict-turn stays done left =
         let a = strict-next ws i more base rows left in
         let from : ℕ = base + s .inflight in
@@ -190,7 +190,7 @@ module _ (most now : ℕ) (q : Bool) (ws : List Row) (m i base : ℕ) (w start r
     y = sweepSubs (most - w .gone - x .gone) now (subsAt k post (drop end rows))
 
     swept-next : sweepSubs (most - w .gone) now (subsAt k (drop i ws) (drop base rows)) ≡ record { subs = withTpending (x .list) old ∷ y .subs; gone = x .gone + y .gone }
-    unfolding sweepSubs subOf
+    unfolding sweepSubs rowSub
     swept-next = ap (sweepSubs (most - w .gone) now) (subs-next ws i more k base rows)
 
     pub whole-turn : whole most now k ws m (i + 1) end′ (r .gone) subs′ rows′ ≡ whole most now k ws m i base (w .gone) subs rows

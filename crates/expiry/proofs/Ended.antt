@@ -21,22 +21,22 @@ use Rattle.definition.specs.Base.{all}
 use Rattle.definition.specs.Layout.{Row, heldAt, subsAt, subRows, entryStrict}
 use Rattle.definition.proofs.Tests.{if-true, if-false}
 use Rattle.definition.proofs.Local.{⊕-zero}
-use Rattle.definition.proofs.Lists.{all-append}
-use Rattle.table.proofs.Lists.{slice-take, agree-drop, agree-later}
+use Rattle.definition.proofs.Lists.{all-append, agree-later}
+use Rattle.table.proofs.Lists.{slice-take, agree-drop}
 use Rattle.consumers.proofs.View.{subs-agree}
 use Rattle.consumers.proofs.Strict.{strict-agree, tables-strict, strict-tables, all-left, all-right}
 use Rattle.state.specs.declared.Head.{Head}
 use Rattle.state.specs.declared.Answer as State
-use Rattle.state.specs.State.{headView, strictTables, kindBy, withStats, withUsed, withWaiting, firstWaiting, touched, dueBy, doneAs}
+use Rattle.state.specs.State.{headView, strictTables, kindBy, withCounters, withUsed, withWaiting, firstWaiting, touched, dueBy, doneAs}
 use Rattle.state.specs.Fits.{Fits}
-use Rattle.state.specs.Leaves.{silent, both, Leaves, LeavesIf}
+use Rattle.state.specs.Leaves.{silent, both, Leaves, LeavesIf, Room}
 use Rattle.state.specs.Ready.{Stands}
 use Rattle.state.proofs.View.{touched-mark}
 use Rattle.state.proofs.Counts.{expired-view}
 use Rattle.state.proofs.Leaves.{leaves-as, leaves-both, leaves-touch, when-leaves}
 use Rattle.expiry.specs.declared.Swept.{Swept}
-use Rattle.expiry.specs.Expiry.{sweepOut, finished, Kept, Answers}
-use Rattle.expiry.specs.Sweep.{Listed, listed, swept, waitingSwept, subsSwept, Fine, Shorter, StaysStrict, Able, SubsSwept}
+use Rattle.expiry.specs.Expiry.{sweepOut, sweepFinished, SweepAnswers}
+use Rattle.expiry.specs.Sweep.{Listed, sweepListed, swept, waitingSwept, subsSwept, SweepFine, Shorter, StaysStrict, Able, SubsSwept}
 
 -- ---- what the definition says
 
@@ -76,7 +76,7 @@ module _ (clock most : ℕ) (t : Dest) where
 -- ---- the count
 
 leaves-counted : (d : Head) (subs rows events : List Row) → Stands d subs → (g : ℕ) → d .stats .expired ≤ 2 ^ 62 → g ≤ 512
-    → Leaves (silent (count (addExpired g))) d (withStats (withExpiredBy (d .stats) g) d) subs rows events subs rows events
+    → Leaves (silent (count (addExpired g))) d (withCounters (withExpiredBy (d .stats) g) d) subs rows events subs rows events
 leaves-counted d subs rows events s g h b = record {
   view = λ ps qs _. expired-view subs rows ps qs d g (omega arith);
   sent = λ ps qs _. sym (append-nil (take (d .events) events));
@@ -114,7 +114,7 @@ module _ (most clock now : ℕ) (d : Head) (is : now ≡ dueBy clock d) (subs ro
   from-is : from ≡ n + d .reserved
   from-is = omega (arith, begins, f .rows-used)
 
-  pub waiting-fine : Fine (length rows) from start most now
+  pub waiting-fine : SweepFine (length rows) from start most now
   waiting-fine = record { rows = omega (arith, from-is, f .rows-used); used = f .used; room = f .rows-long; gone = omega arith; few = few; clock = less-late }
 
   -- the rows of the list are those that wait
@@ -125,7 +125,7 @@ module _ (most clock now : ℕ) (d : Head) (is : now ≡ dueBy clock d) (subs ro
       ∙ ap₂ (λ (x y : ℕ). take x (drop y l)) e from-is
       ∙ ap (take k) (sym (drop-drop (d .reserved) n l))
 
-  module _ (w : Swept) (rows′ : List Row) (same : length rows′ ≡ length rows) (said : listed from w rows′ ≡ swept most now (listed from start rows)) (short : Shorter most start w) (past : drop (d .used) rows′ ≡ drop (d .used) rows) (stays : StaysStrict from start w rows rows′) where
+  module _ (w : Swept) (rows′ : List Row) (same : length rows′ ≡ length rows) (said : sweepListed from w rows′ ≡ swept most now (sweepListed from start rows)) (short : Shorter most start w) (past : drop (d .used) rows′ ≡ drop (d .used) rows) (stays : StaysStrict from start w rows rows′) where
     abbrev left : Head
     left = withUsed (w .used) (withWaiting (w .length) d)
 
@@ -155,7 +155,7 @@ module _ (most clock now : ℕ) (d : Head) (is : now ≡ dueBy clock d) (subs ro
     unused = omega arith
 
     before-same : take from rows′ ≡ take from rows
-    unfolding listed swept
+    unfolding sweepListed swept
     before-same = ap (λ (v : Listed). v .before) said
 
     -- the consumers' rows and the reserved ones are as they were
@@ -183,22 +183,22 @@ module _ (most clock now : ℕ) (d : Head) (is : now ≡ dueBy clock d) (subs ro
       abbrev t : Dest
       t = headView d subs rows ps qs
 
-      pending-is : listed from start rows .list ≡ t .pending
-      unfolding listed headView
+      pending-is : sweepListed from start rows .list ≡ t .pending
+      unfolding sweepListed headView
       pending-is = ap (map entryOf) (list-is (d .waiting) rows)
 
-      list-left : listed from w rows′ .list ≡ waits now most t .list
-      unfolding listed swept
+      list-left : sweepListed from w rows′ .list ≡ waits now most t .list
+      unfolding sweepListed swept
       list-left = ap (λ (v : Listed). v .list) said ∙ ap₂ (λ (x : ℕ) (l : List Entry). sweepList x now l .list) unused pending-is
 
       pub gone-waiting : w .gone ≡ waits now most t .gone
-      unfolding listed swept
+      unfolding sweepListed swept
       gone-waiting =
           let z : (g : ℕ) → 0 + g ≡ g = λ g. omega arith in
-          ap (λ (v : Listed). v .gone) said ∙ z (sweepList (most - 0) now (listed from start rows .list) .gone) ∙ ap₂ (λ (x : ℕ) (l : List Entry). sweepList x now l .gone) unused pending-is
+          ap (λ (v : Listed). v .gone) said ∙ z (sweepList (most - 0) now (sweepListed from start rows .list) .gone) ∙ ap₂ (λ (x : ℕ) (l : List Entry). sweepList x now l .gone) unused pending-is
 
       pub waiting-view : headView left subs rows′ ps qs ≡ waitingSwept most now t
-      unfolding listed headView
+      unfolding sweepListed headView
       waiting-view =
           let k : Kind = kindBy (d .queue) in
           let ws : List Row = take (d .consumers) subs in
@@ -283,7 +283,7 @@ module _ (most clock now : ℕ) (d : Head) (is : now ≡ dueBy clock d) (subs ro
 
       -- some went
       abbrev counted : Head
-      counted = withStats (withExpiredBy (d .stats) (r .gone)) right
+      counted = withCounters (withExpiredBy (d .stats) (r .gone)) right
 
       abbrev ending : Dest → Out
       ending = both (both parts (silent (count (addExpired (r .gone))))) (silent (touchIdle clock))
@@ -313,9 +313,9 @@ module _ (most clock now : ℕ) (d : Head) (is : now ≡ dueBy clock d) (subs ro
       -- what `sweep` leaves and answers, where its test holds
       module _ (test : Bool) (holds-test : test ≡ true) where
         Done : State.Answer → Type 0
-        Done a = LeavesIf test (Kept d (a .head)) (sweepOut clock most) d (a .head) subs rows events subs′ rows″ events × Answers test (sweepExpired clock most) d subs rows a
+        Done a = LeavesIf test (Room d (a .head)) (sweepOut clock most) d (a .head) subs rows events subs′ rows″ events × SweepAnswers test (sweepExpired clock most) d subs rows a
 
-        answers : (a : State.Answer) → a .refusal ≡ 0 → ((ps : List Id) (qs : List Audit) → a .answer ≡ sweepExpired clock most (headView d subs rows ps qs) .answer) → Answers test (sweepExpired clock most) d subs rows a
+        answers : (a : State.Answer) → a .refusal ≡ 0 → ((ps : List Id) (qs : List Audit) → a .answer ≡ sweepExpired clock most (headView d subs rows ps qs) .answer) → SweepAnswers test (sweepExpired clock most) d subs rows a
         answers a e h = record {
           refusal = e ∙ sym (if-true 0 2 holds-test);
           answer = λ ps qs _. h ps qs ∙ sym (if-true _ 0 holds-test);
@@ -325,20 +325,20 @@ module _ (most clock now : ℕ) (d : Head) (is : now ≡ dueBy clock d) (subs ro
         unfolding Done
         some-went h =
             let m = touched-mark clock counted in
-            let k : Kept d (touched clock counted) = record { room = rw m (omega (arith, used-right, f .sent)); as-many = ap (λ (x : Head). x .consumers) m } in (
-              when-leaves test (Kept d (touched clock counted)) (sweepOut clock most) d (touched clock counted) subs rows events subs′ rows″ events holds-test (leaves-some h, k),
+            let k : Room d (touched clock counted) = record { room = rw m (omega (arith, used-right, f .sent)); as-many = ap (λ (x : Head). x .consumers) m } in (
+              when-leaves test (Room d (touched clock counted)) (sweepOut clock most) d (touched clock counted) subs rows events subs′ rows″ events holds-test (leaves-some h, k),
               answers (doneAs (r .gone) (touched clock counted)) refl (λ ps qs. total-is ps qs ∙ sym (ap (λ (x : Destination.Answer). x .answer) (counts ps qs (omega (arith, h, total-is ps qs))))),
             )
 
         none-went : r .gone ≡ 0 → Done (doneAs 0 right)
         unfolding Done
         none-went z = (
-          when-leaves test (Kept d right) (sweepOut clock most) d right subs rows events subs′ rows″ events holds-test (leaves-none z, record { room = omega (arith, used-right, f .sent); as-many = refl }),
+          when-leaves test (Room d right) (sweepOut clock most) d right subs rows events subs′ rows″ events holds-test (leaves-none z, record { room = omega (arith, used-right, f .sent); as-many = refl }),
           answers (doneAs 0 right) refl (λ ps qs. sym (ap (λ (x : Destination.Answer). x .answer) (rests ps qs (sym (total-is ps qs) ∙ z)))),
         )
 
-        sweep-ends : (a : State.Answer) → a ≡ finished (r .gone) clock right
-            → LeavesIf test (Kept d (a .head)) (sweepOut clock most) d (a .head) subs rows events subs′ rows″ events × Answers test (sweepExpired clock most) d subs rows a
+        sweep-ends : (a : State.Answer) → a ≡ sweepFinished (r .gone) clock right
+            → LeavesIf test (Room d (a .head)) (sweepOut clock most) d (a .head) subs rows events subs′ rows″ events × SweepAnswers test (sweepExpired clock most) d subs rows a
         unfolding Done
         sweep-ends a e = by-test (ltb 0 (r .gone))
             (λ h. let q : a ≡ doneAs (r .gone) (touched clock counted) = e ∙ if-true _ _ h in rw q (some-went (ltb-true 0 (r .gone) h)))
@@ -346,8 +346,8 @@ module _ (most clock now : ℕ) (d : Head) (is : now ≡ dueBy clock d) (subs ro
 
     -- the same from the head that the first part leaves
     pub sweep-from : (x : Head) → x ≡ left → (r : Swept) (subs′ rows″ : List Row) → SubsSwept most now x (w .gone) subs rows′ subs′ rows″ r → (test : Bool) → test ≡ true
-        → (a : State.Answer) → a ≡ finished (r .gone) clock (withUsed (r .used) (withWaiting (x .waiting) x))
-        → LeavesIf test (Kept d (a .head)) (sweepOut clock most) d (a .head) subs rows events subs′ rows″ events × Answers test (sweepExpired clock most) d subs rows a
+        → (a : State.Answer) → a ≡ sweepFinished (r .gone) clock (withUsed (r .used) (withWaiting (x .waiting) x))
+        → LeavesIf test (Room d (a .head)) (sweepOut clock most) d (a .head) subs rows events subs′ rows″ events × SweepAnswers test (sweepExpired clock most) d subs rows a
     sweep-from x e r subs′ rows″ g test sure a q =
         sweep-ends r subs′ rows″ (subst (λ (y : Head). SubsSwept most now y (w .gone) subs rows′ subs′ rows″ r) e g) test sure a
-        (q ∙ ap (λ (y : Head). finished (r .gone) clock (withUsed (r .used) (withWaiting (y .waiting) y))) e)
+        (q ∙ ap (λ (y : Head). sweepFinished (r .gone) clock (withUsed (r .used) (withWaiting (y .waiting) y))) e)

@@ -17,10 +17,10 @@ use Rattle.definition.specs.Destination.{sweepList}
 use Rattle.definition.specs.Layout.{Row, inflightAt, browserAt, tpendingAt}
 use Rattle.table.proofs.Lists.{slice-take, agree-take, agree-drop}
 use Rattle.consumers.specs.declared.Sub.{Sub}
-use Rattle.consumers.specs.Consumers.{subView}
+use Rattle.consumers.specs.Consumers.{subView, withHeld}
 use Rattle.state.specs.State.{kindBy}
 use Rattle.expiry.specs.declared.Swept.{Swept}
-use Rattle.expiry.specs.Sweep.{Listed, listed, swept, sweptUnless, holding, Shorter}
+use Rattle.expiry.specs.Sweep.{Listed, sweepListed, swept, sweptUnless, Shorter}
 use Rattle.expiry.proofs.Lists.{sweep-none}
 
 -- a consumer by its words, a mark, its rows in flight and the entries that it holds
@@ -66,7 +66,7 @@ module _ (most now base : ℕ) (q : Bool) (s : Sub) (w r : Swept) (rows rows′ 
     (length-is : w .length ≡ s .held)
     (within : base + s .inflight + s .held ≤ w .used)
     (short : Shorter most w r)
-    (said : listed (base + s .inflight) r rows′ ≡ sweptUnless (q && s .browser) most now (listed (base + s .inflight) w rows))
+    (said : sweepListed (base + s .inflight) r rows′ ≡ sweptUnless (q && s .browser) most now (sweepListed (base + s .inflight) w rows))
   where
     abbrev k : Kind
     k = kindBy q
@@ -86,8 +86,8 @@ module _ (most now base : ℕ) (q : Bool) (s : Sub) (w r : Swept) (rows rows′ 
     low-of v v′ false e = ((λ j. e j .before), (λ j. e j .after))
 
     before-same : take from rows′ ≡ take from rows
-    unfolding listed
-    before-same = low-of (listed from w rows) (listed from r rows′) (q && s .browser) said .0
+    unfolding sweepListed
+    before-same = low-of (sweepListed from w rows) (sweepListed from r rows′) (q && s .browser) said .0
 
     pub low : take base rows′ ≡ take base rows
     low = agree-take base from rows′ rows before-same (omega arith)
@@ -103,10 +103,10 @@ module _ (most now base : ℕ) (q : Bool) (s : Sub) (w r : Swept) (rows rows′ 
 
     -- the rows after its own are as they were
     pub high : take (w .used - (from + s .held)) (drop (from + r .length) rows′) ≡ take (w .used - (from + s .held)) (drop (from + s .held) rows)
-    unfolding listed
+    unfolding sweepListed
     high =
         let a : r .used - (from + r .length) ≡ w .used - (from + s .held) = omega (arith, short .tail) in
-        let b : slice (from + r .length) (r .used) rows′ ≡ slice (from + w .length) (w .used) rows = low-of (listed from w rows) (listed from r rows′) (q && s .browser) said .1 in
+        let b : slice (from + r .length) (r .used) rows′ ≡ slice (from + w .length) (w .used) rows = low-of (sweepListed from w rows) (sweepListed from r rows′) (q && s .browser) said .1 in
         ap (λ (x : ℕ). take x (drop (from + r .length) rows′)) (sym a)
         ∙ sym (slice-take (from + r .length) (r .used) rows′ (omega (arith, short .tail)))
         ∙ b
@@ -117,11 +117,11 @@ module _ (most now base : ℕ) (q : Bool) (s : Sub) (w r : Swept) (rows rows′ 
     abbrev x : Destination.Swept
     x = sweepList (most - w .gone) now (old .tpending)
 
-    both : (subView k (holding (r .length) s) (take (s .inflight) (drop base rows′)) (take (r .length) (drop from rows′)) ≡ withTpending (x .list) old) × (r .gone ≡ w .gone + x .gone)
-    unfolding subView listed Same
+    both : (subView k (withHeld (r .length) s) (take (s .inflight) (drop base rows′)) (take (r .length) (drop from rows′)) ≡ withTpending (x .list) old) × (r .gone ≡ w .gone + x .gone)
+    unfolding subView sweepListed Same
     both =
-        let v : Listed = listed from w rows in
-        let v′ : Listed = listed from r rows′ in
+        let v : Listed = sweepListed from w rows in
+        let v′ : Listed = sweepListed from r rows′ in
         let one : v .list ≡ map entryOf (take (s .held) (drop from rows)) = ap (map entryOf) (list-is (w .length) rows ∙ ap (λ (n : ℕ). take n (drop from rows)) length-is) in
         let two : v′ .list ≡ map entryOf (take (r .length) (drop from rows′)) = ap (map entryOf) (list-is (r .length) rows′) in
         let m = by-mark most now s flying v v′ q (s .browser) said in
@@ -132,7 +132,7 @@ module _ (most now base : ℕ) (q : Bool) (s : Sub) (w r : Swept) (rows rows′ 
           m .1 ∙ ap (λ (l : List Entry). w .gone + sweepList (most - w .gone) now (t l .tpending) .gone) one,
         )
 
-    pub sub-left : subView k (holding (r .length) s) (take (s .inflight) (drop base rows′)) (take (r .length) (drop from rows′)) ≡ withTpending (x .list) old
+    pub sub-left : subView k (withHeld (r .length) s) (take (s .inflight) (drop base rows′)) (take (r .length) (drop from rows′)) ≡ withTpending (x .list) old
     sub-left = both .0
 
     pub gone-left : r .gone ≡ w .gone + x .gone

@@ -17,7 +17,7 @@ use Rattle.definition.specs.Base.{if_then_else_, keep, tally, all}
 use Rattle.definition.specs.Types.{Entry}
 use Rattle.definition.specs.Consumer.{expired}
 use Rattle.definition.specs.Destination as Destination
-use Rattle.definition.specs.Destination.{sooner, soonest, sweptMore, sweepAt, sweepList}
+use Rattle.definition.specs.Destination.{sooner, soonest, sweptMore, sweepAt, sweepList, isSooner}
 use Rattle.definition.specs.Layout.{Row, entryStrict}
 use Rattle.definition.proofs.Lists.{all-keep}
 use Rattle.table.specs.Table.{hasSeq, removeRows, removedRows}
@@ -26,7 +26,7 @@ use Rattle.table.proofs.Segments.{kept-length}
 use Rattle.table.proofs.Laws.{remove-length, remove-after, remove-parts, gone-parts}
 use Rattle.expiry.specs.declared.Next.{Next}
 use Rattle.expiry.specs.declared.Swept.{Swept}
-use Rattle.expiry.specs.Sweep.{isSooner, nextOf, Listed, listed, swept, Fine, Shorter, StaysStrict}
+use Rattle.expiry.specs.Sweep.{nextOf, Listed, sweepListed, swept, SweepFine, Shorter, StaysStrict}
 
 -- ---- the soonest
 
@@ -155,8 +155,8 @@ left-entries e (r ∷ l) = by-test (eqb (getD r 0 0) (e .seq)) (λ h. rw h (left
 
 -- the list between the rows before and after it
 pub listed-parts : (from : ℕ) (w : Swept) (a s c z : List Row) → length a ≡ from → length s ≡ w .length → from + w .length + length c ≡ w .used
-    → listed from w (a ++ (s ++ (c ++ z))) ≡ record { before = a; list = map entryOf s; after = c; gone = w .gone }
-unfolding listed
+    → sweepListed from w (a ++ (s ++ (c ++ z))) ≡ record { before = a; list = map entryOf s; after = c; gone = w .gone }
+unfolding sweepListed
 listed-parts from w a s c z ea es ec =
     let one : slice from (from + w .length) (a ++ (s ++ (c ++ z))) ≡ s = slice-parts from (from + w .length) a s (c ++ z) ea (omega arith) in
     let two : slice (from + w .length) (w .used) (a ++ (s ++ (c ++ z))) ≡ c =
@@ -226,10 +226,10 @@ module _ (from : ℕ) (w : Swept) (rows : List Row) (h : from + w .length ≤ w 
         ap (all entryStrict) (ap (slice from (from + (w .length - k))) parts-turn ∙ slice-parts from (from + (w .length - k)) a left (c ++ z′) a-length (omega (arith, left-length)))
         ∙ all-keep entryStrict (λ r. not (p r)) s h
 
-    pub listed-turn : listed from w′ rows′ ≡ record { before = a; list = without e (map entryOf s); after = c; gone = w .gone + 1 }
+    pub listed-turn : sweepListed from w′ rows′ ≡ record { before = a; list = without e (map entryOf s); after = c; gone = w .gone + 1 }
     listed-turn =
         let n : from + (w .length - k) + length c ≡ w .used - k = omega (arith, k-few, c-length) in
-        ap (listed from w′) parts-turn
+        ap (sweepListed from w′) parts-turn
         ∙ listed-parts from w′ a left c z′ a-length left-length n
         ∙ ap (λ (x : List Entry). record { before = a; list = x; after = c; gone = w .gone + 1 }) (left-entries e s)
 
@@ -243,45 +243,45 @@ module _ (from : ℕ) (w : Swept) (rows : List Row) (h : from + w .length ≤ w 
 
 pub record Turn (most now from : ℕ) (rows₀ : List Row) (w₀ : Swept) (rows : List Row) (w : Swept) : Type 0 where
   pub same : length rows ≡ length rows₀
-  pub fine : Fine (length rows) from w most now
+  pub fine : SweepFine (length rows) from w most now
   pub shorter : Shorter most w₀ w
   pub past : drop (w₀ .used) rows ≡ drop (w₀ .used) rows₀
   pub strict : StaysStrict from w₀ w rows₀ rows
-  pub said : swept most now (listed from w rows) ≡ swept most now (listed from w₀ rows₀)
+  pub said : swept most now (sweepListed from w rows) ≡ swept most now (sweepListed from w₀ rows₀)
 
 module _ (most now from : ℕ) (rows₀ : List Row) (w₀ : Swept) where
-  pub turn-start : Fine (length rows₀) from w₀ most now → Turn most now from rows₀ w₀ rows₀ w₀
+  pub turn-start : SweepFine (length rows₀) from w₀ most now → Turn most now from rows₀ w₀ rows₀ w₀
   turn-start f = record { same = refl; fine = f; shorter = record { length = omega arith; tail = refl; gone = f .gone }; past = refl; strict = λ h. h; said = refl }
 
   module _ (rows : List Row) (w : Swept) (g : Turn most now from rows₀ w₀ rows w) where
     pub turn-next : (n : Next) (k : ℕ) (rows′ : List Row) → w .gone < most → nextOf n ≡ soonest now (map entryOf (slice from (from + w .length) rows)) → n .found ≡ true
         → k ≡ removedRows (hasSeq (n .entry .seq)) from (from + w .length) (w .used) rows → rows′ ≡ removeRows (hasSeq (n .entry .seq)) from (from + w .length) (w .used) rows
         → Turn most now from rows₀ w₀ rows′ (record { used = w .used - k; length = w .length - k; gone = w .gone + 1 })
-    unfolding listed
+    unfolding sweepListed
     turn-next n k rows′ h q t is made =
         let f = g .fine in
         let u : w .used ≤ length rows = omega (arith, f .used, f .room) in
         let few : k ≤ w .length = k-few from w rows (f .rows) u (n .entry) k rows′ is made in
         let l : length rows′ ≡ length rows = length-turn from w rows (f .rows) u (n .entry) k rows′ is made in
-        let e : soonest now (listed from w rows .list) ≡ some (n .entry) = sym q ∙ ap (λ (b : Bool). if_then_else_ {A = Option Entry} b (some (n .entry)) none) t in
+        let e : soonest now (sweepListed from w rows .list) ≡ some (n .entry) = sym q ∙ ap (λ (b : Bool). if_then_else_ {A = Option Entry} b (some (n .entry)) none) t in
         record {
           same = l ∙ g .same;
           fine = record { rows = omega (arith, f .rows, few); used = omega (arith, f .used); room = omega (arith, l, f .room); gone = omega arith; few = f .few; clock = f .clock };
           shorter = record { length = omega (arith, g .shorter .length); tail = omega (arith, g .shorter .tail, few, f .rows); gone = omega arith };
           past = past-turn from w rows (f .rows) u (n .entry) k rows′ is made (w₀ .used) (omega (arith, g .shorter .tail, g .shorter .length)) ∙ g .past;
           strict = λ s. strict-turn from w rows (f .rows) u (n .entry) k rows′ is made (g .strict s);
-          said = ap (swept most now) (listed-turn from w rows (f .rows) u (n .entry) k rows′ is made) ∙ swept-turn most now (listed from w rows) (n .entry) h e ∙ g .said;
+          said = ap (swept most now) (listed-turn from w rows (f .rows) u (n .entry) k rows′ is made) ∙ swept-turn most now (sweepListed from w rows) (n .entry) h e ∙ g .said;
         }
 
     -- nothing has expired
     pub turn-none : (n : Next) → nextOf n ≡ soonest now (map entryOf (slice from (from + w .length) rows)) → n .found ≡ false
-        → listed from w rows ≡ swept most now (listed from w₀ rows₀)
-    unfolding listed
+        → sweepListed from w rows ≡ swept most now (sweepListed from w₀ rows₀)
+    unfolding sweepListed
     turn-none n q t =
-        let e : soonest now (listed from w rows .list) ≡ none = sym q ∙ ap (λ (b : Bool). if_then_else_ {A = Option Entry} b (some (n .entry)) none) t in
-        sym (swept-none most now (listed from w rows) e) ∙ g .said
+        let e : soonest now (sweepListed from w rows .list) ≡ none = sym q ∙ ap (λ (b : Bool). if_then_else_ {A = Option Entry} b (some (n .entry)) none) t in
+        sym (swept-none most now (sweepListed from w rows) e) ∙ g .said
 
     -- the budget is used up
-    pub turn-end : most ≤ w .gone → listed from w rows ≡ swept most now (listed from w₀ rows₀)
-    unfolding listed
-    turn-end h = sym (swept-all most now (listed from w rows) h) ∙ g .said
+    pub turn-end : most ≤ w .gone → sweepListed from w rows ≡ swept most now (sweepListed from w₀ rows₀)
+    unfolding sweepListed
+    turn-end h = sym (swept-all most now (sweepListed from w rows) h) ∙ g .said

@@ -12,15 +12,16 @@ use Rattle.definition.specs.Destination as Destination
 use Rattle.definition.specs.Destination.{sweepSubs}
 use Rattle.definition.specs.Base.{all}
 use Rattle.definition.specs.Layout.{Row, heldAt, eachSub, subsAt, subRows, entryStrict, subsStrict}
-use Rattle.table.proofs.Lists.{same-after, agree-take, agree-drop, agree-later}
+use Rattle.definition.proofs.Lists.{agree-later}
+use Rattle.table.proofs.Lists.{same-after, agree-take, agree-drop}
 use Rattle.consumers.specs.declared.Sub.{Sub}
-use Rattle.consumers.specs.Consumers.{subOf, subWords}
+use Rattle.consumers.specs.Consumers.{rowSub, subWords, withHeld}
 use Rattle.consumers.proofs.Line.{left-size}
 use Rattle.consumers.proofs.Strict.{tables-strict, strict-tables}
 use Rattle.state.specs.declared.Head.{Head}
 use Rattle.state.specs.State.{headView, kindBy, withUsed}
 use Rattle.expiry.specs.declared.Swept.{Swept}
-use Rattle.expiry.specs.Sweep.{listed, sweptUnless, holding, subsSwept, Fine, Shorter, StaysStrict, Able, SubsSwept}
+use Rattle.expiry.specs.Sweep.{sweepListed, sweptUnless, subsSwept, SweepFine, Shorter, StaysStrict, Able, SubsSwept}
 use Rattle.expiry.proofs.Each.{Whole, whole, whole-start, whole-end, fits-turn, used-turn, ends-turn, strict-turn, whole-turn}
 
 pub record Round (most now : ℕ) (subs₀ rows₀ : List Row) (d : Head) (before : ℕ) (subs rows : List Row) (w : Swept) (base i : ℕ) : Type 0 where
@@ -62,13 +63,13 @@ module _ (most now : ℕ) (subs₀ rows₀ : List Row) (d : Head) (before : ℕ)
       row-is : getD subs i [] ≡ getD ws i []
       row-is = same-after i i subs subs₀ [] (g .rest) (omega arith) ∙ sym (getD-take (d .consumers) subs₀ i [] less)
 
-      pub round-rows : (s : Sub) → s ≡ subOf (getD subs i []) → base + s .inflight + s .held ≤ w .used
+      pub round-rows : (s : Sub) → s ≡ rowSub (getD subs i []) → base + s .inflight + s .held ≤ w .used
       round-rows s e =
-          let h : subRows (drop i ws) ≡ subOf (getD ws i []) .inflight + (subOf (getD ws i []) .held + subRows (drop (suc i) ws)) = left-size ws i here in
-          let l : base + subOf (getD ws i []) .inflight + subOf (getD ws i []) .held ≤ w .used = omega (arith, h, g .fits) in
+          let h : subRows (drop i ws) ≡ rowSub (getD ws i []) .inflight + (rowSub (getD ws i []) .held + subRows (drop (suc i) ws)) = left-size ws i here in
+          let l : base + rowSub (getD ws i []) .inflight + rowSub (getD ws i []) .held ≤ w .used = omega (arith, h, g .fits) in
           rw (e, row-is) l
 
-      pub round-fine : (s : Sub) → s ≡ subOf (getD subs i []) → Fine (length rows) (base + s .inflight) (record { used = w .used; length = s .held; gone = w .gone }) most now
+      pub round-fine : (s : Sub) → s ≡ rowSub (getD subs i []) → SweepFine (length rows) (base + s .inflight) (record { used = w .used; length = s .held; gone = w .gone }) most now
       round-fine s e = record {
         rows = round-rows s e;
         used = omega (arith, g .used, able .used);
@@ -78,22 +79,22 @@ module _ (most now : ℕ) (subs₀ rows₀ : List Row) (d : Head) (before : ℕ)
         clock = able .clock;
       }
 
-      pub round-turn : (s : Sub) (start r : Swept) (subs′ rows′ : List Row) → s ≡ subOf (getD subs i []) → start ≡ record { used = w .used; length = s .held; gone = w .gone }
-          → subs′ ≡ set subs i (subWords (holding (r .length) s)) → length rows′ ≡ length rows
-          → listed (base + s .inflight) r rows′ ≡ sweptUnless (d .queue && s .browser) most now (listed (base + s .inflight) start rows) → Shorter most start r → drop (start .used) rows′ ≡ drop (start .used) rows → StaysStrict (base + s .inflight) start r rows rows′
+      pub round-turn : (s : Sub) (start r : Swept) (subs′ rows′ : List Row) → s ≡ rowSub (getD subs i []) → start ≡ record { used = w .used; length = s .held; gone = w .gone }
+          → subs′ ≡ set subs i (subWords (withHeld (r .length) s)) → length rows′ ≡ length rows
+          → sweepListed (base + s .inflight) r rows′ ≡ sweptUnless (d .queue && s .browser) most now (sweepListed (base + s .inflight) start rows) → Shorter most start r → drop (start .used) rows′ ≡ drop (start .used) rows → StaysStrict (base + s .inflight) start r rows rows′
           → Round most now subs₀ rows₀ d before subs′ rows′ r (base + s .inflight + r .length) (i + 1)
       round-turn s start r subs′ rows′ e st p lr said short past stays =
-          let q : s ≡ subOf (getD ws i []) = e ∙ ap subOf row-is in
+          let q : s ≡ rowSub (getD ws i []) = e ∙ ap rowSub row-is in
           let b : i < length subs = omega (arith, able .subs-long, able .consumers, g .same-subs) in
-          let st′ : start ≡ record { used = w .used; length = subOf (getD ws i []) .held; gone = w .gone } = rw q at st in
-          let said′ : listed (base + subOf (getD ws i []) .inflight) r rows′ ≡ sweptUnless (d .queue && subOf (getD ws i []) .browser) most now (listed (base + subOf (getD ws i []) .inflight) start rows) = rw q at said in
-          let stays′ : StaysStrict (base + subOf (getD ws i []) .inflight) start r rows rows′ = rw q at stays in
+          let st′ : start ≡ record { used = w .used; length = rowSub (getD ws i []) .held; gone = w .gone } = rw q at st in
+          let said′ : sweepListed (base + rowSub (getD ws i []) .inflight) r rows′ ≡ sweptUnless (d .queue && rowSub (getD ws i []) .browser) most now (sweepListed (base + rowSub (getD ws i []) .inflight) start rows) = rw q at said in
+          let stays′ : StaysStrict (base + rowSub (getD ws i []) .inflight) start r rows rows′ = rw q at stays in
           let u : start .used ≡ w .used = ap (λ (y : Swept). y .used) st in
           rw (p, q) (record {
             within = omega arith;
             same-subs = simp length-set (g .same-subs);
             same-rows = lr ∙ g .same-rows;
-            rest = drop-set-lt (i + 1) subs i (subWords (holding (r .length) (subOf (getD ws i [])))) (omega arith) ∙ agree-later i (i + 1) subs subs₀ (omega arith) (g .rest);
+            rest = drop-set-lt (i + 1) subs i (subWords (withHeld (r .length) (rowSub (getD ws i [])))) (omega arith) ∙ agree-later i (i + 1) subs subs₀ (omega arith) (g .rest);
             fits = fits-turn most now (d .queue) ws m i base w start r subs rows rows′ here b (g .fits) (g .ends) st′ short said′;
             used = omega (arith, used-turn most now (d .queue) ws m i base w start r subs rows rows′ here b (g .fits) (g .ends) st′ short said′, g .used);
             gone = short .gone;

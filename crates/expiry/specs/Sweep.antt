@@ -13,16 +13,11 @@ use Rattle.definition.specs.Base.{if_then_else_, all}
 use Rattle.definition.specs.Types.{Id, Audit, Dest, Entry, withPending, withSubs}
 use Rattle.definition.specs.Destination.{sweepList, sweepSubs}
 use Rattle.definition.specs.Layout.{Row, subRows, entryStrict}
-use Rattle.consumers.specs.declared.Sub.{Sub}
 use Rattle.state.specs.declared.Head.{Head}
 use Rattle.state.specs.State.{headView, withUsed}
 use Rattle.state.specs.Leaves.{silent, Leaves}
 use Rattle.expiry.specs.declared.Next.{Next}
 use Rattle.expiry.specs.declared.Swept.{Swept}
-
--- the order of (expiration, seq)
-abbrev pub isSooner : Entry → Entry → Bool
-isSooner e f = ltZ (e .expiration) (f .expiration) || (leZ (e .expiration) (f .expiration) && ltb (e .seq) (f .seq))
 
 -- the entry that was found, if one was
 abbrev pub nextOf : Next → Option Entry
@@ -36,8 +31,8 @@ pub record Listed : Type 0 where
   pub gone : ℕ
 
 -- the list begins at from
-unfoldable pub listed : ℕ → Swept → List Row → Listed
-listed from w rows = record {
+unfoldable pub sweepListed : ℕ → Swept → List Row → Listed
+sweepListed from w rows = record {
   before = take from rows;
   list = map entryOf (slice from (from + w .length) rows);
   after = slice (from + w .length) (w .used) rows;
@@ -49,7 +44,7 @@ unfoldable pub swept : ℕ → ℕ → Listed → Listed
 swept most now v = let x = sweepList (most - v .gone) now (v .list) in record { before = v .before; list = x .list; after = v .after; gone = v .gone + x .gone }
 
 -- the counts lie within the table
-pub record Fine (nrows from : ℕ) (w : Swept) (most now : ℕ) : Type 0 where
+pub record SweepFine (nrows from : ℕ) (w : Swept) (most now : ℕ) : Type 0 where
   pub rows : from + w .length ≤ w .used
   pub used : w .used ≤ 512
   pub room : 512 ≤ nrows
@@ -82,9 +77,6 @@ subsSwept budget now t = withSubs (sweepSubs budget now (t .subs) .subs) t
 -- a snapshot is not swept
 abbrev pub sweptUnless : Bool → ℕ → ℕ → Listed → Listed
 sweptUnless snapshot most now v = if snapshot then v else swept most now v
-
-abbrev pub holding : ℕ → Sub → Sub
-holding x s = record { conn = s .conn; session = s .session; value = s .value; prefetch = s .prefetch; selector = s .selector; «next_dseq» = s .«next_dseq»; cursor = s .cursor; pull = s .pull; generation = s .generation; freed = s .freed; inflight = s .inflight; held = x; «no_local» = s .«no_local»; browser = s .browser; finished = s .finished; pulling = s .pulling }
 
 -- the counts lie within the tables, and so many went before
 pub record Able (subs : List Row) (d : Head) (nrows before most now : ℕ) : Type 0 where

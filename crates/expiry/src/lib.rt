@@ -7,12 +7,13 @@ ghost use lib.Dec.{leb};
 ghost use lib.ListN.{length, drop};
 ghost use lib.Seq.{slice};
 ghost use Rattle.entry.specs.Entry.{entryOf};
-ghost use Rattle.definition.specs.Destination.{soonest, sweepExpired, clear};
+ghost use Rattle.definition.specs.Destination.{soonest, sweepExpired, clear, isSooner};
+ghost use Rattle.consumers.specs.Consumers.{withHeld};
 ghost use Rattle.state.specs.State.{withWaiting, withUsed};
 ghost use Rattle.state.specs.Fits.{fits};
-ghost use Rattle.state.specs.Leaves.{LeavesIf};
-ghost use Rattle.expiry.specs.Expiry.{emptied, clearOut, sweepOut, finished, Kept, Answers};
-ghost use Rattle.expiry.specs.Sweep.{isSooner, nextOf, Fine, Shorter, StaysStrict, listed, swept, sweptUnless, holding, Able, SubsSwept};
+ghost use Rattle.state.specs.Leaves.{LeavesIf, Room};
+ghost use Rattle.expiry.specs.Expiry.{emptiedHead, clearOut, sweepOut, sweepFinished, SweepAnswers};
+ghost use Rattle.expiry.specs.Sweep.{nextOf, SweepFine, Shorter, StaysStrict, sweepListed, swept, sweptUnless, Able, SubsSwept};
 use consumers::Sub;
 use consumers::SubRow;
 use entry::Entry;
@@ -76,8 +77,8 @@ fn soonest(rows: &[Row], from: usize, to: usize, clock: u64) -> Next
 
 // Of the list at from at most so many expired rows go, soonest first.
 fn sweep_list(rows: &mut [Row], from: usize, start: Swept, most: usize, clock: u64) -> Swept
-    requires { ⌜ Fine (length (now rows)) from start most clock ⌝ }
-    ensures { λ r. ⌜ listed from r (now (rows .exit)) ≡ swept most clock (listed from start (now (rows .entry))) ⌝ }
+    requires { ⌜ SweepFine (length (now rows)) from start most clock ⌝ }
+    ensures { λ r. ⌜ sweepListed from r (now (rows .exit)) ≡ swept most clock (sweepListed from start (now (rows .entry))) ⌝ }
     ensures { λ r. ⌜ Shorter most start r ⌝ }
     ensures { λ _. ⌜ drop (start .used) (now (rows .exit)) ≡ drop (start .used) (now (rows .entry)) ⌝ }
     ensures { λ r. ⌜ StaysStrict from start r (now (rows .entry)) (now (rows .exit)) ⌝ }
@@ -107,8 +108,8 @@ fn sweep_held(
     most: usize,
     clock: u64,
 ) -> Swept
-    requires { ⌜ Fine (length (now rows)) from start most clock ⌝ }
-    ensures { λ r. ⌜ listed from r (now (rows .exit)) ≡ sweptUnless snapshot most clock (listed from start (now (rows .entry))) ⌝ }
+    requires { ⌜ SweepFine (length (now rows)) from start most clock ⌝ }
+    ensures { λ r. ⌜ sweepListed from r (now (rows .exit)) ≡ sweptUnless snapshot most clock (sweepListed from start (now (rows .entry))) ⌝ }
     ensures { λ r. ⌜ Shorter most start r ⌝ }
     ensures { λ _. ⌜ drop (start .used) (now (rows .exit)) ≡ drop (start .used) (now (rows .entry)) ⌝ }
     ensures { λ r. ⌜ StaysStrict from start r (now (rows .entry)) (now (rows .exit)) ⌝ }
@@ -120,8 +121,8 @@ fn sweep_held(
 }
 
 // A consumer that holds so many.
-fn holding(mut s: Sub, held: usize) -> Sub
-    ensures { λ r. ⌜ r ≡ holding held s ⌝ }
+fn with_held(mut s: Sub, held: usize) -> Sub
+    ensures { λ r. ⌜ r ≡ withHeld held s ⌝ }
 {
     s.held = held;
     s
@@ -158,7 +159,7 @@ fn sweep_subs(
         w = sweep_held(rows, from, start, d.queue & s.browser, most, clock);
         let held = w.length;
         base = from + held;
-        consumers::store(subs, i, holding(s, held));
+        consumers::store(subs, i, with_held(s, held));
         i += 1;
     }
     w
@@ -175,7 +176,7 @@ fn shorter(mut d: Head, used: usize, waiting: usize) -> Head
 
 // How many went, counted, and the idle mark.
 fn finished(d: Head, gone: usize, clock: u64) -> Answer
-    ensures { λ r. ⌜ r ≡ finished gone clock d ⌝ }
+    ensures { λ r. ⌜ r ≡ sweepFinished gone clock d ⌝ }
 {
     if 0 < gone {
         let counted = d.count_expired(gone as u64);
@@ -194,8 +195,8 @@ pub fn sweep(
     most: usize,
     clock: u64,
 ) -> Answer
-    ensures { λ r. ⌜ LeavesIf (fits (now (subs .entry)) d (length (now (rows .entry))) (length (now (events .entry))) && (leb clock (2 ^ 62) && leb most 512)) (Kept d (r .head)) (sweepOut clock most) d (r .head) (now (subs .entry)) (now (rows .entry)) (now (events .entry)) (now (subs .exit)) (now (rows .exit)) (now (events .entry)) ⌝ }
-    ensures { λ r. ⌜ Answers (fits (now (subs .entry)) d (length (now (rows .entry))) (length (now (events .entry))) && (leb clock (2 ^ 62) && leb most 512)) (sweepExpired clock most) d (now (subs .entry)) (now (rows .entry)) r ⌝ }
+    ensures { λ r. ⌜ LeavesIf (fits (now (subs .entry)) d (length (now (rows .entry))) (length (now (events .entry))) && (leb clock (2 ^ 62) && leb most 512)) (Room d (r .head)) (sweepOut clock most) d (r .head) (now (subs .entry)) (now (rows .entry)) (now (events .entry)) (now (subs .exit)) (now (rows .exit)) (now (events .entry)) ⌝ }
+    ensures { λ r. ⌜ SweepAnswers (fits (now (subs .entry)) d (length (now (rows .entry))) (length (now (events .entry))) && (leb clock (2 ^ 62) && leb most 512)) (sweepExpired clock most) d (now (subs .entry)) (now (rows .entry)) r ⌝ }
 {
     let due = d.due(clock);
     if !state::fits(subs, d, rows.len(), events.len()) {
@@ -220,7 +221,7 @@ pub fn sweep(
 
 // With no row in use.
 fn emptied(mut d: Head) -> Head
-    ensures { λ r. ⌜ r ≡ emptied d ⌝ }
+    ensures { λ r. ⌜ r ≡ emptiedHead d ⌝ }
 {
     d.waiting = 0;
     d.reserved = 0;
@@ -230,8 +231,8 @@ fn emptied(mut d: Head) -> Head
 
 // Drops every entry, and answers how many, browsers' snapshots apart. Where the numbers do not fit the tables, refused with 2.
 pub fn clear(subs: &mut [SubRow], rows: &[Row], events: &[Event], d: Head) -> Answer
-    ensures { λ r. ⌜ LeavesIf (fits (now (subs .entry)) d (length (now (rows .entry))) (length (now (events .entry)))) (Kept d (r .head)) clearOut d (r .head) (now (subs .entry)) (now (rows .entry)) (now (events .entry)) (now (subs .exit)) (now (rows .entry)) (now (events .entry)) ⌝ }
-    ensures { λ r. ⌜ Answers (fits (now (subs .entry)) d (length (now (rows .entry))) (length (now (events .entry)))) clear d (now (subs .entry)) (now (rows .entry)) r ⌝ }
+    ensures { λ r. ⌜ LeavesIf (fits (now (subs .entry)) d (length (now (rows .entry))) (length (now (events .entry)))) (Room d (r .head)) clearOut d (r .head) (now (subs .entry)) (now (rows .entry)) (now (events .entry)) (now (subs .exit)) (now (rows .entry)) (now (events .entry)) ⌝ }
+    ensures { λ r. ⌜ SweepAnswers (fits (now (subs .entry)) d (length (now (rows .entry))) (length (now (events .entry)))) clear d (now (subs .entry)) (now (rows .entry)) r ⌝ }
 {
     if !state::fits(subs, d, rows.len(), events.len()) {
         return Answer::refused(2, d);

@@ -5,18 +5,19 @@ use mathlib.Core.Path.{_≡_, refl, sym, _∙_, ap, subst⁻¹}
 use mathlib.Core.Bool.{Bool, true, false, not, _&&_}
 use mathlib.Core.List.{List, [], _∷_, map}
 use mathlib.Core.Option.{Option, none, some}
-use lib.ListN.{length}
+use lib.ListN.{length, length-map}
 use Rattle.definition.specs.Base.{if_then_else_, keep, tally, empty}
 use Rattle.definition.specs.Types.{Id, Entry, Inflight, Sub, Stats, Held, Dest, Event}
-use Rattle.definition.specs.Consumer.{zeroStats, _⊕_, Step, isBrowser, AckType, Delivered, Poison, Standard, Redelivered, Individual, Unmatched, Expired, Other, ackType, Ack, ackRange, ackLast, marked, free, removeInflight, bumped, redeliver, unlessBrowser, ackTransacted, ackPlain, ackSub}
+use Rattle.definition.specs.Consumer.{zeroStats, _⊕_, Step, isBrowser, AckType, Delivered, Poison, Standard, Redelivered, Individual, Unmatched, Expired, Other, ackType, Ack, ackRange, ackLast, freedAs, free, removeInflight, bumped, redeliver, unlessBrowser, ackTransacted, ackPlain, ackSub}
 use Rattle.definition.specs.Destination.{count, isId, subOf, putSub, heldBy, reservedOf, reservedHit, reservedCounts, ackReserved}
 use Rattle.definition.proofs.Tests.{by-test, by-if}
-use Rattle.definition.proofs.Lists.{length-map, empty-nil}
+use Rattle.definition.proofs.Lists.{empty-nil, keep-count}
 use Rattle.definition.proofs.Sums.{sum}
 use Rattle.definition.proofs.Local.{⊕-zero}
 use Rattle.definition.proofs.Whole.{sums, countM, queueSum}
 use Rattle.definition.proofs.Dispatch.{count-browser, count-plain}
-use Rattle.fates.proofs.Measures.{Steady, keep-count, sums-put, count-same}
+use Rattle.definition.proofs.Fit.{marked-entry}
+use Rattle.fates.proofs.Measures.{Steady, sums-put, count-same}
 use Rattle.fates.specs.Fates.{dequeued, expired, discarded, deadLettered, sameFate, ackFate, hits, namedReserved, namedAt}
 
 abbrev pub fleeting : Entry → Bool
@@ -54,7 +55,7 @@ flight-fleeting p [] = refl
 flight-fleeting p (i ∷ l) = by-test (p i) (λ c. rw c (omega (arith, flight-fleeting p l))) (λ c. rw c (omega (arith, flight-fleeting p l)))
 
 flight-many : (p : Inflight → Bool) (l : List Inflight) → length (entries (keep p l)) ≡ tally p l
-flight-many p l = length-map (λ i. i .entry) (keep p l) ∙ keep-count p l
+flight-many p l = length-map (keep p l) (λ i. i .entry) ∙ keep-count p l
 
 -- ---- a present consumer
 
@@ -77,12 +78,9 @@ no-range s = by-if (λ (l : List Entry). l ≡ []) (isBrowser s) [] (entries (ke
 takes-none : (y : AckType) (s v : Sub) (es : List Event) → ((f : Entry → ℕ) → Steady f → countM f v ≡ countM f s) → Takes y [] s (record { sub = v; counts = zeroStats; events = es })
 takes-none y s v es h = record { sums = λ f w. omega (arith, h f w); grows = grows-none y }
 
-marked-entry : (hit : Inflight → Bool) (tx : Bool) (i : Inflight) → marked hit tx i .entry ≡ i .entry
-marked-entry hit tx i = by-if (λ (x : Inflight). x .entry ≡ i .entry) (hit i) _ i (λ c. refl) (λ c. refl)
-
 free-same : (f : Entry → ℕ) (hit : Inflight → Bool) (tx : Bool) (s : Sub) → countM f (free hit tx s) ≡ countM f s
 unfolding isBrowser
-free-same f hit tx s = count-same f s (free hit tx s) refl (flown f (marked hit tx) (s .inflight) (λ i. ap f (marked-entry hit tx i)))
+free-same f hit tx s = count-same f s (free hit tx s) refl (flown f (freedAs hit tx) (s .inflight) (λ i. ap f (marked-entry hit tx i)))
 
 bumped-entry : (f : Entry → ℕ) → Steady f → (hit : Inflight → Bool) (i : Inflight) → f (bumped hit i .entry) ≡ f (i .entry)
 bumped-entry f w hit i = by-if (λ (x : Inflight). f (x .entry) ≡ f (i .entry)) (hit i) _ i (λ c. w (i .entry)) (λ c. refl)
@@ -171,11 +169,8 @@ reserved-grows Delivered l = record { enqueued = refl; dequeued = refl; expired 
 reserved-grows Redelivered l = record { enqueued = refl; dequeued = refl; expired = refl; discarded = refl }
 reserved-grows Other l = record { enqueued = refl; dequeued = refl; expired = refl; discarded = refl }
 
-⊕-none : (c : Stats) → c ≡ c ⊕ zeroStats
-⊕-none c = sym (⊕-zero c)
-
 pub same-acked : (y : AckType) (t : Dest) → Acked y [] t t
-same-acked y t = record { sums = λ f w. omega arith; waits = refl; counts = zeroStats; grows = grows-none y; stats = ⊕-none (t .stats) }
+same-acked y t = record { sums = λ f w. omega arith; waits = refl; counts = zeroStats; grows = grows-none y; stats = sym (⊕-zero (t .stats)) }
 
 pub absent-acked : (i : Id) (a : Ack) (t : Dest) (o : Option ℕ) → Acked (ackType (a .type)) (namedReserved i a t o) t (ackReserved i a t o .dest)
 unfolding ackReserved

@@ -3,33 +3,32 @@ use Prim.Native.Nat.{ℕ, _+_, _≤_, _%_}
 use native.Mathlib.Omega.{arith}
 use mathlib.Core.Path.{_≡_, refl, sym, _∙_, ap, ap₂, subst, subst⁻¹}
 use mathlib.Core.Bool.{Bool, true, false, not, _||_}
-use mathlib.Core.List.{List, [], _∷_, _++_, map}
+use mathlib.Core.List.{List, [], _∷_, _++_, map, map-append}
 use mathlib.Core.Option.{Option, none, some}
 use lib.Dec.{eqb}
 use borrow.Author.Tests.{eqb-true, eqb-false, eq-eqb, ne-eqb, le-leb, lt-leb}
 use Rattle.definition.specs.Base.{if_then_else_, keep, all, member}
 use Rattle.definition.specs.Types.{queue, Entry, Dest}
 use Rattle.definition.specs.Consumer.{ackType}
-use Rattle.definition.specs.Calls.{seqs, taken, held, acknowledge, pulling, timedOut, prefetching, Call, enqueuing, joining, leaving, asking, unmarking, releasing, sweeping, clearing, adding, removing, testing, forgetting, discarding, missing, argumentsOk, Result, call}
+use Rattle.definition.specs.Calls.{seqs, taken, held, acknowledge, pulling, timedOut, prefetching, Call, enqueuing, joining, leaving, asking, unmarking, releasing, sweeping, clearing, adding, removing, testing, forgetting, discarding, missing, argumentsOk, Result, call, brought}
 use Rattle.definition.specs.Queries.{isQueue}
-use Rattle.definition.specs.Words.{at, provided, read, inRange, decode}
+use Rattle.definition.specs.Words.{at, provided, read, rangedCall, decode}
 use Rattle.definition.specs.Orders.{Lent, result}
 use Rattle.definition.proofs.Tests.{by-test, by-if, if-true, if-false}
 use Rattle.definition.proofs.Lists.{All}
-use Rattle.definition.proofs.Thin.{map-append}
-use Rattle.definition.proofs.Sums.{sum, occ, sum-append, occ-yes, occ-no, occ-member}
+use Rattle.definition.proofs.Sums.{sum, occ, sum-append, occ-yes, occ-no, occ-member, occ-no-member}
 use Rattle.definition.proofs.Whole.{queueSum, sums-taken}
-use Rattle.fates.proofs.Measures.{occ-steady, member-occ, mine-occ, no-member}
+use Rattle.fates.proofs.Measures.{occ-steady, member-occ, mine-occ}
 use Rattle.fates.proofs.Sweeps.{holding-sum}
 use Rattle.fates.proofs.Calls.{decode-coded}
 use Rattle.fates.proofs.Run.{Kept, kept, called, new-apart}
 use Rattle.fates.proofs.Run as Run
 use Rattle.fates.proofs.Claims.{accepted-is-a-call}
 use Rattle.fates.proofs.Report.{decode-open, entered-dest, next-right}
-use Rattle.fates.specs.Fates.{Fate, expired, cleared, rank, sameFate, Departure, holding, brought, ackFate, Means, acks, clears, expires, means, waits, fateBy, leavers, departing, departures}
+use Rattle.fates.specs.Fates.{Fate, expired, cleared, rank, sameFate, Departure, holding, ackFate, Means, acks, clears, expires, means, waits, fateBy, leavers, departing, departures}
 use Rattle.fates.specs.Account.{Account, waiting, inFlight, reserved, left, leftAs}
-use Rattle.fates.specs.Report.{Ledger, entered, next, New}
-use Rattle.fates.specs.Blocks.{Block, blockOf, heldAs, ackedAs, leavesAs, moved, comes, noted, along, leftAt, placeOf, blocksOf, BlocksAreRight, BlocksAreKept, BlocksAreTheReport}
+use Rattle.fates.specs.Report.{Ledger, entered, ledgerNext, New}
+use Rattle.fates.specs.Blocks.{Block, blockOf, heldAs, ackedAs, leavesAs, blockMoved, comes, noted, along, departedAs, blockPlace, blocksOf, BlocksAreRight, BlocksAreKept, BlocksAreTheReport}
 
 -- ---- what a call's code and words say of it
 
@@ -103,7 +102,7 @@ read-says code ws =
     acked true = refl
     acked false = acked-number (at 3 ws % 256)
 
-range-says : (code : ℕ) (ws : List ℕ) (o : Option Call) → AllSays code ws o → AllSays code ws (inRange o)
+range-says : (code : ℕ) (ws : List ℕ) (o : Option Call) → AllSays code ws o → AllSays code ws (rangedCall o)
 range-says code ws none h = tt
 range-says code ws (some c) h = given-says code ws (argumentsOk c) c h
 
@@ -119,7 +118,7 @@ module _ (s : ℕ) (t : Dest) where
 
   held-nowhere : (p : ℕ) → queueSum (occ s) t ≡ 0 → heldAs s t p ≡ p
   unfolding heldAs
-  held-nowhere p z = rw (no-member s (t .pending) (omega (arith, parts, z)), no-member s (taken (t .subs)) (omega (arith, parts, z)), no-member s (held t) (omega (arith, parts, z)))
+  held-nowhere p z = rw (occ-no-member s (t .pending) (omega (arith, parts, z)), occ-no-member s (taken (t .subs)) (omega (arith, parts, z)), occ-no-member s (held t) (omega (arith, parts, z)))
 
   held-somewhere : (p q : ℕ) → 1 ≤ queueSum (occ s) t → (heldAs s t p ≡ heldAs s t q) × (heldAs s t p ≤ 2)
   unfolding heldAs
@@ -146,20 +145,20 @@ module _ (s : ℕ) (t : Dest) where
 abbrev entries : List Departure → List Entry
 entries l = map (λ d. d .entry) l
 
-left-low : (s : ℕ) (l : List Departure) → 3 ≤ leftAt s l
+left-low : (s : ℕ) (l : List Departure) → 3 ≤ departedAs s l
 left-low s [] = omega arith
 left-low s (d ∷ l) = by-if (λ (n : ℕ). 3 ≤ n) (eqb s (d .entry .seq)) _ _ (λ c. omega arith) (λ c. left-low s l)
 
-left-first : (s : ℕ) (l m : List Departure) → 1 ≤ sum (occ s) (entries l) → leftAt s (l ++ m) ≡ leftAt s l
+left-first : (s : ℕ) (l m : List Departure) → 1 ≤ sum (occ s) (entries l) → departedAs s (l ++ m) ≡ departedAs s l
 left-first s [] m h = absurd (omega arith)
 left-first s (d ∷ l) m h = by-test (eqb s (d .entry .seq)) (λ c. rw c) (λ c. rw c (left-first s l m (omega (arith, occ-no s (d .entry) c))))
 
-left-later : (s : ℕ) (l m : List Departure) → sum (occ s) (entries l) ≡ 0 → leftAt s (l ++ m) ≡ leftAt s m
+left-later : (s : ℕ) (l m : List Departure) → sum (occ s) (entries l) ≡ 0 → departedAs s (l ++ m) ≡ departedAs s m
 left-later s [] m h = refl
 left-later s (d ∷ l) m h = by-test (eqb s (d .entry .seq)) (λ c. absurd (omega (arith, occ-yes s (d .entry) c))) (λ c. rw c (left-later s l m (omega arith)))
 
 left-fate : (s : ℕ) (t u : Dest) (m : Means) (l : List Entry) → member s (seqs (holding u)) ≡ false → 1 ≤ sum (occ s) l
-    → leftAt s (map (departing t m) (keep (λ e. not (member (e .seq) (seqs (holding u)))) l)) ≡ 3 + rank (fateFrom (member s (seqs (t .pending))) m)
+    → departedAs s (map (departing t m) (keep (λ e. not (member (e .seq) (seqs (holding u)))) l)) ≡ 3 + rank (fateFrom (member s (seqs (t .pending))) m)
 left-fate s t u m [] n h = absurd (omega arith)
 left-fate s t u m (e ∷ l) n h = by-test (eqb s (e .seq))
     (λ c. let q = eqb-true s (e .seq) c in
@@ -198,60 +197,60 @@ module _ (a : List Entry) (l : List Departure) (t u : Dest) (k : Kept a l t) (co
 
   -- as one that leaves now, which was held or comes
   leaves : (s : ℕ) → sum (occ s) (entries l) ≡ 0 → 1 ≤ queueSum (occ s) t + sum (occ s) (brought c) → (w : Bool) → fateFrom w (means c) ≡ fateFrom (member s (seqs (t .pending))) (means c)
-      → heldAs s u (leavesAs code (at 3 ws) w) ≡ placeOf s later u
+      → heldAs s u (leavesAs code (at 3 ws) w) ≡ blockPlace s later u
   unfolding leavers
   leaves s z h w f = by-test (eqb (queueSum (occ s) u) 0)
       (λ e. ap (heldAs s u) (y .loses w ∙ ap (λ (x : Fate). 3 + rank x) f
       ∙ sym (left-later s l (departures c t u) z
-      ∙ left-fate s t u (means c) (holding t ++ brought c) (no-member s (holding u) (omega (arith, holding-sum (occ s) u, eqb-true (queueSum (occ s) u) 0 e))) (omega (arith, sum-append (occ s) (holding t) (brought c), holding-sum (occ s) t, h)))))
+      ∙ left-fate s t u (means c) (holding t ++ brought c) (occ-no-member s (holding u) (omega (arith, holding-sum (occ s) u, eqb-true (queueSum (occ s) u) 0 e))) (omega (arith, sum-append (occ s) (holding t) (brought c), holding-sum (occ s) t, h)))))
       (λ e. held-somewhere s u _ _ (omega (arith, eqb-false (queueSum (occ s) u) 0 e)) .0)
 
   -- a block that was there
-  old-moves : (s : ℕ) → 1 ≤ sum (occ s) a → moved code (at 3 ws) u (blockOf s (placeOf s l t)) ≡ blockOf s (placeOf s later u)
-  unfolding moved
+  old-moves : (s : ℕ) → 1 ≤ sum (occ s) a → blockMoved code (at 3 ws) u (blockOf s (blockPlace s l t)) ≡ blockOf s (blockPlace s later u)
+  unfolding blockMoved
   old-moves s h = by-test (eqb (queueSum (occ s) t) 0)
       (λ e. gone-before (eqb-true (queueSum (occ s) t) 0 e))
       (λ e. held-before (omega (arith, eqb-false (queueSum (occ s) t) 0 e)))
     where
       p : ℕ
-      p = placeOf s l t
+      p = blockPlace s l t
 
       none-comes : sum (occ s) (brought c) ≡ 0
       none-comes = by-test (eqb (sum (occ s) (brought c)) 0) (λ e. eqb-true (sum (occ s) (brought c)) 0 e) (λ e. absurd (omega (arith, h, new-apart a (brought c) s n (omega (arith, eqb-false (sum (occ s) (brought c)) 0 e)))))
 
-      gone-before : queueSum (occ s) t ≡ 0 → moved code (at 3 ws) u (blockOf s p) ≡ blockOf s (placeOf s later u)
+      gone-before : queueSum (occ s) t ≡ 0 → blockMoved code (at 3 ws) u (blockOf s p) ≡ blockOf s (blockPlace s later u)
       gone-before z =
-          let e = held-nowhere s t (leftAt s l) z in
+          let e = held-nowhere s t (departedAs s l) z in
           ap (blockOf s) (if-true p _ (le-leb 3 p (omega (arith, e, left-low s l)))
           ∙ e
-          ∙ sym (held-nowhere s u (leftAt s later) (omega (arith, m s, z, none-comes)) ∙ left-first s l (departures c t u) (omega (arith, k .sums (occ s) (occ-steady s), h, z))))
+          ∙ sym (held-nowhere s u (departedAs s later) (omega (arith, m s, z, none-comes)) ∙ left-first s l (departures c t u) (omega (arith, k .sums (occ s) (occ-steady s), h, z))))
 
-      held-before : 1 ≤ queueSum (occ s) t → moved code (at 3 ws) u (blockOf s p) ≡ blockOf s (placeOf s later u)
+      held-before : 1 ≤ queueSum (occ s) t → blockMoved code (at 3 ws) u (blockOf s p) ≡ blockOf s (blockPlace s later u)
       held-before g =
-          let few = held-somewhere s t (leftAt s l) 0 g .1 in
+          let few = held-somewhere s t (departedAs s l) 0 g .1 in
           ap (blockOf s) (if-false p _ (lt-leb 3 p (omega (arith, few)))
-          ∙ leaves s (omega (arith, k .sums (occ s) (occ-steady s), k .once s, g)) (omega (arith, g)) (eqb p 0) (ap (λ (b : Bool). fateFrom b (means c)) (held-waits s t (leftAt s l) (omega (arith, left-low s l)))))
+          ∙ leaves s (omega (arith, k .sums (occ s) (occ-steady s), k .once s, g)) (omega (arith, g)) (eqb p 0) (ap (λ (b : Bool). fateFrom b (means c)) (held-waits s t (departedAs s l) (omega (arith, left-low s l)))))
 
   -- a block that comes
-  new-moves : (s : ℕ) → 1 ≤ sum (occ s) (brought c) → moved code (at 3 ws) u (blockOf s 0) ≡ blockOf s (placeOf s later u)
-  unfolding moved
+  new-moves : (s : ℕ) → 1 ≤ sum (occ s) (brought c) → blockMoved code (at 3 ws) u (blockOf s 0) ≡ blockOf s (blockPlace s later u)
+  unfolding blockMoved
   new-moves s h = ap (blockOf s) (leaves s (omega (arith, k .sums (occ s) (occ-steady s), new-apart a (brought c) s n h)) (omega (arith, h)) true (come-expires c s (member s (seqs (t .pending))) h))
 
-  all-moved : map (moved code (at 3 ws) u) (blocksOf a l t ++ comes code ws) ≡ blocksOf (a ++ brought c) later u
+  all-moved : map (blockMoved code (at 3 ws) u) (blocksOf a l t ++ comes code ws) ≡ blocksOf (a ++ brought c) later u
   all-moved =
-      ap (λ (bs : List Block). map (moved code (at 3 ws) u) (blocksOf a l t ++ bs)) (y .brings)
-      ∙ map-append (moved code (at 3 ws) u) (blocksOf a l t) (map (λ e. blockOf (e .seq) 0) (brought c))
+      ap (λ (bs : List Block). map (blockMoved code (at 3 ws) u) (blocksOf a l t ++ bs)) (y .brings)
+      ∙ map-append (blockMoved code (at 3 ws) u) (blocksOf a l t) (map (λ e. blockOf (e .seq) 0) (brought c))
       ∙ ap₂ (λ (x z : List Block). x ++ z)
-      (each-moves (λ s. blockOf s (placeOf s l t)) a (mine-occ (λ s. moved code (at 3 ws) u (blockOf s (placeOf s l t)) ≡ blockOf s (placeOf s later u)) a old-moves))
-      (each-moves (λ s. blockOf s 0) (brought c) (mine-occ (λ s. moved code (at 3 ws) u (blockOf s 0) ≡ blockOf s (placeOf s later u)) (brought c) new-moves))
-      ∙ sym (map-append (λ e. blockOf (e .seq) (placeOf (e .seq) later u)) a (brought c))
+      (each-moves (λ s. blockOf s (blockPlace s l t)) a (mine-occ (λ s. blockMoved code (at 3 ws) u (blockOf s (blockPlace s l t)) ≡ blockOf s (blockPlace s later u)) a old-moves))
+      (each-moves (λ s. blockOf s 0) (brought c) (mine-occ (λ s. blockMoved code (at 3 ws) u (blockOf s 0) ≡ blockOf s (blockPlace s later u)) (brought c) new-moves))
+      ∙ sym (map-append (λ e. blockOf (e .seq) (blockPlace (e .seq) later u)) a (brought c))
     where
-      each-moves : (b : ℕ → Block) (es : List Entry) → All (λ e. moved code (at 3 ws) u (b (e .seq)) ≡ blockOf (e .seq) (placeOf (e .seq) later u)) es
-          → map (moved code (at 3 ws) u) (map (λ e. b (e .seq)) es) ≡ blocksOf es later u
+      each-moves : (b : ℕ → Block) (es : List Entry) → All (λ e. blockMoved code (at 3 ws) u (b (e .seq)) ≡ blockOf (e .seq) (blockPlace (e .seq) later u)) es
+          → map (blockMoved code (at 3 ws) u) (map (λ e. b (e .seq)) es) ≡ blocksOf es later u
       each-moves b [] h = refl
       each-moves b (e ∷ es) h = ap₂ (λ (x : Block) (z : List Block). x ∷ z) (h .0) (each-moves b es (h .1))
 
-noted-calls : (code : ℕ) (ws : List ℕ) (u : Dest) (bs : List Block) → 1 ≤ code → u .kind ≡ queue → noted code ws u bs ≡ map (moved code (at 3 ws) u) (bs ++ comes code ws)
+noted-calls : (code : ℕ) (ws : List ℕ) (u : Dest) (bs : List Block) → 1 ≤ code → u .kind ≡ queue → noted code ws u bs ≡ map (blockMoved code (at 3 ws) u) (bs ++ comes code ws)
 unfolding noted
 noted-calls code ws u bs low q = if-false [] _ (ap₂ (λ x y. x || not (isQueue y)) (ne-eqb code 0 (λ z. omega (arith, z, low))) q)
 
@@ -267,7 +266,7 @@ blocks-are-kept a l t r lent code ws c low e h n =
 
 -- ---- the place is right
 
-left-right : (s : ℕ) (l : List Departure) → 1 ≤ sum (occ s) (entries l) → (f : Fate) × (leftAt s l ≡ 3 + rank f) × (member s (seqs (leftAs f l)) ≡ true)
+left-right : (s : ℕ) (l : List Departure) → 1 ≤ sum (occ s) (entries l) → (f : Fate) × (departedAs s l ≡ 3 + rank f) × (member s (seqs (leftAs f l)) ≡ true)
 left-right s [] h = absurd (omega arith)
 left-right s (d ∷ l) h = by-test (eqb s (d .entry .seq))
     (λ c. (d .fate, if-true _ _ c, rw (eq-eqb (rank (d .fate)) (rank (d .fate)) refl, c)))
@@ -307,7 +306,7 @@ entered-blocks k g a n h = by-test (eqb (k .code) 0)
     blocks-are-kept (g .accepted) (g .gone) (g .dest) a (k .lengths) (k .code) (k .words) (p .0) low (p .1) h (subst (λ (o : Option Call). New g o) (p .1) n)
     ∙ sym (ap (λ (o : Option Call). Of (entered g (result k (g .dest) .dest) o)) (p .1)))
 
-next-blocks : (k : Lent) (ks : List Lent) (g : Ledger) → Account (g .accepted) (g .gone) (g .dest) → New g (decode (k .code) (k .words)) → along (k ∷ ks) (g .dest) (Of g) ≡ along ks (next k g .dest) (Of (next k g))
+next-blocks : (k : Lent) (ks : List Lent) (g : Ledger) → Account (g .accepted) (g .gone) (g .dest) → New g (decode (k .code) (k .words)) → along (k ∷ ks) (g .dest) (Of g) ≡ along ks (ledgerNext k g .dest) (Of (ledgerNext k g))
 next-blocks k ks g a n = by-test (eqb (result k (g .dest) .refusal) 0)
     (λ c. if-true _ _ c
     ∙ ap₂ (λ (d : Dest) (bs : List Block). along ks d bs) (sym (entered-dest g u o)) (entered-blocks k g a n (eqb-true (result k (g .dest) .refusal) 0 c))
@@ -322,4 +321,4 @@ next-blocks k ks g a n = by-test (eqb (result k (g .dest) .refusal) 0)
 
 pub blocks-are-the-report : BlocksAreTheReport
 blocks-are-the-report [] g a f = refl
-blocks-are-the-report (k ∷ ks) g a f = next-blocks k ks g a (f .1) ∙ blocks-are-the-report ks (next k g) (next-right k g a (f .0) (f .1)) (f .2)
+blocks-are-the-report (k ∷ ks) g a f = next-blocks k ks g a (f .1) ∙ blocks-are-the-report ks (ledgerNext k g) (next-right k g a (f .0) (f .1)) (f .2)

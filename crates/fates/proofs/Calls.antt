@@ -12,8 +12,8 @@ use Rattle.definition.specs.Base.{if_then_else_, keep, find, empty}
 use Rattle.definition.specs.Types.{Kind, queue, topic, Id, Entry, Sub, Audit, Dest, withIdle, withReserved}
 use Rattle.definition.specs.Consumer.{isBrowser, redelivered, AckType, ackType, Ack, ackSub}
 use Rattle.definition.specs.Destination.{Out, Answer, count, subOf, putSub, touchIdle, due, dispatch, dispatchBy, stored, enqueueBy, Spec, joined, addSub, prefetchAt, setPrefetch, reinsert, heldBy, reservedOf, ackReserved, ackAt, ack, pull, pullTimeout, returning, dropSub, removeAt, removeSub, returnReserved, auditOf, testAt, isDuplicate}
-use Rattle.definition.specs.Calls.{acknowledge, pulling, timedOut, prefetching, Call, enqueuing, joining, leaving, asking, unmarking, releasing, sweeping, clearing, adding, removing, testing, forgetting, discarding, missing, argumentsOk, ownRefusal, ask, perform, used}
-use Rattle.definition.specs.Words.{provided, read, inRange, decode}
+use Rattle.definition.specs.Calls.{acknowledge, pulling, timedOut, prefetching, Call, enqueuing, joining, leaving, asking, unmarking, releasing, sweeping, clearing, adding, removing, testing, forgetting, discarding, missing, argumentsOk, ownRefusal, ask, perform, used, brought}
+use Rattle.definition.specs.Words.{provided, read, rangedCall, decode}
 use Rattle.definition.proofs.Tests.{or-no-left, by-if, if-false}
 use Rattle.definition.proofs.Sums.{sum, occ}
 use Rattle.definition.proofs.Whole.{queueSum, Fine}
@@ -24,8 +24,8 @@ use Rattle.fates.proofs.Parts.{Expires, alike, then-expires, idle-expir
 use Rattle.fates.proofs.Sweeps.{sweep-expires}
 use Rattle.fates.proofs.Acks.{Acked, present-acked, absent-acked, same-acked, none-reserved}
 use Rattle.fates.proofs.Steps.{Moves, clock-moves, clear-moves, ack-moves}
-use Rattle.fates.specs.Fates.{acks, expires, brought, means, namedReserved, namedAt, named}
-use Rattle.fates.specs.Account.{reading}
+use Rattle.fates.specs.Fates.{acks, expires, means, namedReserved, namedAt, namedBy}
+use Rattle.fates.specs.Account.{clockReading}
 
 -- ---- calls with a code
 
@@ -74,7 +74,7 @@ read-coded code ws =
     (λ e. by-if AllCoded (eqb code 15) _ _ (λ e. given-coded _ _ tt)
     (λ e. tt)))))))))))))))
 
-range-coded : (o : Option Call) → AllCoded o → AllCoded (inRange o)
+range-coded : (o : Option Call) → AllCoded o → AllCoded (rangedCall o)
 range-coded none h = tt
 range-coded (some c) h = given-coded (argumentsOk c) c h
 
@@ -210,7 +210,7 @@ module _ (t : Dest) (k : t .kind ≡ queue) (o : (x : ℕ) → queueSum (occ x) 
 
 -- what an acknowledgement names
 abbrev pub takes : Dest → Call → List Entry
-takes t (asking i (acknowledge a now)) = named i a t
+takes t (asking i (acknowledge a now)) = namedBy i a t
 takes t (asking i (pulling timeout now)) = []
 takes t (asking i (timedOut generation)) = []
 takes t (asking i (prefetching p now)) = []
@@ -231,7 +231,7 @@ takes t missing = []
 same-moves : {H : Type 0} (now : ℕ) (t u : Dest) → Expires H now 0 [] t u → Moves H now expires [] [] t u
 same-moves {H} now t u x = clock-moves H now [] t u x
 
-pub perform-moves : (L U N : ℕ) (c : Call) (t : Dest) → Coded c → Fine L U queue N t → argumentsOk c ≡ true → ownRefusal t c ≡ 0 → Moves (Ready t c) (reading c t) (means c) (takes t c) (brought c) t (perform t c .dest)
+pub perform-moves : (L U N : ℕ) (c : Call) (t : Dest) → Coded c → Fine L U queue N t → argumentsOk c ≡ true → ownRefusal t c ≡ 0 → Moves (Ready t c) (clockReading c t) (means c) (takes t c) (brought c) t (perform t c .dest)
 unfolding perform ask addSub setPrefetch ack pull pullTimeout removeSub isDuplicate
 perform-moves L U N (enqueuing e now) t z g a r =
     let y = stores L U queue N e now t g a r in

@@ -8,17 +8,17 @@ use mathlib.Core.List.{List, [], _∷_, _++_, map}
 use Rattle.definition.specs.Base.{if_then_else_, keep, tally, empty, member}
 use Rattle.definition.specs.Types.{Entry, Sub, Dest}
 use Rattle.definition.specs.Consumer.{isBrowser, AckType, Delivered, Poison, Standard, Redelivered, Individual, Unmatched, Expired, Other, ackType}
-use Rattle.definition.specs.Calls.{seqs, flying, taken, held, Lengths, acknowledge, Call, asking, Result, call}
+use Rattle.definition.specs.Calls.{seqs, flying, taken, held, Lengths, acknowledge, Call, asking, Result, call, brought}
 use Rattle.definition.specs.Words.{decode, callStep, step}
 use Rattle.definition.proofs.Tests.{by-test, by-if}
-use Rattle.definition.proofs.Sums.{sum, one, occ, sum-one, sum-once, occ-member}
+use Rattle.definition.proofs.Sums.{sum, one, occ, sum-one, sum-once, occ-member, occ-no-member}
 use Rattle.definition.proofs.Whole.{sums, countM, sums-taken}
 use Rattle.definition.proofs.Dispatch.{count-browser, count-plain}
-use Rattle.fates.proofs.Measures.{Steady, only, sum-only, one-steady, occ-steady, occ-times, member-occ, no-member, yes-member}
+use Rattle.fates.proofs.Measures.{Steady, only, sum-only, one-steady, occ-steady, occ-times, member-occ, yes-member}
 use Rattle.fates.proofs.Run.{Kept, kept, called, moved, leavers-sum}
 use Rattle.fates.proofs.Calls.{decode-coded}
 use Rattle.definition.proofs.Made.{none-refused, step-call}
-use Rattle.fates.specs.Fates.{Fate, dequeued, expired, discarded, deadLettered, cleared, sameFate, Departure, brought, ackFate, Means, acks, clears, expires, means, waits, removal, fateBy, named, leavers, departing}
+use Rattle.fates.specs.Fates.{Fate, dequeued, expired, discarded, deadLettered, cleared, sameFate, Departure, ackFate, Means, acks, clears, expires, means, waits, removal, fateBy, namedBy, leavers, departing}
 use Rattle.fates.specs.Account.{opening, calling, Place, waiting, inFlight, reserved, left, leftAs, entriesAt, numbersAt, carries, InOnePlace, EachInOnePlace, EnqueuedIsTheTotal, CountersAreTheParts, NoneIsDiscarded, RemovalsAreNamed, AcceptedIsACall}
 
 -- ---- all departures, by fate
@@ -67,7 +67,7 @@ module _ (a : List Entry) (l : List Departure) (t : Dest) (k : Kept a l t) where
       }
 
   nowhere : (s : ℕ) → member s (seqs a) ≡ false → (p : Place) → member s (numbersAt p l t) ≡ false
-  nowhere s h p = no-member s (entriesAt p l t) (none-at p)
+  nowhere s h p = occ-no-member s (entriesAt p l t) (none-at p)
     where
       none-at : (p : Place) → sum (occ s) (entriesAt p l t) ≡ 0
       none-at waiting = omega (arith, parts s, occ-member s a h)
@@ -130,7 +130,7 @@ removal-steady t y x e = refl
 same-member : (x : ℕ) (l m : List Entry) → sum (occ x) l ≡ sum (occ x) m → member x (seqs l) ≡ member x (seqs m)
 same-member x l m h = by-test (member x (seqs l))
     (λ c. c ∙ sym (yes-member x m (omega (arith, member-occ x l c))))
-    (λ c. c ∙ sym (no-member x m (omega (arith, occ-member x l c))))
+    (λ c. c ∙ sym (occ-no-member x m (omega (arith, occ-member x l c))))
 
 pub removals-are-named : RemovalsAreNamed
 removals-are-named a l t r lent code ws i b now low e h x =
@@ -140,8 +140,8 @@ removals-are-named a l t r lent code ws i b now low e h x =
     let z : call lent c t .refusal ≡ 0 = sym (ap (λ (v : Result). v .refusal) s) ∙ h in
     let m = moved lent c t (decode-coded code ws c e) (k .kind) z .0 in
     let y = ackType (b .type) in
-    subst⁻¹ (λ (v : Result). member x (seqs (keep (λ f. removal t f (acks (ackType (b .type)))) (leavers [] t (v .dest)))) ≡ member x (seqs (named i b t))) s
-    (same-member x (keep (λ f. removal t f (acks (ackType (b .type)))) (leavers [] t (call lent c t .dest))) (named i b t)
+    subst⁻¹ (λ (v : Result). member x (seqs (keep (λ f. removal t f (acks (ackType (b .type)))) (leavers [] t (v .dest)))) ≡ member x (seqs (namedBy i b t))) s
+    (same-member x (keep (λ f. removal t f (acks (ackType (b .type)))) (leavers [] t (call lent c t .dest))) (namedBy i b t)
     (sym (sum-only (occ x) (λ f. removal t f (acks (ackType (b .type)))) (leavers [] t (call lent c t .dest)))
     ∙ leavers-sum [] (m .gone) t (call lent c t .dest) (λ v. omega (arith, k .once v, k .sums (occ v) (occ-steady v))) (m .sums) (only (λ f. removal t f (acks (ackType (b .type)))) (occ x)) (removal-steady t (ackType (b .type)) x)
     ∙ m .removes (occ x)))

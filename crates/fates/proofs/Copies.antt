@@ -8,15 +8,15 @@ use mathlib.Core.Option.{Option, none, some}
 use lib.IntN.{pos}
 use lib.ListN.{length, set}
 use borrow.Author.Tests.{eq-eqb}
-use Rattle.definition.specs.Base.{keep, find, put, nth, empty}
+use Rattle.definition.specs.Base.{find, put, nth, empty}
 use Rattle.definition.specs.Types.{Kind, queue, Entry, Sub, Dest, withCursor, withIdle}
 use Rattle.definition.specs.Consumer.{expired, zeroStats, isBrowser, hasCredit, shown, snapshot, send, sameSeq, Browse, drainBrowser, dispatchBrowser, meetBrowser, closeBrowser, AckType, Delivered, Poison, Standard, Redelivered, Individual, Unmatched, Expired, Other, ackType, Ack, ackTransacted, ackPlain, ackSub, Step}
 use Rattle.definition.specs.Destination.{touchIdle, Look, look, given, visitAt, visit, scan, turns, rounds, browsers, dispatchQueue, dispatchBy, due, dispatch, emptied, cleared, without, sweepList, sweepSubs}
 use Rattle.definition.proofs.Tests.{by-if, by-test}
 use Rattle.definition.proofs.Lists.{some-inj, All, all-put, all-find}
 use Rattle.definition.proofs.Sums.{sum, occ}
-use Rattle.definition.proofs.Whole.{queueSum}
-use Rattle.fates.proofs.Measures.{Steady, only, all-where}
+use Rattle.definition.proofs.Whole.{queueSum, all-map}
+use Rattle.fates.proofs.Measures.{Steady, only}
 use Rattle.fates.proofs.Dispatch.{alive, dispatch-late}
 use Rattle.fates.proofs.Parts.{Expires, Seen, touched}
 use Rattle.fates.proofs.Sweeps.{dead, holding-sum}
@@ -28,7 +28,7 @@ Snaps P l = All (λ s. All P (snapshot s)) l
 
 pub snaps-where : (P Q : Entry → Type 0) (l : List Sub) → ((k : Entry) → P k → Q k) → Snaps P l → Snaps Q l
 snaps-where P Q [] h a = tt
-snaps-where P Q (s ∷ l) h a = (all-where P Q (snapshot s) h (a .0), snaps-where P Q l h (a .1))
+snaps-where P Q (s ∷ l) h a = (all-map P Q (snapshot s) h (a .0), snaps-where P Q l h (a .1))
 
 -- ---- consumers in their places
 
@@ -204,8 +204,4 @@ agrees-mine t k o h now e = omega (arith, both now k (holding t), holding-sum (o
 -- each of a list is in it
 pub in-itself : (l : List Entry) → All (λ k. (f : Entry → ℕ) → f k ≤ sum f l) l
 in-itself [] = tt
-in-itself (e ∷ l) = (λ f. omega arith, all-where _ _ l (λ k h f. omega (arith, h f)) (in-itself l))
-
-pub all-keep : {A : Type 0} (P : A → Type 0) (p : A → Bool) (l : List A) → All P l → All P (keep p l)
-all-keep P p [] h = tt
-all-keep P p (a ∷ l) h = by-if (All P) (p a) (a ∷ keep p l) (keep p l) (λ c. (h .0, all-keep P p l (h .1))) (λ c. all-keep P p l (h .1))
+in-itself (e ∷ l) = (λ f. omega arith, all-map _ _ l (λ k h f. omega (arith, h f)) (in-itself l))

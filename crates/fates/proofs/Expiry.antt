@@ -15,26 +15,26 @@ use Rattle.definition.specs.Types.{Kind, queue, topic, Id, Entry, Sub, Audit, D
 use Rattle.definition.specs.Consumer.{addExpired, selects, isBrowser, snapshot, sendNull, sameSeq, redelivered, Ack, ackSub}
 use Rattle.definition.specs.Consumer as Consumer
 use Rattle.definition.specs.Destination.{Out, Answer, count, isId, subOf, putSub, touchIdle, due, dispatch, holdBack, holdBackAll, stored, enqueueBy, Spec, newSub, joined, addSub, room, prefetchAt, setPrefetch, reinsert, heldBy, reservedOf, ackReserved, ackAt, ack, pull, pullAt, pulled, resumed, fired, timeoutAt, pullTimeout, returnedFrom, reservedFrom, returning, dropSub, removeAt, removeSub, noTx, unmarked, returnReserved, sweepList, sweepSubs, sweepExpired, clear, auditOf, testAt, isDuplicate}
-use Rattle.definition.specs.Calls.{flying, Lengths, acknowledge, pulling, timedOut, prefetching, Call, enqueuing, joining, leaving, asking, unmarking, releasing, sweeping, clearing, adding, removing, testing, forgetting, discarding, missing, argumentsOk, ownRefusal, ask, perform, call, Result}
+use Rattle.definition.specs.Calls.{flying, Lengths, acknowledge, pulling, timedOut, prefetching, Call, enqueuing, joining, leaving, asking, unmarking, releasing, sweeping, clearing, adding, removing, testing, forgetting, discarding, missing, argumentsOk, ownRefusal, ask, perform, call, Result, brought}
 use Rattle.definition.proofs.Tests.{by-test, by-if, and-both}
-use Rattle.definition.proofs.Lists.{All}
+use Rattle.definition.proofs.Lists.{All, all-part}
 use Rattle.definition.proofs.Sums.{sum, occ, sum-append, occ-yes}
-use Rattle.definition.proofs.Whole.{sums, rowsM, countM, queueSum, rowsSum, Fine}
+use Rattle.definition.proofs.Whole.{sums, rowsM, countM, queueSum, rowsSum, Fine, all-map}
 use Rattle.definition.proofs.Own.{pulling-sub}
 use Rattle.definition.proofs.Reach.{back-all}
 use Rattle.definition.proofs.Kept.{accepted, stores}
 use Rattle.definition.proofs.Made.{call-accepted}
-use Rattle.fates.proofs.Measures.{Steady, occ-steady, only, all-where}
+use Rattle.fates.proofs.Measures.{Steady, occ-steady, only}
 use Rattle.fates.proofs.Dispatch.{alive}
 use Rattle.fates.proofs.Parts.{touched, null-same, pulling-same, prefetch-same, stored-expires, joined-expires, put-expires, returning-expires, unmarked-expires, released-expires}
 use Rattle.fates.proofs.Sweeps.{sweep-expires}
 use Rattle.fates.proofs.Acks.{present-acked, absent-acked}
 use Rattle.fates.proofs.Calls.{decode-coded, Ready, prefetch-kind, returning-kind, joined-kind, reserved-kind}
-use Rattle.fates.proofs.Copies.{Snaps, snaps-where, snaps-put, snaps-map, snaps-without, snaps-more, snaps-swept, snaps-cleared, ack-snap, Agrees, Agree, copy-steady, agrees-less, agree-less, agree-part, agree-seen, agree-queue, agree-dispatch, agree-touched, agrees-mine, in-itself, all-keep}
+use Rattle.fates.proofs.Copies.{Snaps, snaps-where, snaps-put, snaps-map, snaps-without, snaps-more, snaps-swept, snaps-cleared, ack-snap, Agrees, Agree, copy-steady, agrees-less, agree-less, agree-part, agree-seen, agree-queue, agree-dispatch, agree-touched, agrees-mine, in-itself}
 use Rattle.fates.proofs.Steps.{hasty}
 use Rattle.fates.proofs.Run.{kept, leavers-sum, opened-is, call-made, fine-queue, called, moved, still-once, hasty-steady}
-use Rattle.fates.specs.Fates.{expired, sameFate, Departure, brought, means, removal, fateBy, leavers, departing}
-use Rattle.fates.specs.Account.{Account, opening, calling, reading, truly, ExpiredHadExpired}
+use Rattle.fates.specs.Fates.{expired, sameFate, Departure, means, removal, fateBy, leavers, departing}
+use Rattle.fates.specs.Account.{Account, opening, calling, clockReading, truly, ExpiredHadExpired}
 
 -- ---- enqueue
 
@@ -75,7 +75,7 @@ stored-agree e t z a = snaps-map (Agrees (stored e t)) (holdBack (e .seq)) (t .s
 joined-agree : (now : ℕ) (p : Spec) (t : Dest) → ((x : ℕ) → queueSum (occ x) t ≤ 1) → Agree t → Agree (joined now p t)
 joined-agree now p t o a = by-if (λ (u : Dest). ((f : Entry → ℕ) → Steady f → queueSum f u ≤ queueSum f t) → Agree (withIdle none u)) (p .browser) browsed plain
     (λ c h. snaps-more (Agrees browsed) (t .subs) (newSub p (some shows)) (old browsed h)
-    (all-keep (Agrees browsed) (λ e. selects (e .«match_word») (p .selector)) live (all-where (λ k. (f : Entry → ℕ) → f k ≤ sum f live) (Agrees browsed) live (λ k. agrees-mine browsed k (λ x. omega (arith, o x, h (occ x) (occ-steady x)))) (in-itself live))))
+    (all-part (Agrees browsed) (λ e. selects (e .«match_word») (p .selector)) live (all-map (λ k. (f : Entry → ℕ) → f k ≤ sum f live) (Agrees browsed) live (λ k. agrees-mine browsed k (λ x. omega (arith, o x, h (occ x) (occ-steady x)))) (in-itself live))))
     (λ c h. snaps-more (Agrees plain) (t .subs) (newSub p none) (old plain h) tt)
     (λ f w. omega (arith, joined-expires (Unit {0}) now p t .sums f w))
   where
@@ -258,15 +258,15 @@ agreed a l t (calling {a = b} {l = m} {t = u} lent code ws c low e r h n) =
     let z : call lent c u .refusal ≡ 0 = sym (ap (λ (x : Result). x .refusal) s) ∙ h in
     subst⁻¹ (λ (x : Result). Agree (x .dest)) s (subst⁻¹ Agree (call-made lent c u (call-accepted lent c u z)) (right lent c u (kept b m u r .kind) z (agreed b m u r) .after))
 
-truly-one : (c : Call) (t : Dest) (e : Entry) → hasty (reading c t) t (means c) e ≡ 0 → truly c t (departing t (means c) e) ≡ true
+truly-one : (c : Call) (t : Dest) (e : Entry) → hasty (clockReading c t) t (means c) e ≡ 0 → truly c t (departing t (means c) e) ≡ true
 unfolding hasty alive
 truly-one c t e = by-test (sameFate expired (fateBy t e (means c)))
     (λ x. by-test (removal t e (means c))
     (λ y. rw (x, y) (λ h. refl))
-    (λ y. by-test (Consumer.expired (pos (reading c t)) e) (λ z. rw (x, y, z) (λ h. refl)) (λ z. rw (x, y, z) (λ h. absurd (omega arith)))))
+    (λ y. by-test (Consumer.expired (pos (clockReading c t)) e) (λ z. rw (x, y, z) (λ h. refl)) (λ z. rw (x, y, z) (λ h. absurd (omega arith)))))
     (λ x. rw x (λ h. refl))
 
-truly-all : (c : Call) (t : Dest) (l : List Entry) → sum (hasty (reading c t) t (means c)) l ≡ 0 → all (truly c t) (map (departing t (means c)) l) ≡ true
+truly-all : (c : Call) (t : Dest) (l : List Entry) → sum (hasty (clockReading c t) t (means c)) l ≡ 0 → all (truly c t) (map (departing t (means c)) l) ≡ true
 truly-all c t [] h = refl
 truly-all c t (e ∷ l) h = and-both (truly c t (departing t (means c) e)) _ (truly-one c t e (omega arith)) (truly-all c t l (omega arith))
 
@@ -279,4 +279,4 @@ expired-had-expired a l t r lent code ws c low e h n =
     let g = right lent c t (k .kind) z (agreed a l t r) .ready in
     subst⁻¹ (λ (x : Result). all (truly c t) (map (departing t (means c)) (leavers (brought c) t (x .dest))) ≡ true) s
     (truly-all c t (leavers (brought c) t (call lent c t .dest))
-    (leavers-sum (brought c) (m .gone) t (call lent c t .dest) (λ x. omega (arith, still-once a c (k .once) n x, sum-append (occ x) a (brought c), k .sums (occ x) (occ-steady x))) (m .sums) (hasty (reading c t) t (means c)) (hasty-steady (reading c t) t (means c)) ∙ m .late g))
+    (leavers-sum (brought c) (m .gone) t (call lent c t .dest) (λ x. omega (arith, still-once a c (k .once) n x, sum-append (occ x) a (brought c), k .sums (occ x) (occ-steady x))) (m .sums) (hasty (clockReading c t) t (means c)) (hasty-steady (clockReading c t) t (means c)) ∙ m .late g))

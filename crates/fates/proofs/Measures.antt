@@ -1,14 +1,13 @@
 -- Measures of entries that no redelivery changes, and sums of them over what is kept, put in order or in flight. Assumes nothing.
-use Prim.Native.Nat.{ℕ, zero, suc, _+_, _≤_}
+use Prim.Native.Nat.{ℕ, _+_, _≤_}
 use native.Mathlib.Omega.{arith}
 use mathlib.Core.Path.{_≡_, refl, sym, _∙_, ap}
 use mathlib.Core.Bool.{Bool, true, false, not, _||_, true≢false}
-use mathlib.Core.List.{List, [], _∷_, _++_, map}
+use mathlib.Core.List.{List, [], _∷_, map}
 use mathlib.Core.Option.{some}
 use lib.Dec.{ltb, eqb}
-use lib.ListN.{length, set}
 use borrow.Author.Tests.{eq-eqb}
-use Rattle.definition.specs.Base.{if_then_else_, keep, tally, find, put, nth, member}
+use Rattle.definition.specs.Base.{if_then_else_, keep, tally, find, put, member}
 use Rattle.definition.specs.Types.{Entry, Sub}
 use Rattle.definition.specs.Consumer.{redelivered, isBrowser}
 use Rattle.definition.specs.Destination.{insert, insertAll}
@@ -35,18 +34,6 @@ pub sum-split : (f : Entry → ℕ) (p : Entry → Bool) (l : List Entry) → su
 sum-split f p [] = refl
 sum-split f p (e ∷ l) = by-test (p e) (λ c. rw c (omega (arith, sum-split f p l))) (λ c. rw c (omega (arith, sum-split f p l)))
 
-pub keep-count : {A : Type 0} (p : A → Bool) (l : List A) → length (keep p l) ≡ tally p l
-keep-count p [] = refl
-keep-count p (a ∷ l) = by-test (p a) (λ c. rw c (omega (arith, keep-count p l))) (λ c. rw c (omega (arith, keep-count p l)))
-
-pub all-kept : {A : Type 0} (p : A → Bool) (l : List A) → All (λ a. p a ≡ true) (keep p l)
-all-kept p [] = tt
-all-kept p (a ∷ l) = by-test (p a) (λ c. rw c (c, all-kept p l)) (λ c. rw c (all-kept p l))
-
-pub all-join : {A : Type 0} (P : A → Type 0) (l m : List A) → All P l → All P m → All P (l ++ m)
-all-join P [] m h g = g
-all-join P (a ∷ l) m h g = (h .0, all-join P l m (h .1) g)
-
 -- a measure of what passes only
 abbrev pub only : (Entry → Bool) → (Entry → ℕ) → Entry → ℕ
 only p f e = if p e then f e else 0
@@ -68,14 +55,6 @@ pub sum-same : (f g : Entry → ℕ) (l : List Entry) → All (λ e. f e ≡ g e
 sum-same f g [] h = refl
 sum-same f g (e ∷ l) h = omega (arith, h .0, sum-same f g l (h .1))
 
-pub all-where : {A : Type 0} (P Q : A → Type 0) (l : List A) → ((a : A) → P a → Q a) → All P l → All Q l
-all-where P Q [] h p = tt
-all-where P Q (a ∷ l) h p = (h a (p .0), all-where P Q l h (p .1))
-
-pub sum-map : {A : Type 0} (f : Entry → ℕ) (g h : A → Entry) (l : List A) → ((a : A) → f (g a) ≡ f (h a)) → sum f (map g l) ≡ sum f (map h l)
-sum-map f g h [] e = refl
-sum-map f g h (a ∷ l) e = omega (arith, e a, sum-map f g h l e)
-
 -- ---- numbers
 
 pub occ-times : (x : ℕ) (l : List Entry) → sum (occ x) l ≡ tally (eqb x) (seqs l)
@@ -93,10 +72,6 @@ member-occ x (e ∷ l) h = by-test (eqb x (e .seq))
 pub mine-occ : (P : ℕ → Type 0) (l : List Entry) → ((x : ℕ) → 1 ≤ sum (occ x) l → P x) → All (λ e. P (e .seq)) l
 mine-occ P [] h = tt
 mine-occ P (e ∷ l) h = (h (e .seq) (omega (arith, occ-yes (e .seq) e (eq-eqb (e .seq) (e .seq) refl))), mine-occ P l (λ x g. h x (omega arith)))
-
-pub no-member : (x : ℕ) (l : List Entry) → sum (occ x) l ≡ 0 → member x (seqs l) ≡ false
-no-member x [] h = refl
-no-member x (e ∷ l) h = by-test (eqb x (e .seq)) (λ c. absurd (omega (arith, occ-yes x e c))) (λ c. rw c (no-member x l (omega arith)))
 
 pub yes-member : (x : ℕ) (l : List Entry) → 1 ≤ sum (occ x) l → member x (seqs l) ≡ true
 yes-member x l h = by-test (member x (seqs l)) (λ c. c) (λ c. absurd (omega (arith, occ-member x l c)))
@@ -117,11 +92,6 @@ insertAll-sum f (e ∷ l) m h =
 -- ---- one consumer in its place
 
 module _ (g : Sub → ℕ) where
-  pub sums-at : (i : ℕ) (l : List Sub) (s v : Sub) → nth i l ≡ some s → sums g (set l i v) + g s ≡ sums g l + g v
-  sums-at i [] s v e = absurd (none-some e)
-  sums-at zero (r ∷ l) s v e = omega (arith, ap g (some-inj e))
-  sums-at (suc i) (r ∷ l) s v e = omega (arith, sums-at i l s v e)
-
   pub sums-put : (p : Sub → Bool) (l : List Sub) (s v : Sub) → find p l ≡ some s → sums g (put p v l) + g s ≡ sums g l + g v
   sums-put p [] s v f = absurd (none-some f)
   sums-put p (c ∷ l) s v f = by-test (p c)

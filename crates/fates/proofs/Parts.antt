@@ -1,29 +1,28 @@
 -- What each call but an acknowledgement and a clear makes of a queue's entries: none comes but by an enqueue, and what goes has expired. Assumes nothing.
 use Prim.Native.Nat.{ℕ, _+_, _≤_}
 use native.Mathlib.Omega.{arith}
-use mathlib.Core.Path.{_≡_, refl, sym, _∙_, ap, subst, subst⁻¹}
-use mathlib.Core.Bool.{Bool, false, not, _&&_}
-use mathlib.Core.List.{List, [], _∷_, _++_, map}
+use mathlib.Core.Path.{_≡_, refl, _∙_, ap, subst, subst⁻¹}
+use mathlib.Core.Bool.{false, not, _&&_}
+use mathlib.Core.List.{List, [], _∷_, _++_, map, map-append}
 use mathlib.Core.Option.{Option, none, some}
 use lib.Dec.{ltb, eqb}
 use lib.IntN.{ℤ, pos}
 use lib.Signed.{ltZ}
 use lib.ListN.{length, length-append}
-use Rattle.definition.specs.Base.{if_then_else_, keep, find, empty}
-use Rattle.definition.specs.Types.{Kind, queue, Id, Entry, Inflight, Sub, Stats, Held, Dest, withPrefetch, withIdle, withReserved}
+use Rattle.definition.specs.Base.{if_then_else_, keep, empty}
+use Rattle.definition.specs.Types.{Kind, queue, Id, Entry, Inflight, Sub, Stats, Dest, withPrefetch, withIdle, withReserved}
 use Rattle.definition.specs.Consumer.{expired, selects, isBrowser, redelivered, sendNull}
-use Rattle.definition.specs.Destination.{Out, Answer, isId, subOf, putSub, marked, touchIdle, dispatch, dispatchBy, holdBack, holdBackAll, stored, due, Spec, newSub, joined, room, prefetchAt, reinsert, heldBy, reservedOf, pullAt, pulled, resumed, fired, timeoutAt, wasDelivered, returnedFrom, reservedFrom, without, returning, dropSub, noTx, unmarked}
+use Rattle.definition.specs.Destination.{Out, Answer, isId, subOf, putSub, idleMark, touchIdle, dispatch, dispatchBy, holdBack, holdBackAll, stored, due, Spec, newSub, joined, room, prefetchAt, reinsert, heldBy, reservedOf, pullAt, pulled, resumed, fired, timeoutAt, wasDelivered, returnedFrom, reservedFrom, returning, dropSub, noTx, unmarked}
 use Rattle.definition.specs.Calls.{held}
-use Rattle.definition.proofs.Tests.{by-test, by-if, if-true, if-false}
-use Rattle.definition.proofs.Lists.{none-some, some-inj}
-use Rattle.definition.proofs.Thin.{map-append}
-use Rattle.definition.proofs.Sums.{sum, occ, sum-append}
-use Rattle.definition.proofs.Whole.{sums, countM, queueSum}
+use Rattle.definition.proofs.Tests.{by-if}
+use Rattle.definition.proofs.Lists.{keep-count}
+use Rattle.definition.proofs.Sums.{sum, occ, sum-append, held-split}
+use Rattle.definition.proofs.Whole.{sums, countM, queueSum, sums-without, sums-more}
 use Rattle.definition.proofs.Own.{pulling-sub}
 use Rattle.definition.proofs.Dispatch.{count-browser, count-plain, cursor-count}
 use Rattle.definition.proofs.Reach.{back-all}
-use Rattle.definition.proofs.Join.{by-bool}
-use Rattle.fates.proofs.Measures.{Steady, occ-steady, sum-split, keep-count, insert-sum, insertAll-sum, sums-put, sums-map, count-same}
+use Rattle.definition.proofs.Join.{by-bool, new-count}
+use Rattle.fates.proofs.Measures.{Steady, occ-steady, sum-split, insert-sum, insertAll-sum, sums-put, sums-map, count-same}
 use Rattle.fates.proofs.Dispatch.{alive, all-late, Late, Copies, dispatch-late}
 
 -- u is t with the entries b come, n of them enqueued, and some gone; where H holds, all of these had expired
@@ -66,7 +65,7 @@ idle-expires now n b t u i x = record { gone = x .gone; sums = x .sums; late = x
 -- a property of all idle marks
 pub touched {ℓ} : (P : Dest → Type ℓ) (now : ℕ) (t : Dest) → ((i : Option ℕ) → P (withIdle i t)) → P (touchIdle now t)
 unfolding touchIdle
-touched P now t h = by-if P (empty (t .pending) && (empty (t .subs) && empty (t .producers))) (withIdle (marked now (t .idle)) t) (withIdle none t) (λ c. h (marked now (t .idle))) (λ c. h none)
+touched P now t h = by-if P (empty (t .pending) && (empty (t .subs) && empty (t .producers))) (withIdle (idleMark now (t .idle)) t) (withIdle none t) (λ c. h (idleMark now (t .idle))) (λ c. h none)
 
 -- ---- dispatch
 
@@ -102,13 +101,6 @@ stored-expires H now e t z = record {
 }
 
 -- ---- join
-
-sums-more : (g : Sub → ℕ) (l : List Sub) (v : Sub) → sums g (l ++ v ∷ []) ≡ sums g l + g v
-sums-more g [] v = omega arith
-sums-more g (s ∷ l) v = omega (arith, sums-more g l v)
-
-new-count : (f : Entry → ℕ) (p : Spec) (o : Option (List Entry)) → countM f (newSub p o) ≡ 0
-new-count f p o = by-test (isBrowser (newSub p o)) (λ c. count-browser f (newSub p o) c) (λ c. count-plain f (newSub p o) c)
 
 pub joined-expires : (H : Type 0) (now : ℕ) (p : Spec) (t : Dest) → Expires H (due now t) 0 [] t (joined now p t)
 joined-expires H now p t = by-if (λ (u : Dest). Expires H k 0 [] t (withIdle none u)) (p .browser) _ _
@@ -216,12 +208,6 @@ returns H now t d es o k = record {
 
 -- ---- leave
 
-sums-without : (g : Sub → ℕ) (p : Sub → Bool) (l : List Sub) (s : Sub) → find p l ≡ some s → sums g (without p l) + g s ≡ sums g l
-sums-without g p [] s f = absurd (none-some f)
-sums-without g p (c ∷ l) s f = by-test (p c)
-    (λ e. rw e (omega (arith, ap g (some-inj (sym (if-true (some c) (find p l) e) ∙ f)))))
-    (λ e. rw e (omega (arith, sums-without g p l s (sym (if-false (some c) (find p l) e) ∙ f))))
-
 returned-sum : (f : Entry → ℕ) → Steady f → (last : ℤ) (j : Id) (l : List Inflight) → sum f (returnedFrom last l) + sum f (map (λ h. h .entry) (reservedFrom j l)) ≡ sum f (map (λ i. i .entry) l)
 returned-sum f w last j [] = refl
 returned-sum f w last j (i ∷ l) = by-bool
@@ -266,10 +252,6 @@ unmarked-count f i s = by-if (λ (v : Sub). countM f v ≡ countM f s) (isId i s
     flown : (l : List Inflight) → sum f (map (λ i. i .entry) (map no-tx l)) ≡ sum f (map (λ i. i .entry) l)
     flown [] = refl
     flown (x ∷ l) = omega (arith, flown l)
-
-held-split : (f : Entry → ℕ) (p : Held → Bool) (l : List Held) → sum f (map (λ h. h .entry) (keep (λ h. not (p h)) l)) + sum f (map (λ h. h .entry) (keep p l)) ≡ sum f (map (λ h. h .entry) l)
-held-split f p [] = refl
-held-split f p (h ∷ l) = by-test (p h) (λ c. rw c (omega (arith, held-split f p l))) (λ c. rw c (omega (arith, held-split f p l)))
 
 redelivered-sum : (f : Entry → ℕ) → Steady f → (l : List Entry) → sum f (map redelivered l) ≡ sum f l
 redelivered-sum f w [] = refl

@@ -13,7 +13,7 @@ use Rattle.definition.specs.Orders.{Lent, result}
 use Rattle.definition.proofs.Tests.{by-test, by-if}
 use Rattle.fates.proofs.Claims.{accepted-is-a-call}
 use Rattle.fates.specs.Account.{Account, opening, calling}
-use Rattle.fates.specs.Report.{Ledger, entered, next, New, ReportIsTheAccount}
+use Rattle.fates.specs.Report.{Ledger, entered, ledgerNext, New, ReportIsTheAccount}
 
 abbrev Right : Ledger → Type 0
 Right g = Account (g .accepted) (g .gone) (g .dest)
@@ -39,11 +39,11 @@ pub entered-dest : (g : Ledger) (u : Dest) (o : Option Call) → entered g u o .
 entered-dest g u none = refl
 entered-dest g u (some c) = refl
 
-pub next-right : (k : Lent) (g : Ledger) → Right g → next k g .dest .kind ≡ queue → New g (decode (k .code) (k .words)) → Right (next k g)
+pub next-right : (k : Lent) (g : Ledger) → Right g → ledgerNext k g .dest .kind ≡ queue → New g (decode (k .code) (k .words)) → Right (ledgerNext k g)
 next-right k g a q n = by-if (λ (x : Ledger). x .dest .kind ≡ queue → Right x) (eqb (result k (g .dest) .refusal) 0) _ g
     (λ c z. entered-right k g a n (eqb-true (result k (g .dest) .refusal) 0 c) (sym (ap (λ (d : Dest). d .kind) (entered-dest g (result k (g .dest) .dest) (decode (k .code) (k .words)))) ∙ z))
     (λ c z. a) q
 
 pub report-is-the-account : ReportIsTheAccount
 report-is-the-account [] g a f = a
-report-is-the-account (k ∷ ks) g a f = report-is-the-account ks (next k g) (next-right k g a (f .0) (f .1)) (f .2)
+report-is-the-account (k ∷ ks) g a f = report-is-the-account ks (ledgerNext k g) (next-right k g a (f .0) (f .1)) (f .2)

@@ -1,41 +1,33 @@
 -- The account of a queue, kept by every accepted call. Assumes nothing.
-use Prim.Native.Nat.{ℕ, _+_, _≤_, _^_}
+use Prim.Native.Nat.{ℕ, _+_, _≤_}
 use native.Mathlib.Omega.{arith}
 use mathlib.Core.Path.{_≡_, refl, sym, _∙_, ap, subst, subst⁻¹}
 use mathlib.Core.Bool.{Bool, true, false, not, _&&_}
-use mathlib.Core.List.{List, [], _∷_, _++_, map}
-use mathlib.Core.Option.{Option, none, some}
+use mathlib.Core.List.{List, [], _∷_, _++_, map, map-append}
+use mathlib.Core.Option.{some}
 use lib.Dec.{eqb}
 use lib.ListN.{length, length-append}
-use borrow.Author.Tests.{eqb-true, eqb-false, not-true, leb-true}
-use Rattle.definition.specs.Base.{if_then_else_, tally, all, member, find}
-use Rattle.definition.specs.Types.{Kind, queue, Id, Entry, Audit, Dest}
-use Rattle.definition.specs.Destination.{enqueueBy, clear, isDuplicate, Answer, auditOf, testAt}
-use Rattle.audit.specs.Audit.{seen}
+use borrow.Author.Tests.{eqb-true, eqb-false, not-true}
+use Rattle.definition.specs.Base.{if_then_else_, tally, all, member}
+use Rattle.definition.specs.Types.{Kind, queue, Entry, Dest}
 use Rattle.definition.specs.Consumer.{redelivered}
 use Rattle.definition.specs.Consumer as Consumer
-use Rattle.definition.specs.Calls.{seqs, Lengths, short, sound, bound, clockOk, idOk, within, Call, enqueuing, joining, leaving, asking, unmarking, releasing, sweeping, clearing, adding, removing, testing, forgetting, discarding, missing, argumentsOk, ownRefusal, refusal, perform, used, Result, call}
+use Rattle.definition.specs.Calls.{seqs, Lengths, short, sound, bound, Call, enqueuing, joining, leaving, asking, unmarking, releasing, sweeping, clearing, adding, removing, testing, forgetting, discarding, missing, refusal, perform, used, Result, call, brought}
 use Rattle.definition.specs.Words.{decode, openWords, openedBy, openStep, callStep, step}
-use Rattle.definition.proofs.Tests.{by-test, by-if, and-left, and-right}
-use Rattle.definition.proofs.Thin.{map-append}
-use Rattle.definition.proofs.Sums.{sum, one, occ, sum-append, sum-one, once-sum, occ-no, occ-member}
+use Rattle.definition.proofs.Tests.{by-test, and-left, and-right}
+use Rattle.definition.proofs.Sums.{sum, one, occ, sum-append, sum-one, once-sum, occ-no, occ-member, occ-no-member}
 use Rattle.definition.proofs.Whole.{queueSum, Fine, fine}
-use Rattle.definition.proofs.Ops.{ask-fine}
-use Rattle.definition.proofs.Reach.{enqueue-fine}
-use Rattle.definition.proofs.Join.{join-fine}
-use Rattle.definition.proofs.Leave.{leave-fine, release-fine, sweep-fine}
-use Rattle.definition.proofs.Kept.{accepted, stores, joins}
+use Rattle.definition.proofs.Kept.{accepted, perform-fine}
 use Rattle.definition.proofs.Made.{call-accepted, step-call}
 use Rattle.definition.proofs.Claims.{step-leaves-sound}
-use Rattle.fates.proofs.Measures.{Steady, occ-steady, only, sum-only, only-none, only-all, mine-occ, no-member, yes-member}
+use Rattle.fates.proofs.Measures.{Steady, occ-steady, only, sum-only, only-none, only-all, mine-occ, yes-member}
 use Rattle.fates.proofs.Dispatch.{alive}
-use Rattle.fates.proofs.Parts.{touched}
 use Rattle.fates.proofs.Sweeps.{holding-sum}
 use Rattle.fates.proofs.Acks.{fleeting}
 use Rattle.fates.proofs.Steps.{like, lettered, hasty, Moves}
 use Rattle.fates.proofs.Calls.{Coded, decode-coded, Ready, takes, perform-moves, used-moves}
-use Rattle.fates.specs.Fates.{Fate, dequeued, expired, discarded, deadLettered, sameFate, Departure, holding, brought, Means, acks, clears, expires, means, removal, fateBy, leavers, departing, departures}
-use Rattle.fates.specs.Account.{Account, opening, calling, leftAs, reading}
+use Rattle.fates.specs.Fates.{Fate, dequeued, expired, discarded, deadLettered, sameFate, Departure, holding, Means, acks, clears, expires, means, removal, fateBy, leavers, departing, departures}
+use Rattle.fates.specs.Account.{Account, opening, calling, leftAs, clockReading}
 
 -- ---- measures by fate are steady
 
@@ -79,7 +71,7 @@ leavers-sum b gone t u o s f w = omega (arith, sum-only f out (holding t ++ b), 
     none-in = only-none out f (holding u) (mine-occ (λ x. not (member x (seqs (holding u))) ≡ false) (holding u) (λ x h. ap not (yes-member x (holding u) h)))
 
     all-out : sum (only out f) gone ≡ sum f gone
-    all-out = only-all out f gone (mine-occ (λ x. not (member x (seqs (holding u))) ≡ true) gone (λ x h. ap not (no-member x (holding u) (omega (arith, holding-sum (occ x) u, s (occ x) (occ-steady x), o x)))))
+    all-out = only-all out f gone (mine-occ (λ x. not (member x (seqs (holding u))) ≡ true) gone (λ x h. ap not (occ-no-member x (holding u) (omega (arith, holding-sum (occ x) u, s (occ x) (occ-steady x), o x)))))
 
 -- ---- departures by fate
 
@@ -208,37 +200,13 @@ call-made lent c t z = rw z
 pub fine-queue : (t : Dest) → t .kind ≡ queue → sound t ≡ true → Fine (t .callLimit) (t .callsUsed) queue (bound (t .callsUsed)) t
 fine-queue t k s = subst (λ (j : Kind). Fine (t .callLimit) (t .callsUsed) j (bound (t .callsUsed)) t) k (fine t s)
 
-test-kind : (i : Id) (q : ℕ) (t : Dest) (a : Option Audit) → t .kind ≡ queue → testAt i q t a .dest .kind ≡ queue
-unfolding testAt
-test-kind i q t none k = k
-test-kind i q t (some a) k = by-if (λ (r : Answer). r .dest .kind ≡ queue) (seen q (a .order)) _ _ (λ c. k) (λ c. k)
-
-perform-kind : (L U N : ℕ) (c : Call) (t : Dest) → 1 ≤ N → Fine L U queue N t → argumentsOk c ≡ true → ownRefusal t c ≡ 0 → perform t c .dest .kind ≡ queue
-unfolding perform argumentsOk isDuplicate clear
-perform-kind L U N (enqueuing e now) t n g a o =
-    let y = stores L U queue N e now t g a o in
-    subst⁻¹ (λ (j : Kind). enqueueBy now e t j .dest .kind ≡ queue) (g .kind) (enqueue-fine L U queue N now e t g (y .ok) (y .fits) (y .new) (y .shared) .kind)
-perform-kind L U N (joining p now) t n g a o = join-fine L U queue N now p t (joins L U queue N p now t n g a o) .kind
-perform-kind L U N (leaving i last now) t n g a o = leave-fine L U queue N now i last t (and-right (within (2 ^ 63) last) _ (and-right (idOk i) _ a)) g .kind
-perform-kind L U N (asking i q) t n g a o = ask-fine L U queue N i q t (and-right (idOk i) _ a) g .kind
-perform-kind L U N (unmarking i) t n g a o = g .kind
-perform-kind L U N (releasing i now) t n g a o = release-fine L U queue N now i t g .kind
-perform-kind L U N (sweeping now most) t n g a o = sweep-fine L U queue N now most t (and-left (clockOk now) _ a) (leb-true most 512 (and-right (clockOk now) _ a)) g .kind
-perform-kind L U N clearing t n g a o = g .kind
-perform-kind L U N (adding i) t n g a o = g .kind
-perform-kind L U N (removing i now) t n g a o = touched (λ (u : Dest). u .kind ≡ queue) now _ (λ j. g .kind)
-perform-kind L U N (testing i q) t n g a o = by-if (λ (r : Answer). r .dest .kind ≡ queue) (eqb (i .conn) 0) _ _ (λ c. g .kind) (λ c. test-kind i q t (find (auditOf i) (t .audits)) (g .kind))
-perform-kind L U N (forgetting conn) t n g a o = g .kind
-perform-kind L U N discarding t n g a o = g .kind
-perform-kind L U N missing t n g a o = g .kind
-
-pub moved : (lent : Lengths) (c : Call) (t : Dest) → Coded c → t .kind ≡ queue → call lent c t .refusal ≡ 0 → Moves (Ready t c) (reading c t) (means c) (takes t c) (brought c) t (call lent c t .dest) × (call lent c t .dest .kind ≡ queue)
+pub moved : (lent : Lengths) (c : Call) (t : Dest) → Coded c → t .kind ≡ queue → call lent c t .refusal ≡ 0 → Moves (Ready t c) (clockReading c t) (means c) (takes t c) (brought c) t (call lent c t .dest) × (call lent c t .dest .kind ≡ queue)
 moved lent c t w k h =
     let z = call-accepted lent c t h in
     let q = accepted lent c t z in
     let g = fine-queue t k (q .is-sound) in (
-      subst⁻¹ (λ (u : Dest). Moves (Ready t c) (reading c t) (means c) (takes t c) (brought c) t u) (call-made lent c t z) (used-moves (reading c t) c t (perform t c .dest) (perform-moves _ _ _ c t w g (q .arguments) (q .own))),
-      ap (λ (u : Dest). u .kind) (call-made lent c t z) ∙ perform-kind _ _ _ c t (omega arith) g (q .arguments) (q .own),
+      subst⁻¹ (λ (u : Dest). Moves (Ready t c) (clockReading c t) (means c) (takes t c) (brought c) t u) (call-made lent c t z) (used-moves (clockReading c t) c t (perform t c .dest) (perform-moves _ _ _ c t w g (q .arguments) (q .own))),
+      ap (λ (u : Dest). u .kind) (call-made lent c t z) ∙ perform-fine _ _ queue _ c t (omega arith) g (q .arguments) (q .own) .kind,
     )
 
 pub kept : (a : List Entry) (l : List Departure) (t : Dest) → Account a l t → Kept a l t
@@ -247,5 +215,5 @@ kept a l t (calling {a = b} {l = m} {t = u} lent code ws c low e r h n) =
     let s = called lent code ws c u low e in
     let k = kept b m u r in
     let y = moved lent c u (decode-coded code ws c e) (k .kind) (sym (ap (λ (x : Result). x .refusal) s) ∙ h) in
-    moved-kept (Ready u c) (reading c u) c b m u (step lent code ws u .dest) k n
-    (subst⁻¹ (λ (x : Result). Moves (Ready u c) (reading c u) (means c) (takes u c) (brought c) u (x .dest)) s (y .0)) (ap (λ (x : Result). x .dest .kind) s ∙ y .1) (step-leaves-sound lent code ws u h)
+    moved-kept (Ready u c) (clockReading c u) c b m u (step lent code ws u .dest) k n
+    (subst⁻¹ (λ (x : Result). Moves (Ready u c) (clockReading c u) (means c) (takes u c) (brought c) u (x .dest)) s (y .0)) (ap (λ (x : Result). x .dest .kind) s ∙ y .1) (step-leaves-sound lent code ws u h)

@@ -12,9 +12,9 @@ use Rattle.definition.specs.Destination.{clear}
 use Rattle.definition.specs.Calls.{seqs}
 use Rattle.definition.proofs.Tests.{by-test, by-if, if-true, if-false}
 use Rattle.definition.proofs.Lists.{All}
-use Rattle.definition.proofs.Sums.{sum, occ, sum-append}
+use Rattle.definition.proofs.Sums.{sum, occ, sum-append, occ-no-member}
 use Rattle.definition.proofs.Whole.{queueSum}
-use Rattle.fates.proofs.Measures.{Steady, only, only-none, only-all, occ-steady, mine-occ, no-member, yes-member}
+use Rattle.fates.proofs.Measures.{Steady, only, only-none, only-all, occ-steady, mine-occ, yes-member}
 use Rattle.fates.proofs.Dispatch.{alive, Late}
 use Rattle.fates.proofs.Parts.{Expires}
 use Rattle.fates.proofs.Sweeps.{holding-sum, clear-none}
@@ -180,7 +180,7 @@ ack-moves H now y own t v u o k l = record {
     waiting = mine-occ (λ x. member x (seqs (t .pending)) ≡ true) (l .gone) (λ x h. yes-member x (t .pending) (omega (arith, l .waited (occ x), ap (sum (occ x)) (k .waits))))
 
     not-waiting : All (λ e. waits t e ≡ false) own
-    not-waiting = mine-occ (λ x. member x (seqs (t .pending)) ≡ false) own (λ x h. no-member x (t .pending) (omega (arith, o x, k .sums (occ x) (occ-steady x), ap (sum (occ x)) (k .waits))))
+    not-waiting = mine-occ (λ x. member x (seqs (t .pending)) ≡ false) own (λ x h. occ-no-member x (t .pending) (omega (arith, o x, k .sums (occ x) (occ-steady x), ap (sum (occ x)) (k .waits))))
 
     mine : (x : Fate) → sum (like x t (acks y)) own ≡ (if sameFate x (ackFate y) then length own else 0)
     mine x = like-sum x (ackFate y) t (acks y) own (own-fated y t own not-waiting)

@@ -16,11 +16,11 @@ use Rattle.definition.specs.Consumer.{expired, addExpired, isBrowser}
 use Rattle.definition.specs.Destination.{Answer, count, due, sooner, soonest, Swept, sweepAt, sweepList, SweptSubs, sweepSubs, sweepExpired, cleared, clear}
 use Rattle.definition.specs.Calls.{held, taken}
 use Rattle.definition.proofs.Tests.{by-test, by-if}
-use Rattle.definition.proofs.Lists.{All, empty-nil}
+use Rattle.definition.proofs.Lists.{All, empty-nil, keep-count}
 use Rattle.definition.proofs.Sums.{sum, one, occ, sum-append, sum-one, occ-yes, occ-no}
 use Rattle.definition.proofs.Whole.{sums, countM, queueSum, sums-taken, Sane}
-use Rattle.definition.proofs.Dispatch.{count-browser, count-plain}
-use Rattle.fates.proofs.Measures.{sum-split, keep-count, only, sum-only}
+use Rattle.definition.proofs.Join.{cleared-count}
+use Rattle.fates.proofs.Measures.{sum-split, only, sum-only}
 use Rattle.fates.proofs.Dispatch.{alive}
 use Rattle.fates.proofs.Parts.{Expires, idle-expires, touched}
 use Rattle.fates.specs.Fates.{holding}
@@ -182,9 +182,6 @@ sweep-expires H N now most t o a = by-if (λ (x : Answer). Expires H k 0 [] t (x
 
 pub holding-sum : (f : Entry → ℕ) (t : Dest) → sum f (holding t) ≡ queueSum f t
 holding-sum f t = omega (arith, sum-append f (t .pending) (held t ++ taken (t .subs)), sum-append f (held t) (taken (t .subs)), sums-taken f (t .subs))
-
-cleared-count : (f : Entry → ℕ) (s : Sub) → countM f (cleared s) ≡ 0
-cleared-count f s = by-test (isBrowser (cleared s)) (λ c. count-browser f (cleared s) c) (λ c. count-plain f (cleared s) c)
 
 cleared-sums : (f : Entry → ℕ) (l : List Sub) → sums (countM f) (map cleared l) ≡ 0
 cleared-sums f [] = refl

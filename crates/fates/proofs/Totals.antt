@@ -21,7 +21,7 @@ use Rattle.fates.proofs.Claims.{there, parts, each-in-one-place}
 use Rattle.fates.proofs.Blocks.{blocks-are-right}
 use Rattle.fates.specs.Fates.{Departure, dequeued, expired, discarded, deadLettered, cleared}
 use Rattle.fates.specs.Account.{Account, Place, waiting, inFlight, reserved, left, places, entriesAt, numbersAt}
-use Rattle.fates.specs.Blocks.{Block, blockOf, numberOf, placeOf, blocksOf, TotalsAreTheParts}
+use Rattle.fates.specs.Blocks.{Block, blockOf, placeNumber, blockPlace, blocksOf, TotalsAreTheParts}
 
 -- ---- one of a list
 
@@ -39,7 +39,7 @@ module _ {A : Type 0} (f : A → Bool) where
   one-place (suc i) zero (a ∷ l) x y o e d h g = absurd (omega (arith, o, if-true {A = ℕ} 1 0 (ap f (some-inj d) ∙ g), has-one i l x e h))
   one-place (suc i) (suc j) (a ∷ l) x y o e d h g = ap suc (one-place i j l x y (omega (arith, o, has-one i l x e h)) e d h g)
 
-stands : (p : Place) → nth (numberOf p) places ≡ some p
+stands : (p : Place) → nth (placeNumber p) places ≡ some p
 stands waiting = refl
 stands inFlight = refl
 stands reserved = refl
@@ -93,21 +93,21 @@ module _ (a : List Entry) (l : List Departure) (t : Dest) (r : Account a l t) wh
   few s (left cleared) = omega (arith, parts a l t k s)
 
   -- a block says the place exactly if its number is there
-  says : (s : ℕ) → member s (seqs a) ≡ true → (p : Place) → eqb (placeOf s l t) (numberOf p) ≡ member s (numbersAt p l t)
+  says : (s : ℕ) → member s (seqs a) ≡ true → (p : Place) → eqb (blockPlace s l t) (placeNumber p) ≡ member s (numbersAt p l t)
   says s h p =
       let y = blocks-are-right a l t r s h in
       let o = each-in-one-place a l t r .each s h .one in
       by-test (member s (numbersAt p l t))
-      (λ c. eq-eqb (placeOf s l t) (numberOf p) (y .1 ∙ one-place (λ q. member s (numbersAt q l t)) (numberOf (y .0)) (numberOf p) places (y .0) p o (stands (y .0)) (stands p) (y .2) c) ∙ sym c)
-      (λ c. ne-eqb (placeOf s l t) (numberOf p) (λ e. true≢false (sym (y .2) ∙ ap (λ q. member s (numbersAt q l t)) (some-inj (sym (stands (y .0)) ∙ ap (λ n. nth n places) (sym (y .1) ∙ e) ∙ stands p)) ∙ c)) ∙ sym c)
+      (λ c. eq-eqb (blockPlace s l t) (placeNumber p) (y .1 ∙ one-place (λ q. member s (numbersAt q l t)) (placeNumber (y .0)) (placeNumber p) places (y .0) p o (stands (y .0)) (stands p) (y .2) c) ∙ sym c)
+      (λ c. ne-eqb (blockPlace s l t) (placeNumber p) (λ e. true≢false (sym (y .2) ∙ ap (λ q. member s (numbersAt q l t)) (some-inj (sym (stands (y .0)) ∙ ap (λ n. nth n places) (sym (y .1) ∙ e) ∙ stands p)) ∙ c)) ∙ sym c)
 
-  counts : (p : Place) (s : ℕ) → 1 ≤ sum (occ s) a → (if eqb (placeOf s l t) (numberOf p) then 1 else 0) ≡ sum (occ s) (entriesAt p l t)
+  counts : (p : Place) (s : ℕ) → 1 ≤ sum (occ s) a → (if eqb (blockPlace s l t) (placeNumber p) then 1 else 0) ≡ sum (occ s) (entriesAt p l t)
   counts p s h = ap (λ (b : Bool). if b then 1 else 0) (says s (yes-member s a h) p) ∙ there s (entriesAt p l t) (omega (arith, few s p, k .once s))
 
-  total : (p : Place) → tally (λ b. eqb (at 1 b) (numberOf p)) (blocksOf a l t) ≡ length (entriesAt p l t)
+  total : (p : Place) → tally (λ b. eqb (at 1 b) (placeNumber p)) (blocksOf a l t) ≡ length (entriesAt p l t)
   total p =
-      said (λ s. blockOf s (placeOf s l t)) (λ b. eqb (at 1 b) (numberOf p)) a
-      ∙ sum-same (λ e. if eqb (placeOf (e .seq) l t) (numberOf p) then 1 else 0) (λ e. sum (occ (e .seq)) (entriesAt p l t)) a (mine-occ (λ s. (if eqb (placeOf s l t) (numberOf p) then 1 else 0) ≡ sum (occ s) (entriesAt p l t)) a (counts p))
+      said (λ s. blockOf s (blockPlace s l t)) (λ b. eqb (at 1 b) (placeNumber p)) a
+      ∙ sum-same (λ e. if eqb (blockPlace (e .seq) l t) (placeNumber p) then 1 else 0) (λ e. sum (occ (e .seq)) (entriesAt p l t)) a (mine-occ (λ s. (if eqb (blockPlace s l t) (placeNumber p) then 1 else 0) ≡ sum (occ s) (entriesAt p l t)) a (counts p))
       ∙ sym (crossed a (entriesAt p l t) (λ x h. omega (arith, few x p, k .once x)))
 
 pub totals-are-the-parts : TotalsAreTheParts

@@ -11,10 +11,10 @@ use Rattle.definition.specs.Base.{keep, tally, all, member, distinct}
 use Rattle.definition.specs.Types.{queue, Id, Entry, Sub, Dest}
 use Rattle.definition.specs.Consumer.{isBrowser, ackType, Ack}
 use Rattle.definition.specs.Consumer as Consumer
-use Rattle.definition.specs.Calls.{Lengths, acknowledge, pulling, timedOut, prefetching, Call, enqueuing, joining, leaving, asking, unmarking, releasing, sweeping, clearing, adding, removing, testing, forgetting, discarding, missing, seqs, flying, taken, held}
+use Rattle.definition.specs.Calls.{Lengths, acknowledge, pulling, timedOut, prefetching, Call, enqueuing, joining, leaving, asking, unmarking, releasing, sweeping, clearing, adding, removing, testing, forgetting, discarding, missing, seqs, flying, taken, held, brought}
 use Rattle.definition.specs.Destination.{due}
 use Rattle.definition.specs.Words.{decode, step}
-use Rattle.fates.specs.Fates.{Fate, dequeued, expired, discarded, deadLettered, cleared, sameFate, Departure, brought, acks, means, removal, named, leavers, departures}
+use Rattle.fates.specs.Fates.{Fate, dequeued, expired, discarded, deadLettered, cleared, sameFate, Departure, acks, means, removal, namedBy, leavers, departures}
 
 -- a queue since its latest accepted open, all accepted calls of the call file since, each enqueue among them with a new sequence number: the entries
 -- accepted, those that left, and the destination as it is
@@ -50,9 +50,9 @@ abbrev pub numbersAt : Place → List Departure → Dest → List ℕ
 numbersAt p l t = seqs (entriesAt p l t)
 
 -- over all eight
-abbrev pub over : (Place → ℕ) → List Place → ℕ
-over n [] = 0
-over n (p ∷ ps) = n p + over n ps
+abbrev pub overPlaces : (Place → ℕ) → List Place → ℕ
+overPlaces n [] = 0
+overPlaces n (p ∷ ps) = n p + overPlaces n ps
 
 -- a consumer that is no browser has it in flight
 abbrev pub carries : ℕ → Sub → Bool
@@ -61,7 +61,7 @@ carries s c = not (isBrowser c) && member s (seqs (flying c))
 -- the number s is in exactly one of the eight places, once; in flight is at exactly one consumer that is no browser
 pub record InOnePlace (s : ℕ) (l : List Departure) (t : Dest) : Type 0 where
   pub one : tally (λ p. member s (numbersAt p l t)) places ≡ 1
-  pub once : over (λ p. tally (eqb s) (numbersAt p l t)) places ≡ 1
+  pub once : overPlaces (λ p. tally (eqb s) (numbersAt p l t)) places ≡ 1
   pub carrier : member s (numbersAt inFlight l t) ≡ true → tally (carries s) (t .subs) ≡ 1
 
 -- ---- the claims
@@ -77,18 +77,18 @@ EachInOnePlace = (a : List Entry) (l : List Departure) (t : Dest) → Account a 
 
 -- "The enqueued counter is the total over all eight"
 abbrev pub EnqueuedIsTheTotal : Type 0
-EnqueuedIsTheTotal = (a : List Entry) (l : List Departure) (t : Dest) → Account a l t → t .stats .enqueued ≡ over (λ p. length (entriesAt p l t)) places
+EnqueuedIsTheTotal = (a : List Entry) (l : List Departure) (t : Dest) → Account a l t → t .stats .enqueued ≡ overPlaces (λ p. length (entriesAt p l t)) places
 
 -- "the dequeued, expired and discarded counters equal their parts, plus the dead-lettered and cleared where the Rust counts those": it counts a dead letter
 -- as discarded where the entry is not persistent, and nothing that a clear takes
-pub record Counted (l : List Departure) (t : Dest) : Type 0 where
+pub record CountersSplit (l : List Departure) (t : Dest) : Type 0 where
   pub dequeues : t .stats .dequeued ≡ length (leftAs dequeued l)
   pub expiries : t .stats .expired ≡ length (leftAs expired l)
   pub discards : t .stats .discarded ≡ length (leftAs discarded l) + tally (λ e. not (e .persistent)) (leftAs deadLettered l)
 
 -- with browsers or without
 abbrev pub CountersAreTheParts : Type 0
-CountersAreTheParts = (a : List Entry) (l : List Departure) (t : Dest) → Account a l t → Counted l t
+CountersAreTheParts = (a : List Entry) (l : List Departure) (t : Dest) → Account a l t → CountersSplit l t
 
 -- no entry of a queue is discarded: that is the surplus of a topic
 abbrev pub NoneIsDiscarded : Type 0
@@ -115,12 +115,12 @@ clockOf discarding = 0
 clockOf missing = 0
 
 -- the clock that entries expire by in a call on t: the call's less the allowance
-abbrev pub reading : Call → Dest → ℕ
-reading c t = due (clockOf c) t
+abbrev pub clockReading : Call → Dest → ℕ
+clockReading c t = due (clockOf c) t
 
 -- what leaves as expired in a call on t was expired at the call's clock less the allowance, unless an EXPIRED acknowledgement removed it
 abbrev pub truly : Call → Dest → Departure → Bool
-truly c t d = not (sameFate expired (d .fate)) || (removal t (d .entry) (means c) || Consumer.expired (pos (reading c t)) (d .entry))
+truly c t d = not (sameFate expired (d .fate)) || (removal t (d .entry) (means c) || Consumer.expired (pos (clockReading c t)) (d .entry))
 
 abbrev pub ExpiredHadExpired : Type 0
 ExpiredHadExpired =
@@ -134,7 +134,7 @@ abbrev pub RemovalsAreNamed : Type 0
 RemovalsAreNamed =
     (a : List Entry) (l : List Departure) (t : Dest) → Account a l t
     → (lent : Lengths) (code : ℕ) (words : List ℕ) (i : Id) (k : Ack) (now : ℕ) → 1 ≤ code → decode code words ≡ some (asking i (acknowledge k now)) → step lent code words t .refusal ≡ 0
-    → (s : ℕ) → member s (seqs (keep (λ e. removal t e (acks (ackType (k .type)))) (leavers [] t (step lent code words t .dest)))) ≡ member s (seqs (named i k t))
+    → (s : ℕ) → member s (seqs (keep (λ e. removal t e (acks (ackType (k .type)))) (leavers [] t (step lent code words t .dest)))) ≡ member s (seqs (namedBy i k t))
 
 -- every accepted call is one that `Account` can take
 abbrev pub AcceptedIsACall : Type 0

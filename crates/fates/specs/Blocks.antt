@@ -8,11 +8,11 @@ use lib.Dec.{leb, eqb}
 use lib.ListN.{length}
 use Rattle.definition.specs.Base.{if_then_else_, tally, all, member}
 use Rattle.definition.specs.Types.{Entry, Dest}
-use Rattle.definition.specs.Calls.{Lengths, Call, seqs, taken, held}
+use Rattle.definition.specs.Calls.{Lengths, Call, seqs, taken, held, brought}
 use Rattle.definition.specs.Queries.{isQueue}
 use Rattle.definition.specs.Words.{at, decode, step}
 use Rattle.definition.specs.Orders.{Lent, result}
-use Rattle.fates.specs.Fates.{rank, Departure, brought, departures}
+use Rattle.fates.specs.Fates.{rank, Departure, departures}
 use Rattle.fates.specs.Account.{Account, Place, waiting, inFlight, reserved, left, entriesAt, numbersAt}
 use Rattle.fates.specs.Report.{Ledger, report, Fitting}
 
@@ -25,11 +25,11 @@ abbrev pub blockOf : ℕ → ℕ → Block
 blockOf s p = s ∷ p ∷ []
 
 -- the eight places: 0 waiting, 1 in flight, 2 reserved, 3 dequeued, 4 expired, 5 discarded, 6 dead-lettered, 7 cleared
-abbrev pub numberOf : Place → ℕ
-numberOf waiting = 0
-numberOf inFlight = 1
-numberOf reserved = 2
-numberOf (left f) = 3 + rank f
+abbrev pub placeNumber : Place → ℕ
+placeNumber waiting = 0
+placeNumber inFlight = 1
+placeNumber reserved = 2
+placeNumber (left f) = 3 + rank f
 
 -- where a destination holds the number s; p where it does not
 unfoldable pub heldAs : ℕ → Dest → ℕ → ℕ
@@ -53,8 +53,8 @@ leavesAs code k waited =
     else 4
 
 -- a block after a call that left u; one that has left stays as it is
-unfoldable pub moved : ℕ → ℕ → Dest → Block → Block
-moved code k u b = blockOf (at 0 b) (if leb 3 (at 1 b) then at 1 b else heldAs (at 0 b) u (leavesAs code k (eqb (at 1 b) 0)))
+unfoldable pub blockMoved : ℕ → ℕ → Dest → Block → Block
+blockMoved code k u b = blockOf (at 0 b) (if leb 3 (at 1 b) then at 1 b else heldAs (at 0 b) u (leavesAs code k (eqb (at 1 b) 0)))
 
 -- an enqueue's block
 abbrev pub comes : ℕ → List ℕ → List Block
@@ -62,7 +62,7 @@ comes code ws = if eqb code 1 then blockOf (at 0 ws) 0 ∷ [] else []
 
 -- the blocks after an accepted call that left u; after an open there are none, and a topic has no account
 unfoldable pub noted : ℕ → List ℕ → Dest → List Block → List Block
-noted code ws u bs = if eqb code 0 || not (isQueue (u .kind)) then [] else map (moved code (at 3 ws) u) (bs ++ comes code ws)
+noted code ws u bs = if eqb code 0 || not (isQueue (u .kind)) then [] else map (blockMoved code (at 3 ws) u) (bs ++ comes code ws)
 
 -- along calls; a refused one changes nothing
 abbrev pub along : List Lent → Dest → List Block → List Block
@@ -74,25 +74,25 @@ along (k ∷ ks) t bs =
 -- ---- what is claimed
 
 -- how the number s left, by its first departure; 8 where it has none
-abbrev pub leftAt : ℕ → List Departure → ℕ
-leftAt s [] = 8
-leftAt s (d ∷ l) = if eqb s (d .entry .seq) then 3 + rank (d .fate) else leftAt s l
+abbrev pub departedAs : ℕ → List Departure → ℕ
+departedAs s [] = 8
+departedAs s (d ∷ l) = if eqb s (d .entry .seq) then 3 + rank (d .fate) else departedAs s l
 
 -- the blocks of an account
-abbrev pub placeOf : ℕ → List Departure → Dest → ℕ
-placeOf s l t = heldAs s t (leftAt s l)
+abbrev pub blockPlace : ℕ → List Departure → Dest → ℕ
+blockPlace s l t = heldAs s t (departedAs s l)
 
 abbrev pub blocksOf : List Entry → List Departure → Dest → List Block
-blocksOf a l t = map (λ e. blockOf (e .seq) (placeOf (e .seq) l t)) a
+blocksOf a l t = map (λ e. blockOf (e .seq) (blockPlace (e .seq) l t)) a
 
 -- a block's number is in the place that it says: of the eight, the one that has it (`EachInOnePlace`)
 abbrev pub BlocksAreRight : Type 0
 BlocksAreRight = (a : List Entry) (l : List Departure) (t : Dest) → Account a l t
-    → (s : ℕ) → member s (seqs a) ≡ true → (p : Place) × (placeOf s l t ≡ numberOf p) × (member s (numbersAt p l t) ≡ true)
+    → (s : ℕ) → member s (seqs a) ≡ true → (p : Place) × (blockPlace s l t ≡ placeNumber p) × (member s (numbersAt p l t) ≡ true)
 
 -- so many blocks say a place as there are entries
 abbrev pub TotalsAreTheParts : Type 0
-TotalsAreTheParts = (a : List Entry) (l : List Departure) (t : Dest) → Account a l t → (p : Place) → tally (λ b. eqb (at 1 b) (numberOf p)) (blocksOf a l t) ≡ length (entriesAt p l t)
+TotalsAreTheParts = (a : List Entry) (l : List Departure) (t : Dest) → Account a l t → (p : Place) → tally (λ b. eqb (at 1 b) (placeNumber p)) (blocksOf a l t) ≡ length (entriesAt p l t)
 
 -- each accepted call keeps them
 abbrev pub BlocksAreKept : Type 0

@@ -4,6 +4,7 @@ use Prim.Native.Nat.{ℕ, _+_}
 use mathlib.Core.Bool.{Bool, true, false, _&&_}
 use mathlib.Core.List.{List, [], _∷_, _++_}
 use lib.Dec.{eqb, T}
+use Rattle.words.specs.Pick.{sameNumbers}
 use Rattle.definition.specs.Base.{every}
 use Rattle.definition.specs.Types.{queue}
 use Rattle.definition.specs.Consumer.{consumerOpen}
@@ -14,12 +15,6 @@ use Rattle.definition.specs.Orders.{Lent}
 use Rattle.fates.specs.Fates.{dequeued, expired, discarded, deadLettered, cleared, removal, fateBy, leavers}
 use Rattle.fates.specs.Account.{Place, waiting, inFlight, reserved, left, numbersAt}
 use Rattle.fates.specs.Report.{Ledger, report}
-
-abbrev sameNumbers : List ℕ → List ℕ → Bool
-sameNumbers [] [] = true
-sameNumbers [] (b ∷ bs) = false
-sameNumbers (a ∷ l) [] = false
-sameNumbers (a ∷ l) (b ∷ m) = eqb a b && sameNumbers l m
 
 abbrev lent : ℕ → List ℕ → Lent
 lent code words = record { code = code; words = words; lengths = record { head = 8347; subs = 32; rows = 512; events = 545 } }

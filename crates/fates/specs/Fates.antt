@@ -8,7 +8,7 @@ use Rattle.definition.specs.Base.{if_then_else_, keep, member}
 use Rattle.definition.specs.Types.{Id, Entry, Inflight, Sub, Dest}
 use Rattle.definition.specs.Consumer.{AckType, Delivered, Poison, Standard, Redelivered, Individual, Unmatched, Expired, Other, ackType, Ack, ackRange, ackLast, isBrowser}
 use Rattle.definition.specs.Destination.{subOf, reservedOf, reservedHit}
-use Rattle.definition.specs.Calls.{seqs, taken, held, acknowledge, pulling, timedOut, prefetching, Call, enqueuing, joining, leaving, asking, unmarking, releasing, sweeping, clearing, adding, removing, testing, forgetting, discarding, missing}
+use Rattle.definition.specs.Calls.{brought, seqs, taken, held, acknowledge, pulling, timedOut, prefetching, Call, enqueuing, joining, leaving, asking, unmarking, releasing, sweeping, clearing, adding, removing, testing, forgetting, discarding, missing}
 
 -- how an entry left
 pub data Fate : Type 0 where
@@ -32,23 +32,6 @@ pub record Departure : Type 0 where
 -- what a queue holds: waiting, reserved, or in flight at a consumer that is no browser
 abbrev pub holding : Dest → List Entry
 holding t = t .pending ++ (held t ++ taken (t .subs))
-
--- what a call brings: an enqueue's entry
-abbrev pub brought : Call → List Entry
-brought (enqueuing e now) = e ∷ []
-brought (joining p now) = []
-brought (leaving i last now) = []
-brought (asking i q) = []
-brought (unmarking i) = []
-brought (releasing i now) = []
-brought (sweeping now most) = []
-brought clearing = []
-brought (adding i) = []
-brought (removing i now) = []
-brought (testing i q) = []
-brought (forgetting conn) = []
-brought discarding = []
-brought missing = []
 
 -- what an acknowledgement removes: POISON dead-letters, persistent or not; EXPIRED counts it as expired, and any other as dequeued
 abbrev pub ackFate : AckType → Fate
@@ -125,8 +108,8 @@ namedAt i a t none = namedReserved i a t (a .last)
 namedAt i a t (some s) = if isBrowser s then [] else map (λ x. x .entry) (keep (λ x. hits s a x (ackType (a .type))) (s .inflight))
 
 -- a transacted one only marks
-abbrev pub named : Id → Ack → Dest → List Entry
-named i a t = if a .transacted then [] else namedAt i a t (subOf i t)
+abbrev pub namedBy : Id → Ack → Dest → List Entry
+namedBy i a t = if a .transacted then [] else namedAt i a t (subOf i t)
 
 -- ---- what leaves
 

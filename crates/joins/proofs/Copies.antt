@@ -9,10 +9,11 @@ use lib.ListN.{length, take, drop, getD, set, length-set}
 use lib.Seq.{slice, slice-empty, slice-cons}
 use Rattle.definition.specs.Base.{if_then_else_, keep, tally}
 use Rattle.definition.specs.Layout.{Row}
+use Rattle.definition.proofs.Lists.{keep-count}
 use Rattle.table.proofs.Lists.{slice-snoc, written, written-none, written-at, written-more}
 use Rattle.table.proofs.Segments.{tally-turn, tally-none}
-use Rattle.joins.specs.Joins.{shownBy, copied}
-use Rattle.joins.proofs.Lists.{keep-tally, keep-more, keep-same}
+use Rattle.joins.specs.Joins.{shownBy, copiedFrom}
+use Rattle.joins.proofs.Lists.{keep-more, keep-same}
 
 -- rows from..i are done, and j is where the next copy goes
 pub record Copying (selector at from to : ℕ) (rs now : List Row) (j i : ℕ) : Type 0 where
@@ -22,14 +23,14 @@ pub record Copying (selector at from to : ℕ) (rs now : List Row) (j i : ℕ) :
   pub same : length now ≡ length rs
   pub place : j ≡ at + tally (shownBy selector) (slice from i rs)
   pub room : j + tally (shownBy selector) (slice i to rs) ≤ from
-  pub said : now ≡ copied at from i selector rs
+  pub said : now ≡ copiedFrom at from i selector rs
 
 module _ (selector at from to : ℕ) (rs : List Row) where
   abbrev p : Row → Bool
   p = shownBy selector
 
   pub copying-start : at + tally p (slice from to rs) ≤ from → from ≤ to → to ≤ length rs → Copying selector at from to rs rs at from
-  unfolding copied written
+  unfolding copiedFrom written
   copying-start h k b =
       let z = tally-none p from rs in
       let e : at ≡ at + tally p (slice from from rs) = omega arith in
@@ -44,11 +45,11 @@ module _ (selector at from to : ℕ) (rs : List Row) where
       }
 
   module _ (now : List Row) (j i : ℕ) (g : Copying selector at from to rs now j i) where
-    pub copying-end : to ≤ i → now ≡ copied at from to selector rs
-    copying-end h = let e : i ≡ to = omega (arith, g .within) in g .said ∙ ap (λ (n : ℕ). copied at from n selector rs) e
+    pub copying-end : to ≤ i → now ≡ copiedFrom at from to selector rs
+    copying-end h = let e : i ≡ to = omega (arith, g .within) in g .said ∙ ap (λ (n : ℕ). copiedFrom at from n selector rs) e
 
     size : at + length (keep p (slice from i rs)) ≡ at + tally p (slice from i rs)
-    size = ap (λ (n : ℕ). at + n) (keep-tally p (slice from i rs))
+    size = ap (λ (n : ℕ). at + n) (keep-count p (slice from i rs))
 
     module _ (less : i < to) where
       inside : i < length rs
@@ -59,7 +60,7 @@ module _ (selector at from to : ℕ) (rs : List Row) where
 
       -- the row that the loop reads
       pub copying-at : getD now i [] ≡ getD rs i []
-      unfolding copied written
+      unfolding copiedFrom written
       copying-at =
           ap (λ (l : List Row). getD l i []) (g .said)
           ∙ written-at at (at + tally p (slice from i rs)) (keep p (slice from i rs)) rs size i [] (omega (arith, before, g .from-low)) (omega (arith, before, g .from-low, inside))
@@ -74,7 +75,7 @@ module _ (selector at from to : ℕ) (rs : List Row) where
       copying-room t = omega (arith, g .room, rest, ap (λ (b : Bool). if_then_else_ {A = ℕ} b 1 0) (ap p (sym copying-at) ∙ t))
 
       pub copying-hit : p (getD now i []) ≡ true → Copying selector at from to rs (set now j (getD now i [])) (j + 1) (i + 1)
-      unfolding copied written
+      unfolding copiedFrom written
       copying-hit t =
           let x : Row = getD rs i [] in
           let h : p x ≡ true = ap p (sym copying-at) ∙ t in
@@ -100,7 +101,7 @@ module _ (selector at from to : ℕ) (rs : List Row) where
           }
 
       pub copying-miss : p (getD now i []) ≡ false → Copying selector at from to rs now j (i + 1)
-      unfolding copied
+      unfolding copiedFrom
       copying-miss t =
           let x : Row = getD rs i [] in
           let h : p x ≡ false = ap p (sym copying-at) ∙ t in

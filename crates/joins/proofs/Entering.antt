@@ -3,7 +3,7 @@ use mathlib.Core.Path.{_≡_, refl, sym, ap, ap₂, _∙_}
 use mathlib.Core.Bool.{Bool, true, false, not}
 use mathlib.Core.List.{List, [], _∷_, _++_, append-nil, append-assoc, map}
 use mathlib.Core.Option.{Option, none, some}
-use Prim.Native.Nat.{ℕ, _+_, _-_, _≤_, _<_, _^_}
+use Prim.Native.Nat.{ℕ, _+_, _≤_, _<_, _^_}
 use native.Mathlib.Numerals.{add-one}
 use native.Mathlib.Omega.{arith}
 use borrow.Author.Tests.{le-leb}
@@ -27,14 +27,14 @@ use Rattle.consumers.specs.Table.{fitting}
 use Rattle.consumers.proofs.View.{sub-stored, subs-before, subs-around, rows-append, inflight-stored, held-stored}
 use Rattle.consumers.proofs.Strict.{all-left, all-right, stored-strict, strict-sub, strict-before, strict-around, tables-strict, strict-tables}
 use Rattle.state.specs.declared.Head.{Head}
-use Rattle.state.specs.State.{headView, kindBy, strictTables, withStats, withUsed, withWaiting, withConsumers, notIdle, dueBy}
+use Rattle.state.specs.State.{headView, kindBy, strictTables, withCounters, withUsed, withWaiting, withConsumers, notIdle, dueBy}
 use Rattle.state.specs.Fits.{fits, Fits}
 use Rattle.state.specs.Leaves.{silent, Leaves}
 use Rattle.state.proofs.Fitting.{facts-fit}
 use Rattle.state.proofs.Counts.{expired-plain}
+use Rattle.table.proofs.Segments.{keep-map, tally-map}
 use Rattle.joins.specs.declared.SubSpec.{SubSpec}
 use Rattle.joins.specs.Joins.{specOf, newOf, goneAt, shownBy}
-use Rattle.joins.proofs.Lists.{keep-map, tally-map}
 
 -- ---- the view in parts
 
@@ -129,7 +129,7 @@ module _ (p : SubSpec) (k : Kind) where
 abbrev pub entered : ℕ → ℕ → ℕ → Head → Head
 entered x w u d =
     let s = d .stats in
-    notIdle (withConsumers (d .consumers + 1) (withStats (record { enqueued = s .enqueued; dequeued = s .dequeued; expired = x; discarded = s .discarded; dispatched = s .dispatched }) (withWaiting w (withUsed u d))))
+    notIdle (withConsumers (d .consumers + 1) (withCounters (record { enqueued = s .enqueued; dequeued = s .dequeued; expired = x; discarded = s .discarded; dispatched = s .dispatched }) (withWaiting w (withUsed u d))))
 
 -- ---- what it means
 

@@ -1,7 +1,7 @@
 -- What each function leaves, by the way that it goes. Assumes nothing.
 use mathlib.Core.Path.{_≡_, refl, sym, ap, _∙_}
 use mathlib.Core.Bool.{Bool, true, false, not, _&&_, _||_}
-use mathlib.Core.List.{List, [], _∷_, _++_}
+use mathlib.Core.List.{List, [], _++_}
 use Prim.Native.Nat.{ℕ, _+_, _-_, _≤_, _<_, _^_}
 use native.Mathlib.Omega.{arith}
 use borrow.Author.Tests.{le-leb, lt-leb, leb-false, eqb-true, eq-eqb, ne-eqb}
@@ -15,20 +15,20 @@ use Rattle.definition.specs.Destination.{joined}
 use Rattle.definition.specs.Calls.{joining, ownRefusal, snapshotRows}
 use Rattle.definition.specs.Layout.{Row, subsAt, subRows, entryStrict}
 use Rattle.definition.proofs.Tests.{by-test, if-true, if-false}
-use Rattle.definition.proofs.Lists.{all-keep, keep-length}
+use Rattle.definition.proofs.Lists.{all-keep, keep-length, length-nil}
 use Rattle.table.specs.Table.{openGap, compacted}
 use Rattle.table.proofs.Laws.{open-length}
 use Rattle.table.proofs.Segments.{compacted-length}
 use Rattle.consumers.specs.Consumers.{subWords}
 use Rattle.consumers.specs.Table.{positionFrom}
 use Rattle.state.specs.declared.Head.{Head}
-use Rattle.state.specs.State.{headView, kindBy, withStats, withUsed, withWaiting, firstWaiting, firstReserved, dueBy}
+use Rattle.state.specs.State.{headView, kindBy, withCounters, withUsed, withWaiting, firstWaiting, firstReserved, dueBy}
 use Rattle.state.specs.Fits.{fits, Fits}
 use Rattle.state.specs.Leaves.{silent, Leaves, LeavesIf}
 use Rattle.state.proofs.Fitting.{fits-facts}
 use Rattle.state.proofs.Leaves.{when-leaves}
 use Rattle.joins.specs.declared.SubSpec.{SubSpec}
-use Rattle.joins.specs.Joins.{specOf, newOf, goneAt, shownBy, snapped, snapshotOf, copied, isAt, refusalOf, Refused, joins, purgedHead, browsedHead, purgedRows, gappedRows, browsedRows, withOne, joinedHead, joinedRows, Browses}
+use Rattle.joins.specs.Joins.{specOf, newOf, goneAt, shownBy, snapped, snapshotOf, copiedFrom, isFound, joinRefusal, Refused, joinsWhen, purgedHead, browsedHead, purgedRows, gappedRows, browsedRows, withOne, joinedHead, joinedRows, Browses}
 use Rattle.joins.proofs.Snapshots.{ours, kept, waits, rest, rows-are, ours-length, kept-size, waits-length, long, live, shown, gone, left, live-length, gone-few, shown-length, copy-room, browsed-is, browsed-length, browsed-past}
 use Rattle.joins.proofs.Refusals.{refusal-is, snapshot-is}
 use Rattle.joins.proofs.Entering.{plain-means, browser-means, leaves-entered, entered-fits}
@@ -46,9 +46,9 @@ module _ (now selector k : ℕ) (d : Head) (rows : List Row) (fw g fr fw₂ : �
     pub few-gone : Browses now selector k d rows → (g ≤ d .waiting) × (g ≤ d .used)
     few-gone b = let q = gone-is in let h = gone-few now selector k d rows b in (omega arith, omega (arith, b .others))
 
-    module _ (pe : e ≡ withStats (withExpiredBy (d .stats) g) (withWaiting (d .waiting - g) (withUsed (d .used - g) d))) where
+    module _ (pe : e ≡ withCounters (withExpiredBy (d .stats) g) (withWaiting (d .waiting - g) (withUsed (d .used - g) d))) where
       head-is : e ≡ purgedHead now d rows
-      head-is = pe ∙ ap (λ (n : ℕ). withStats (withExpiredBy (d .stats) n) (withWaiting (d .waiting - n) (withUsed (d .used - n) d))) gone-is
+      head-is = pe ∙ ap (λ (n : ℕ). withCounters (withExpiredBy (d .stats) n) (withWaiting (d .waiting - n) (withUsed (d .used - n) d))) gone-is
 
       pub used-less : e .used ≤ d .used
       used-less = let q : e .used ≡ d .used - g = ap (λ (x : Head). x .used) pe in omega arith
@@ -77,10 +77,10 @@ module _ (now selector k : ℕ) (d : Head) (rows : List Row) (fw g fr fw₂ : �
             ∙ compacted-length (goneAt now) (firstWaiting d) (d .used) rows h (omega (arith, b .room)) in
             (one, omega arith, omega (arith, used-less, b .room))
 
-        pub browse-done : (rows₃ : List Row) → rows₃ ≡ copied fr fw₂ (e .used + k) selector rows₂
+        pub browse-done : (rows₃ : List Row) → rows₃ ≡ copiedFrom fr fw₂ (e .used + k) selector rows₂
             → (withUsed (e .used + k) e ≡ browsedHead now k d rows) × (rows₃ ≡ browsedRows now selector k d rows)
         browse-done rows₃ p₃ =
-            (ap (λ (x : Head). withUsed (x .used + k) x) head-is, p₃ ∙ (λ j. copied (place-is j) (first-is j) (head-is j .used + k) selector (rows₂-is j)))
+            (ap (λ (x : Head). withUsed (x .used + k) x) head-is, p₃ ∙ (λ j. copiedFrom (place-is j) (first-is j) (head-is j .used + k) selector (rows₂-is j)))
 
 -- ---- admit
 
@@ -104,30 +104,26 @@ pub refused-unfit : (b : Bool) (now : ℕ) (p : SubSpec) (d : Head) (subs rows :
 refused-unfit b now p d subs rows h = record { exact = λ ps qs. sym (if-false (ownRefusal (headView d subs rows ps qs) (joining (specOf p) now)) 2 h) }
 
 module _ (now : ℕ) (p : SubSpec) (d : Head) (subs rows : List Row) (events : ℕ) (f : Fits subs d (length rows) events) where
-  pub own-refusal : (ps : List Id) (qs : List Audit) (k : ℕ) → k ≡ snapshotOf (dueBy now d) p d rows → ownRefusal (headView d subs rows ps qs) (joining (specOf p) now) ≡ refusalOf p subs d k
+  pub own-refusal : (ps : List Id) (qs : List Audit) (k : ℕ) → k ≡ snapshotOf (dueBy now d) p d rows → ownRefusal (headView d subs rows ps qs) (joining (specOf p) now) ≡ joinRefusal p subs d k
   own-refusal ps qs k e =
       refusal-is d subs rows ps qs (omega (arith, f .subs-long, f .consumers)) (f .rows-used) (omega (arith, f .rows-long, f .used)) now p
-      ∙ ap (refusalOf p subs d) (sym e)
+      ∙ ap (joinRefusal p subs d) (sym e)
 
   pub own-snapshot : (k : ℕ) → k ≡ snapshotOf (dueBy now d) p d rows → snapshotRows now (specOf p) (headView d subs rows [] []) ≡ k
   own-snapshot k e = snapshot-is d subs rows [] [] (omega (arith, f .subs-long, f .consumers)) (f .rows-used) (omega (arith, f .rows-long, f .used)) now p ∙ sym e
 
-  pub refused-fit : (b : Bool) → b ≡ true → (k r : ℕ) → k ≡ snapshotOf (dueBy now d) p d rows → r ≡ refusalOf p subs d k → Refused b now p d subs rows r
+  pub refused-fit : (b : Bool) → b ≡ true → (k r : ℕ) → k ≡ snapshotOf (dueBy now d) p d rows → r ≡ joinRefusal p subs d k → Refused b now p d subs rows r
   refused-fit b h k r e q = record { exact = λ ps qs. q ∙ sym (own-refusal ps qs k e) ∙ sym (if-true (ownRefusal (headView d subs rows ps qs) (joining (specOf p) now)) 2 h) }
 
 -- none refuses: there is room among the consumers
-pub few-consumers : (p : SubSpec) (subs : List Row) (d : Head) (k : ℕ) → refusalOf p subs d k ≡ 0 → d .consumers < 32
-few-consumers p subs d k h = by-test (isAt (positionFrom 0 (specOf p .id) (take (d .consumers) subs)))
+pub few-consumers : (p : SubSpec) (subs : List Row) (d : Head) (k : ℕ) → joinRefusal p subs d k ≡ 0 → d .consumers < 32
+few-consumers p subs d k h = by-test (isFound (positionFrom 0 (specOf p .id) (take (d .consumers) subs)))
     (λ c. let z : _≡_ {A = ℕ} 6 0 = rw c at h in absurd (omega arith))
     (λ c. by-test (leb 32 (d .consumers))
     (λ g. let z : _≡_ {A = ℕ} 7 0 = rw (c, g) at h in absurd (omega arith))
     (λ g. leb-false 32 (d .consumers) g))
 
 -- ---- join
-
-nil : (l : List Row) → length l ≡ 0 → l ≡ []
-nil [] h = refl
-nil (x ∷ l) h = absurd (omega arith)
 
 no-queue : (b : Bool) → kindBy b ≡ topic → b ≡ false
 no-queue true e = absurd (let z : _≡_ {A = ℕ} 0 1 = cc in omega arith)
@@ -139,41 +135,41 @@ module _ (clock : ℕ) (p : SubSpec) (subs : List Row) (d : Head) (rows events :
   now = dueBy clock d
 
   abbrev test : Bool
-  test = joins clock p subs d rows (length events)
+  test = joinsWhen clock p subs d rows (length events)
 
   pub joins-late : 2 ^ 62 < clock → test ≡ false
-  unfolding joins
+  unfolding joinsWhen
   joins-late h = rw (lt-leb clock (2 ^ 62) h)
 
   module _ (c : clock ≤ 2 ^ 62) where
     pub joins-unfit : fits subs d (length rows) (length events) ≡ false → test ≡ false
-    unfolding joins
+    unfolding joinsWhen
     joins-unfit h = rw (le-leb clock (2 ^ 62) c, h)
 
     module _ (t : fits subs d (length rows) (length events) ≡ true) (k : ℕ) (e : k ≡ snapshotOf now p d rows) where
       facts : Fits subs d (length rows) (length events)
       facts = fits-facts subs d (length rows) (length events) t
 
-      joins-by : (x y z : Bool) → eqb (refusalOf p subs d k) 0 ≡ x → (d .queue || eqb (d .waiting) 0) ≡ y → leb (d .events + (d .used + k)) 512 ≡ z → test ≡ (x && (y && (z && true)))
-      unfolding joins
+      joins-by : (x y z : Bool) → eqb (joinRefusal p subs d k) 0 ≡ x → (d .queue || eqb (d .waiting) 0) ≡ y → leb (d .events + (d .used + k)) 512 ≡ z → test ≡ (x && (y && (z && true)))
+      unfolding joinsWhen
       joins-by x y z px py pz =
           (λ j. le-leb clock (2 ^ 62) c j && (t j && (eqb (own-refusal clock p d subs rows (length events) facts [] [] k e j) 0 && ((d .queue || eqb (d .waiting) 0) && (leb (d .events + (d .used + own-snapshot clock p d subs rows (length events) facts k e j)) 512 && true)))))
           ∙ (λ j. px j && (py j && (pz j && true)))
 
-      pub joins-refused : (refusalOf p subs d k ≡ 0 → ⊥) → test ≡ false
-      joins-refused h = joins-by false _ _ (ne-eqb (refusalOf p subs d k) 0 h) refl refl
+      pub joins-refused : (joinRefusal p subs d k ≡ 0 → ⊥) → test ≡ false
+      joins-refused h = joins-by false _ _ (ne-eqb (joinRefusal p subs d k) 0 h) refl refl
 
-      module _ (zero : refusalOf p subs d k ≡ 0) where
+      module _ (zero : joinRefusal p subs d k ≡ 0) where
         pub joins-topic : (d .queue || eqb (d .waiting) 0) ≡ false → test ≡ false
-        joins-topic h = joins-by true false _ (eq-eqb (refusalOf p subs d k) 0 zero) h refl
+        joins-topic h = joins-by true false _ (eq-eqb (joinRefusal p subs d k) 0 zero) h refl
 
         module _ (y : (d .queue || eqb (d .waiting) 0) ≡ true) where
           pub joins-full : 512 < d .events + (d .used + k) → test ≡ false
-          joins-full h = joins-by true true false (eq-eqb (refusalOf p subs d k) 0 zero) y (lt-leb (d .events + (d .used + k)) 512 h)
+          joins-full h = joins-by true true false (eq-eqb (joinRefusal p subs d k) 0 zero) y (lt-leb (d .events + (d .used + k)) 512 h)
 
           module _ (room : d .events + (d .used + k) ≤ 512) where
             joins-yes : test ≡ true
-            joins-yes = joins-by true true true (eq-eqb (refusalOf p subs d k) 0 zero) y (le-leb (d .events + (d .used + k)) 512 room)
+            joins-yes = joins-by true true true (eq-eqb (joinRefusal p subs d k) 0 zero) y (le-leb (d .events + (d .used + k)) 512 room)
 
             pub less : d .consumers < 32
             less = few-consumers p subs d k zero
@@ -245,7 +241,7 @@ module _ (clock : ℕ) (p : SubSpec) (subs : List Row) (d : Head) (rows events :
                 let small : d .stats .expired + g ≤ top = omega (arith, facts .expired, facts .waiting) in
                 let gone-all : kindBy (d .queue) ≡ topic → h ≡ [] = λ o.
                 let n : d .waiting ≡ 0 = eqb-true (d .waiting) 0 (sym (ap (λ (m : Bool). m || eqb (d .waiting) 0) (no-queue (d .queue) o)) ∙ y) in
-                nil h (omega (arith, keep-length (shownBy s) v, ev)) in
+                length-nil h (omega (arith, keep-length (shownBy s) v, ev)) in
                 let keeps : all entryStrict w ≡ true → (all entryStrict h ≡ true) × (all entryStrict v ≡ true) = λ t.
                 let still : all entryStrict v ≡ true = all-keep entryStrict (λ o. not (goneAt now o)) w t in
                 (all-keep entryStrict (shownBy s) v still, still) in

@@ -19,17 +19,17 @@ use Rattle.definition.specs.Calls.{joining, ownRefusal, snapshotRows, consumerR
 use Rattle.definition.specs.Calls as Calls
 use Rattle.definition.specs.Layout.{Row, heldAt, subRows}
 use Rattle.table.proofs.Lists.{slice-take}
-use Rattle.consumers.specs.declared.Found.{Found}
-use Rattle.consumers.specs.declared.Found.the-variants.{At, Nothing}
+use Rattle.table.proofs.Segments.{tally-map}
+use Rattle.entry.specs.declared.Found.{Found}
+use Rattle.entry.specs.declared.Found.the-variants.{At, Nothing}
 use Rattle.consumers.specs.Table.{positionFrom}
 use Rattle.consumers.proofs.View.{subs-length}
 use Rattle.consumers.proofs.Seek.{found-at, found-none}
 use Rattle.consumers.proofs.Laws.{consumer-rows}
 use Rattle.state.specs.declared.Head.{Head}
-use Rattle.state.specs.State.{headView, kindBy, freeRows, firstWaiting, dueBy}
+use Rattle.state.specs.State.{headView, kindBy, rowsFree, firstWaiting, dueBy}
 use Rattle.joins.specs.declared.SubSpec.{SubSpec}
-use Rattle.joins.specs.Joins.{specOf, goneAt, shownBy, snapped, snapshotOf, isAt, refusalOf}
-use Rattle.joins.proofs.Lists.{tally-map}
+use Rattle.joins.specs.Joins.{specOf, goneAt, shownBy, snapped, snapshotOf, isFound, joinRefusal}
 
 -- ---- a row and a snapshot
 
@@ -46,21 +46,21 @@ module _ (now selector : ℕ) (w : Row) where
 -- ---- the refusal, test by test
 
 module _ (p : SubSpec) (subs : List Row) (d : Head) (k : ℕ) (f : Found) (e : f ≡ positionFrom 0 (specOf p .id) (take (d .consumers) subs)) where
-  pub refusal-present : (i : ℕ) → f ≡ At i → 6 ≡ refusalOf p subs d k
+  pub refusal-present : (i : ℕ) → f ≡ At i → 6 ≡ joinRefusal p subs d k
   refusal-present i q = rw (sym e ∙ q)
 
-  pub refusal-full : f ≡ Nothing → 32 ≤ d .consumers → 7 ≡ refusalOf p subs d k
+  pub refusal-full : f ≡ Nothing → 32 ≤ d .consumers → 7 ≡ joinRefusal p subs d k
   refusal-full q n = rw (sym e ∙ q, le-leb 32 (d .consumers) n)
 
-  pub refusal-rows : f ≡ Nothing → d .consumers < 32 → freeRows d < k → 5 ≡ refusalOf p subs d k
-  refusal-rows q n h = rw (sym e ∙ q, lt-leb 32 (d .consumers) n, lt-ltb (freeRows d) k h)
+  pub refusal-rows : f ≡ Nothing → d .consumers < 32 → rowsFree d < k → 5 ≡ joinRefusal p subs d k
+  refusal-rows q n h = rw (sym e ∙ q, lt-leb 32 (d .consumers) n, lt-ltb (rowsFree d) k h)
 
-  pub refusal-none : f ≡ Nothing → d .consumers < 32 → k ≤ freeRows d → 0 ≡ refusalOf p subs d k
-  refusal-none q n h = rw (sym e ∙ q, lt-leb 32 (d .consumers) n, le-ltb (freeRows d) k h)
+  pub refusal-none : f ≡ Nothing → d .consumers < 32 → k ≤ rowsFree d → 0 ≡ joinRefusal p subs d k
+  refusal-none q n h = rw (sym e ∙ q, lt-leb 32 (d .consumers) n, le-ltb (rowsFree d) k h)
 
 -- ---- the numbers as the definition has them of the view
 
-is-found : (o : Option Def.Sub) (f : Found) → ((i : ℕ) → f ≡ At i → is-some o ≡ true) → (f ≡ Nothing → is-some o ≡ false) → is-some o ≡ isAt f
+is-found : (o : Option Def.Sub) (f : Found) → ((i : ℕ) → f ≡ At i → is-some o ≡ true) → (f ≡ Nothing → is-some o ≡ false) → is-some o ≡ isFound f
 is-found o (At i) g h = g i refl
 is-found o Nothing g h = h refl
 
@@ -72,7 +72,7 @@ module _ (d : Head) (subs rows : List Row) (ps : List Id) (qs : List Audit) (n :
   abbrev viewed : Dest
   viewed = headView d subs rows ps qs
 
-  present-is : (id : Id) → is-some (Destination.subOf id viewed) ≡ isAt (positionFrom 0 id ws)
+  present-is : (id : Id) → is-some (Destination.subOf id viewed) ≡ isFound (positionFrom 0 id ws)
   unfolding headView
   present-is id = is-found (Destination.subOf id viewed) (positionFrom 0 id ws)
       (λ i q. ap is-some (found-at id ws i q (kindBy (d .queue)) rows))
@@ -101,7 +101,7 @@ module _ (d : Head) (subs rows : List Row) (ps : List Id) (qs : List Audit) (n :
       length-append (map entryOf w) (Calls.held viewed ++ consumerRows (viewed .subs)) ∙ ap (λ (m : ℕ). length (map entryOf w) + m) (length-append (Calls.held viewed) (consumerRows (viewed .subs))) in
       omega arith
 
-  pub free-is : Calls.freeRows viewed ≡ freeRows d
+  pub free-is : Calls.freeRows viewed ≡ rowsFree d
   free-is = ap (λ (m : ℕ). 512 - m) rows-count
 
   -- the waiting rows
@@ -121,7 +121,7 @@ module _ (d : Head) (subs rows : List Row) (ps : List Id) (qs : List Audit) (n :
       let l : List Row = slice (firstWaiting d) (d .used) rows in
       ap (λ (n : ℕ). if p .browser then n else 0) (ap (tally gets) waiting-rows ∙ tally-map entryOf gets l)
 
-  pub refusal-is : (now : ℕ) (p : SubSpec) → ownRefusal viewed (joining (specOf p) now) ≡ refusalOf p subs d (snapshotOf (dueBy now d) p d rows)
+  pub refusal-is : (now : ℕ) (p : SubSpec) → ownRefusal viewed (joining (specOf p) now) ≡ joinRefusal p subs d (snapshotOf (dueBy now d) p d rows)
   unfolding ownRefusal
   refusal-is now p = λ j.
       if present-is (specOf p .id) j then 6

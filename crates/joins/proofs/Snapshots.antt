@@ -9,14 +9,14 @@ use lib.ListN.{length, take, drop, length-append, length-drop, take-append-drop}
 use lib.Seq.{slice, length-slice, length-take-le, take-take, take-at, drop-at, drop-drop}
 use Rattle.definition.specs.Base.{keep, tally}
 use Rattle.definition.specs.Layout.{Row}
+use Rattle.definition.proofs.Lists.{keep-count, tally-keep}
 use Rattle.table.specs.Table.{openGap, compacted}
 use Rattle.table.proofs.Lists.{slice-parts, drop-parts, parts}
 use Rattle.table.proofs.Laws.{open-parts}
 use Rattle.table.proofs.Segments.{kept-length}
 use Rattle.state.specs.declared.Head.{Head}
 use Rattle.state.specs.State.{firstWaiting, firstReserved}
-use Rattle.joins.specs.Joins.{goneAt, shownBy, copied, purgedHead, browsedHead, purgedRows, gappedRows, browsedRows, Browses}
-use Rattle.joins.proofs.Lists.{keep-tally, tally-keep}
+use Rattle.joins.specs.Joins.{goneAt, shownBy, copiedFrom, purgedHead, browsedHead, purgedRows, gappedRows, browsedRows, Browses}
 
 -- rows that pass a test taken out of a segment s between a and z
 pub compacted-parts : (p : Row → Bool) (from to : ℕ) (a s z : List Row) → length a ≡ from → from + length s ≡ to
@@ -117,7 +117,7 @@ module _ (now selector k : ℕ) (d : Head) (rows : List Row) (b : Browses now se
   shown-count = tally-keep (λ x. not (goneAt now x)) (shownBy selector) w ∙ sym (b .taken)
 
   pub shown-length : length shown ≡ k
-  shown-length = keep-tally (shownBy selector) live ∙ shown-count
+  shown-length = keep-count (shownBy selector) live ∙ shown-count
 
   abbrev e : Head
   e = purgedHead now d rows
@@ -192,7 +192,7 @@ module _ (now selector k : ℕ) (d : Head) (rows : List Row) (b : Browses now se
 
   -- in the end
   pub browsed-is : browsedRows now selector k d rows ≡ a ++ (shown ++ (r ++ (live ++ left)))
-  unfolding copied
+  unfolding copiedFrom
   browsed-is =
       let g : List Row = gappedRows now k d rows in
       let x : List Row = (r ++ live) ++ left in

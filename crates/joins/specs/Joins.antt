@@ -17,11 +17,11 @@ use Rattle.definition.specs.Calls.{joining, ownRefusal, snapshotRows}
 use Rattle.definition.specs.Layout.{Row}
 use Rattle.table.specs.Table.{openGap, compacted}
 use Rattle.consumers.specs.declared.Sub.{Sub}
-use Rattle.consumers.specs.declared.Found.{Found}
-use Rattle.consumers.specs.declared.Found.the-variants.{At, Nothing}
+use Rattle.entry.specs.declared.Found.{Found}
+use Rattle.entry.specs.declared.Found.the-variants.{At, Nothing}
 use Rattle.consumers.specs.Table.{positionFrom}
 use Rattle.state.specs.declared.Head.{Head}
-use Rattle.state.specs.State.{headView, withStats, withUsed, withWaiting, withConsumers, notIdle, firstWaiting, firstReserved, freeRows}
+use Rattle.state.specs.State.{headView, withCounters, withUsed, withWaiting, withConsumers, notIdle, firstWaiting, firstReserved, rowsFree}
 use Rattle.state.specs.Fits.{fits}
 use Rattle.joins.specs.declared.SubSpec.{SubSpec}
 
@@ -52,21 +52,21 @@ abbrev pub snapshotOf : ℕ → SubSpec → Head → List Row → ℕ
 snapshotOf now p d rows = if p .browser then tally (snapped now (p .selector)) (slice (firstWaiting d) (d .used) rows) else 0
 
 -- copies of the rows from..to that a selector takes stand from a place on
-unfoldable pub copied : ℕ → ℕ → ℕ → ℕ → List Row → List Row
-copied at from to selector rs = take at rs ++ (keep (shownBy selector) (slice from to rs) ++ drop (at + tally (shownBy selector) (slice from to rs)) rs)
+unfoldable pub copiedFrom : ℕ → ℕ → ℕ → ℕ → List Row → List Row
+copiedFrom at from to selector rs = take at rs ++ (keep (shownBy selector) (slice from to rs) ++ drop (at + tally (shownBy selector) (slice from to rs)) rs)
 
 -- ---- whether it may join
 
-abbrev pub isAt : Found → Bool
-isAt (At i) = true
-isAt Nothing = false
+abbrev pub isFound : Found → Bool
+isFound (At i) = true
+isFound Nothing = false
 
 -- the refusal, with so many rows for its snapshot
-abbrev pub refusalOf : SubSpec → List Row → Head → ℕ → ℕ
-refusalOf p subs d k =
-    if isAt (positionFrom 0 (specOf p .id) (take (d .consumers) subs)) then 6
+abbrev pub joinRefusal : SubSpec → List Row → Head → ℕ → ℕ
+joinRefusal p subs d k =
+    if isFound (positionFrom 0 (specOf p .id) (take (d .consumers) subs)) then 6
     else if leb 32 (d .consumers) then 7
-    else if ltb (freeRows d) k then 5
+    else if ltb (rowsFree d) k then 5
     else 0
 
 -- the refusal that the definition gives; 2 where a test fails
@@ -74,8 +74,8 @@ pub record Refused (test : Bool) (now : ℕ) (p : SubSpec) (d : Head) (subs rows
   pub exact : (producers : List Id) (audits : List Audit) → r ≡ (if test then ownRefusal (headView d subs rows producers audits) (joining (specOf p) now) else 2)
 
 -- the clock is no later than 2^62, the numbers fit, nothing refuses it, nothing waits on a topic, and its snapshot and the events have room
-unfoldable pub joins : ℕ → SubSpec → List Row → Head → List Row → ℕ → Bool
-joins now p subs d rows events = every (
+unfoldable pub joinsWhen : ℕ → SubSpec → List Row → Head → List Row → ℕ → Bool
+joinsWhen now p subs d rows events = every (
     leb now (2 ^ 62)
     ∷ fits subs d (length rows) events
     ∷ eqb (ownRefusal (headView d subs rows [] []) (joining (specOf p) now)) 0
@@ -89,7 +89,7 @@ joins now p subs d rows events = every (
 abbrev pub purgedHead : ℕ → Head → List Row → Head
 purgedHead now d rows =
     let gone = tally (goneAt now) (slice (firstWaiting d) (d .used) rows) in
-    withStats (withExpiredBy (d .stats) gone) (withWaiting (d .waiting - gone) (withUsed (d .used - gone) d))
+    withCounters (withExpiredBy (d .stats) gone) (withWaiting (d .waiting - gone) (withUsed (d .used - gone) d))
 
 -- and k rows of a snapshot stand before the reserved ones
 abbrev pub browsedHead : ℕ → ℕ → Head → List Row → Head
@@ -106,7 +106,7 @@ abbrev pub browsedRows : ℕ → ℕ → ℕ → Head → List Row → List Row
 browsedRows now selector k d rows =
     let e = purgedHead now d rows in
     let r = browsedHead now k d rows in
-    copied (firstReserved e) (firstWaiting r) (r .used) selector (gappedRows now k d rows)
+    copiedFrom (firstReserved e) (firstWaiting r) (r .used) selector (gappedRows now k d rows)
 
 -- one consumer more, and no idle mark
 abbrev pub withOne : Head → Head

@@ -11,10 +11,10 @@ ghost use Rattle.table.specs.Table.{compacted};
 ghost use Rattle.consumers.specs.Consumers.{subWords};
 ghost use Rattle.state.specs.Fits.{fits};
 ghost use Rattle.state.specs.Leaves.{silent, LeavesIf};
-ghost use Rattle.joins.specs.Joins.{specOf, newOf, goneAt, shownBy, snapped, snapshotOf, copied, refusalOf, Refused, joins, browsedHead, browsedRows, joinedHead, joinedRows, Browses};
-use consumers::Found;
+ghost use Rattle.joins.specs.Joins.{specOf, newOf, goneAt, shownBy, snapped, snapshotOf, copiedFrom, joinRefusal, Refused, joinsWhen, browsedHead, browsedRows, joinedHead, joinedRows, Browses};
 use consumers::Sub;
 use consumers::SubRow;
+use entry::Found;
 use entry::Row;
 use model::Id;
 use state::Event;
@@ -103,7 +103,7 @@ fn purge(rows: &mut [Row], from: usize, to: usize, clock: u64) -> usize
 // Copies of the rows of from..to that a selector takes stand from a place on.
 fn copy_shown(rows: &mut [Row], from: usize, to: usize, at: usize, selector: u64)
     requires { ⌜ (at + tally (shownBy selector) (slice from to (now rows)) ≤ from) × (from ≤ to) × (to ≤ length (now rows)) ⌝ }
-    ensures { λ _. ⌜ now (rows .exit) ≡ copied at from to selector (now (rows .entry)) ⌝ }
+    ensures { λ _. ⌜ now (rows .exit) ≡ copiedFrom at from to selector (now (rows .entry)) ⌝ }
 {
     let mut j = at;
     let mut i = from;
@@ -184,7 +184,7 @@ fn admit(
 
 // The refusal, with so many rows for its snapshot: 6, 7, 5, or 0 for none.
 fn refusal_of(subs: &[SubRow], d: Head, spec: SubSpec, k: usize) -> u64
-    ensures { λ r. ⌜ r ≡ refusalOf spec (now (subs .entry)) d k ⌝ }
+    ensures { λ r. ⌜ r ≡ joinRefusal spec (now (subs .entry)) d k ⌝ }
 {
     let id = Id::of_words(spec.conn, spec.session, spec.value);
     match consumers::position(subs, d.consumers, id) {
@@ -227,7 +227,7 @@ pub fn join(
     spec: SubSpec,
     clock: u64,
 ) -> Head
-    ensures { λ r. ⌜ LeavesIf (joins clock spec (now (subs .entry)) d (now (rows .entry)) (length (now (events .entry)))) ((r .events + r .used ≤ 512) × (d .stats .expired + d .waiting ≤ 2 ^ 62 → fits (now (subs .exit)) r (length (now (rows .entry))) (length (now (events .entry))) ≡ true)) (silent (joined clock (specOf spec))) d r (now (subs .entry)) (now (rows .entry)) (now (events .entry)) (now (subs .exit)) (now (rows .exit)) (now (events .entry)) ⌝ }
+    ensures { λ r. ⌜ LeavesIf (joinsWhen clock spec (now (subs .entry)) d (now (rows .entry)) (length (now (events .entry)))) ((r .events + r .used ≤ 512) × (d .stats .expired + d .waiting ≤ 2 ^ 62 → fits (now (subs .exit)) r (length (now (rows .entry))) (length (now (events .entry))) ≡ true)) (silent (joined clock (specOf spec))) d r (now (subs .entry)) (now (rows .entry)) (now (events .entry)) (now (subs .exit)) (now (rows .exit)) (now (events .entry)) ⌝ }
 {
     let due = d.due(clock);
     if entry::CLOCK_MOST < clock {

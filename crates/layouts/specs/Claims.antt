@@ -5,7 +5,7 @@ use mathlib.Core.Bool.{Bool, true, false, _&&_, _||_}
 use mathlib.Core.List.{List, [], _∷_}
 use lib.Dec.{eqb}
 use Rattle.entry.specs.Entry.{bit, selects}
-use Rattle.layouts.specs.Layouts.{selector, covers, coverCount, inRange, says, checked, selectorAt, matchWord, lookedUp}
+use Rattle.layouts.specs.Layouts.{selector, covers, coverCount, tableInRange, says, checked, selectorAt, matchWord, lookedUp}
 
 -- ---- the check
 
@@ -36,7 +36,7 @@ AcceptedOnce = (t : List (List ℕ)) → checked t .refusal ≡ 0 → (l : ℕ) 
 
 -- and a table in range that does is accepted
 abbrev pub OnceAccepted : Type 0
-OnceAccepted = (t : List (List ℕ)) → inRange t ≡ true → ((l : ℕ) → l ≤ 65535 → coverCount t l ≡ 1) → checked t ≡ says 0 0
+OnceAccepted = (t : List (List ℕ)) → tableInRange t ≡ true → ((l : ℕ) → l ≤ 65535 → coverCount t l ≡ 1) → checked t ≡ says 0 0
 
 -- ---- the lookup
 

@@ -43,8 +43,8 @@ allInRange [] = true
 allInRange (row ∷ rows) = rowInRange row && allInRange rows
 
 -- up to 64 rows, each in range
-unfoldable pub inRange : List (List ℕ) → Bool
-inRange t = leb (length t) 64 && allInRange t
+unfoldable pub tableInRange : List (List ℕ) → Bool
+tableInRange t = leb (length t) 64 && allInRange t
 
 -- the lowest of `count` numbers from `from` on with a property; `from + count` where none has it
 unfoldable pub lowest : (ℕ → Bool) → ℕ → ℕ → ℕ
@@ -74,7 +74,7 @@ says refusal answer = record { refusal = refusal; answer = answer }
 -- 3: out of range. 12: a gap, also where there is an overlap too. 13: an overlap. Beside 12 and 13 the layout found
 unfoldable pub checked : List (List ℕ) → Checked
 checked t =
-    if not (inRange t) then says 3 0
+    if not (tableInRange t) then says 3 0
     else if ltb (lowestGap t) 65536 then says 12 (lowestGap t)
     else if ltb (lowestOverlap t) 65536 then says 13 (lowestOverlap t)
     else says 0 0

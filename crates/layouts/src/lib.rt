@@ -4,7 +4,7 @@ ghost use mathlib.Core.Path.{_≡_};
 ghost use mathlib.Core.Bool.{true};
 ghost use Prim.Native.Nat.{_≤_, _<_};
 ghost use lib.ListN.{length};
-ghost use Rattle.layouts.specs.Layouts.{first, covers, rowInRange, allInRange, inRange, lowestGap, lowestOverlap, selectorAt, checked, lookedUp};
+ghost use Rattle.layouts.specs.Layouts.{first, covers, rowInRange, allInRange, tableInRange, lowestGap, lowestOverlap, selectorAt, checked, lookedUp};
 ghost use Rattle.layouts.specs.Steps.{past, walk, next, column, lane, laneCount, lower, size, sizes};
 
 // A first layout, a last layout and a selector.
@@ -96,7 +96,7 @@ fn start(row: LayoutRow) -> u16
 
 // One of the two numbers of each row; after the rows, the padding.
 fn column(table: &[LayoutRow], k: usize, padding: u16) -> [u16; 64]
-    requires { ⌜ inRange (now table) ≡ true ⌝ }
+    requires { ⌜ tableInRange (now table) ≡ true ⌝ }
     requires { ⌜ k < 2 ⌝ }
     ensures { λ r. ⌜ r ≡ column (now (table .entry)) k padding ⌝ }
 {
@@ -150,7 +150,7 @@ fn lower(found: bool, layout: u16, lowest: u64) -> u64
 // ---- a table
 
 fn in_range(table: &[LayoutRow]) -> bool
-    ensures { λ r. ⌜ r ≡ inRange (now (table .entry)) ⌝ }
+    ensures { λ r. ⌜ r ≡ tableInRange (now (table .entry)) ⌝ }
 {
     if ROWS < table.len() {
         return false;
@@ -182,7 +182,7 @@ fn walk(table: &[LayoutRow], at: u64) -> u64
 // The lowest layout that no row covers; 65,536 for none. It is 0, or the one after a row's last. Where the rows stand by rising
 // layouts, one walk shows that there is none.
 fn gap(table: &[LayoutRow]) -> u64
-    requires { ⌜ inRange (now table) ≡ true ⌝ }
+    requires { ⌜ tableInRange (now table) ≡ true ⌝ }
     ensures { λ r. ⌜ r ≡ lowestGap (now (table .entry)) ⌝ }
 {
     if walk(table, 0) == LAYOUTS {
@@ -202,7 +202,7 @@ fn gap(table: &[LayoutRow]) -> u64
 
 // How many layouts the rows have together.
 fn sizes(table: &[LayoutRow]) -> u64
-    requires { ⌜ inRange (now table) ≡ true ⌝ }
+    requires { ⌜ tableInRange (now table) ≡ true ⌝ }
     ensures { λ r. ⌜ r ≡ sizes (now (table .entry)) ⌝ }
 {
     let mut sum = 0;
@@ -216,7 +216,7 @@ fn sizes(table: &[LayoutRow]) -> u64
 
 // The lowest layout that two rows cover; 65,536 for none. It is the first of one of them.
 fn overlap(table: &[LayoutRow]) -> u64
-    requires { ⌜ inRange (now table) ≡ true ⌝ }
+    requires { ⌜ tableInRange (now table) ≡ true ⌝ }
     ensures { λ r. ⌜ r ≡ lowestOverlap (now (table .entry)) ⌝ }
 {
     let firsts = column(table, 0, 1);

@@ -19,39 +19,39 @@ use Rattle.calltext.proofs.Gathering.{remark-part}
 use Rattle.texting.specs.Lines.{linesOf}
 use Rattle.texting.proofs.Taking.{Taken, lines-end}
 use Rattle.layouttext.specs.declared.Parsed.{Parsed}
-use Rattle.layouttext.specs.Rows.{parsed, without, gather, lineRow, rowFault, lineKind, Reading, reading, readFrom, Reads, Kept}
+use Rattle.layouttext.specs.Rows.{parsedRow, withoutRow, gatherRow, lineRow, rowFault, lineKind, Reading, rowReading, readFrom, Reads, RowKept}
 
 -- ---- words
 
 module _ (n : ℕ) (row : List ℕ) where
-  pub words-row : n ≡ 3 → gather n row [] ≡ parsed 0 row
-  unfolding gather
+  pub words-row : n ≡ 3 → gatherRow n row [] ≡ parsedRow 0 row
+  unfolding gatherRow
   words-row e = rw (eq-eqb n 3 e)
 
-  pub words-none : (n ≡ 3 → ⊥) → n ≡ 0 → gather n row [] ≡ without 1
-  unfolding gather
+  pub words-none : (n ≡ 3 → ⊥) → n ≡ 0 → gatherRow n row [] ≡ withoutRow 1
+  unfolding gatherRow
   words-none h e = rw (ne-eqb n 3 h, eq-eqb n 0 e)
 
-  pub words-few : (n ≡ 3 → ⊥) → (n ≡ 0 → ⊥) → gather n row [] ≡ without 2
-  unfolding gather
+  pub words-few : (n ≡ 3 → ⊥) → (n ≡ 0 → ⊥) → gatherRow n row [] ≡ withoutRow 2
+  unfolding gatherRow
   words-few h e = rw (ne-eqb n 3 h, ne-eqb n 0 e)
 
   module _ (w : List ℕ) (ws : List (List ℕ)) where
-    pub too-many : n ≡ 3 → gather n row (w ∷ ws) ≡ without 2
-    unfolding gather
+    pub too-many : n ≡ 3 → gatherRow n row (w ∷ ws) ≡ withoutRow 2
+    unfolding gatherRow
     too-many e = rw (eq-eqb n 3 e)
 
-    pub no-number : (n ≡ 3 → ⊥) → numberOf w ≡ Bad → gather n row (w ∷ ws) ≡ without 2
-    unfolding gather
+    pub no-number : (n ≡ 3 → ⊥) → numberOf w ≡ Bad → gatherRow n row (w ∷ ws) ≡ withoutRow 2
+    unfolding gatherRow
     no-number h e = rw (ne-eqb n 3 h, e)
 
-    pub one-number : (n ≡ 3 → ⊥) → (v : ℕ) → numberOf w ≡ Of v → gather n row (w ∷ ws) ≡ gather (n + 1) (set row n v) ws
-    unfolding gather
+    pub one-number : (n ≡ 3 → ⊥) → (v : ℕ) → numberOf w ≡ Of v → gatherRow n row (w ∷ ws) ≡ gatherRow (n + 1) (set row n v) ws
+    unfolding gatherRow
     one-number h v e = rw (ne-eqb n 3 h, e)
 
-pub parsed-part : (l : List ℕ) (e : ℕ) → e ≡ 0 + run Remark (drop 0 l) → gather 0 (replicate 3 0) (wordsOf (take (e - 0) (drop 0 l))) ≡ lineRow l
+pub parsed-part : (l : List ℕ) (e : ℕ) → e ≡ 0 + run Remark (drop 0 l) → gatherRow 0 (replicate 3 0) (wordsOf (take (e - 0) (drop 0 l))) ≡ lineRow l
 unfolding lineRow
-parsed-part l e h = ap (λ (t : List ℕ). gather 0 (replicate 3 0) (wordsOf t)) (remark-part l e h)
+parsed-part l e h = ap (λ (t : List ℕ). gatherRow 0 (replicate 3 0) (wordsOf t)) (remark-part l e h)
 
 -- ---- kinds
 
@@ -84,12 +84,12 @@ module _ (count : ℕ) (p : Parsed) where
 -- ---- lines
 
 module _ (rows : List (List ℕ)) (lines : List ℕ) (n : ℕ) where
-  pub read-none : readFrom rows lines n [] ≡ reading rows lines 0 n
+  pub read-none : readFrom rows lines n [] ≡ rowReading rows lines 0 n
   unfolding readFrom
   read-none = refl
 
   module _ (l : List ℕ) (ls : List (List ℕ)) (kind : ℕ) (q : kind ≡ lineKind (length rows) (lineRow l)) where
-    pub read-fault : 1 < kind → readFrom rows lines n (l ∷ ls) ≡ reading rows lines kind n
+    pub read-fault : 1 < kind → readFrom rows lines n (l ∷ ls) ≡ rowReading rows lines kind n
     unfolding readFrom
     read-fault h = let f : kind ≡ 0 → ⊥ = λ z. omega arith in let g : kind ≡ 1 → ⊥ = λ z. omega arith in rw (sym q, ne-eqb kind 0 f, ne-eqb kind 1 g)
 
@@ -107,7 +107,7 @@ module _ (rows : List (List ℕ)) (lines : List ℕ) (count n at : ℕ) (t : Lis
   pub state : Reading
   state = readFrom (take count rows) (take count lines) n (linesOf (drop at t))
 
-  pub state-none : length t ≤ at → state ≡ reading (take count rows) (take count lines) 0 n
+  pub state-none : length t ≤ at → state ≡ rowReading (take count rows) (take count lines) 0 n
   unfolding state
   state-none h = ap (readFrom (take count rows) (take count lines) n) (lines-end t at h) ∙ read-none (take count rows) (take count lines) n
 
@@ -117,14 +117,14 @@ unfolding state
 state-start rows lines t = refl
 
 module _ (count n kind : ℕ) (row : List ℕ) (rows : List (List ℕ)) (lines : List ℕ) where
-  pub kept-row : kind ≡ 0 → Kept count n kind row rows lines (count + 1) (set rows count row) (set lines count n)
+  pub kept-row : kind ≡ 0 → RowKept count n kind row rows lines (count + 1) (set rows count row) (set lines count n)
   kept-row e = let t = eq-eqb kind 0 e in record { next = rw t; rows = rw t; lines = rw t }
 
-  pub kept-none : (kind ≡ 0 → ⊥) → Kept count n kind row rows lines count rows lines
+  pub kept-none : (kind ≡ 0 → ⊥) → RowKept count n kind row rows lines count rows lines
   kept-none e = let t = ne-eqb kind 0 e in record { next = rw t; rows = rw t; lines = rw t }
 
 -- what a buffer has after a row was kept
-module _ {count n kind r : ℕ} {row : List ℕ} {rows rows′ : List (List ℕ)} {lines lines′ : List ℕ} (k : Kept count n kind row rows lines r rows′ lines′) where
+module _ {count n kind r : ℕ} {row : List ℕ} {rows rows′ : List (List ℕ)} {lines lines′ : List ℕ} (k : RowKept count n kind row rows lines r rows′ lines′) where
   pub kept-lengths : (length rows′ ≡ length rows) × (length lines′ ≡ length lines)
   kept-lengths = by-test (eqb kind 0)
       (λ t.
@@ -160,7 +160,7 @@ module _ (rows : List (List ℕ)) (lines : List ℕ) (count n at : ℕ) (t : Lis
       → p ≡ lineRow (take (e - at) (drop at t))
       → kind ≡ lineKind count p
       → 1 < kind
-      → state rows lines count n at t ≡ reading (take count rows) (take count lines) kind n
+      → state rows lines count n at t ≡ rowReading (take count rows) (take count lines) kind n
   unfolding state
   state-fault {e} {kind} {p} w q k h =
       let l = take (e - at) (drop at t) in
@@ -173,7 +173,7 @@ module _ (rows : List (List ℕ)) (lines : List ℕ) (count n at : ℕ) (t : Lis
       → p ≡ lineRow (take (e - at) (drop at t))
       → kind ≡ lineKind count p
       → kind ≤ 1
-      → Kept count n kind (p .row) rows lines r rows′ lines′
+      → RowKept count n kind (p .row) rows lines r rows′ lines′
       → state rows′ lines′ r m (e + 1) t ≡ state rows lines count n at t
   unfolding state
   state-passed {e} {kind} {r} {m} {p} {rows′} {lines′} w y q k h x =
@@ -199,7 +199,7 @@ module _ (rows : List (List ℕ)) (lines : List ℕ) (count n at : ℕ) (t : Lis
       (λ i. readFrom (take (re i) (xe i)) (take (re i) (ye i)) (y i) ls) ∙ sym (read-empty (take count rows) (take count lines) n l ls kind c one) ∙ ap (readFrom (take count rows) (take count lines) n) (sym (w .lines)))
 
 -- an answer and buffers that are a reading's
-pub reads : {rows : List (List ℕ)} {lines : List ℕ} {kind n count : ℕ} {x : Reading} → count ≤ 64 → reading (take count rows) (take count lines) kind n ≡ x → Reads x (record { kind = kind; line = n; count = count }) rows lines
+pub reads : {rows : List (List ℕ)} {lines : List ℕ} {kind n count : ℕ} {x : Reading} → count ≤ 64 → rowReading (take count rows) (take count lines) kind n ≡ x → Reads x (record { kind = kind; line = n; count = count }) rows lines
 reads h e = record {
   kind = ap (λ (x : Reading). x .kind) e;
   line = ap (λ (x : Reading). x .line) e;

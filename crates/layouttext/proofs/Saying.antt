@@ -12,31 +12,31 @@ use Rattle.layouttext.specs.declared.Read.{Read}
 use Rattle.layouttext.specs.Rows.{Reading, Reads}
 use Rattle.layouttext.specs.Verdict.{overlapping, found, judged}
 use Rattle.layouttext.proofs.Covers.{Found}
-use Rattle.layouttext.specs.Messages.{notRow, firstOut, lastOut, selectorOut, firstAbove, manyRows, complaint, faultText, gapText, bothText, rowsText, acceptedText, verdictText}
+use Rattle.layouttext.specs.Messages.{notRow, firstOut, lastOut, selectorOut, firstAbove, manyRows, rowComplaint, faultText, gapText, bothText, rowsText, acceptedText, verdictText}
 
 module _ (kind : ℕ) where
-  pub says-row : kind ≡ 2 → notRow ≡ complaint kind
-  unfolding complaint
+  pub says-row : kind ≡ 2 → notRow ≡ rowComplaint kind
+  unfolding rowComplaint
   says-row e = rw e
 
-  pub says-first : kind ≡ 3 → firstOut ≡ complaint kind
-  unfolding complaint
+  pub says-first : kind ≡ 3 → firstOut ≡ rowComplaint kind
+  unfolding rowComplaint
   says-first e = rw e
 
-  pub says-last : kind ≡ 4 → lastOut ≡ complaint kind
-  unfolding complaint
+  pub says-last : kind ≡ 4 → lastOut ≡ rowComplaint kind
+  unfolding rowComplaint
   says-last e = rw e
 
-  pub says-selector : kind ≡ 5 → selectorOut ≡ complaint kind
-  unfolding complaint
+  pub says-selector : kind ≡ 5 → selectorOut ≡ rowComplaint kind
+  unfolding rowComplaint
   says-selector e = rw e
 
-  pub says-above : kind ≡ 6 → firstAbove ≡ complaint kind
-  unfolding complaint
+  pub says-above : kind ≡ 6 → firstAbove ≡ rowComplaint kind
+  unfolding rowComplaint
   says-above e = rw e
 
-  pub says-many : (kind ≡ 2 → ⊥) → (kind ≡ 3 → ⊥) → (kind ≡ 4 → ⊥) → (kind ≡ 5 → ⊥) → (kind ≡ 6 → ⊥) → manyRows ≡ complaint kind
-  unfolding complaint
+  pub says-many : (kind ≡ 2 → ⊥) → (kind ≡ 3 → ⊥) → (kind ≡ 4 → ⊥) → (kind ≡ 5 → ⊥) → (kind ≡ 6 → ⊥) → manyRows ≡ rowComplaint kind
+  unfolding rowComplaint
   says-many a b d e f = rw (ne-eqb kind 2 a, ne-eqb kind 3 b, ne-eqb kind 4 d, ne-eqb kind 5 e, ne-eqb kind 6 f)
 
 -- two rows by their places

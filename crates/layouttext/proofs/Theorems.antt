@@ -10,7 +10,7 @@ use lib.ListN.{length, length-append}
 use Rattle.words.proofs.Tests.{by-test}
 use Rattle.stats.specs.Counted.{more}
 use Rattle.layouts.specs.declared.Checked.{Checked}
-use Rattle.layouts.specs.Layouts.{first, last, selector, coverCount, rowInRange, allInRange, inRange, lowestOverlap, checked}
+use Rattle.layouts.specs.Layouts.{first, last, selector, coverCount, rowInRange, allInRange, tableInRange, lowestOverlap, checked}
 use Rattle.layouts.proofs.Answers.{Case, out, bare, twice, once, case-of}
 use Rattle.layouts.proofs.Theorems.{overlap-is-lowest}
 use Rattle.texting.specs.Lines.{linesOf}
@@ -62,7 +62,7 @@ read-few (l ∷ ls) rows lines n f =
     (λ u. rw (t, u) f))
 
 pub rows-in-range : RowsInRange
-unfolding inRange
+unfolding tableInRange
 rows-in-range text =
     let f = read-few (linesOf text) [] [] 1 (record { few = omega arith; ranged = refl }) in
     rw (le-leb (length (readingOf text .rows)) 64 (f .few), f .ranged)
@@ -73,7 +73,7 @@ pub fault-first : FaultFirst
 unfolding verdictOf
 fault-first text h = rw (ne-eqb (readingOf text .kind) 0 h)
 
-said-by : {rows : List (List ℕ)} (lines : List ℕ) {c : Checked} → Case rows c → c ≡ checked rows → inRange rows ≡ true → Said rows lines c (found rows lines c)
+said-by : {rows : List (List ℕ)} (lines : List ℕ) {c : Checked} → Case rows c → c ≡ checked rows → tableInRange rows ≡ true → Said rows lines c (found rows lines c)
 said-by lines (out e) q h = absurd (true≢false (sym h ∙ e))
 said-by lines (bare e g) q h = gapped _
 said-by {rows} lines (twice e g k) q h =

@@ -5,12 +5,12 @@ use mathlib.Core.Bool.{true}
 use mathlib.Core.List.{List, []}
 use lib.ListN.{length, getD}
 use Rattle.layouts.specs.declared.Checked.{Checked}
-use Rattle.layouts.specs.Layouts.{covers, inRange, says, checked}
+use Rattle.layouts.specs.Layouts.{covers, tableInRange, says, checked}
 use Rattle.layouttext.specs.Verdict.{Verdict, fault, gap, accepted, coverAt, nextCover, overlapping, readingOf, verdictOf}
 
 -- the rows taken from any text are at most 64, and in range; so the check of them never answers 3
 abbrev pub RowsInRange : Type 0
-RowsInRange = (text : List ℕ) → inRange (readingOf text .rows) ≡ true
+RowsInRange = (text : List ℕ) → tableInRange (readingOf text .rows) ≡ true
 
 -- a line at fault is said first
 abbrev pub FaultFirst : Type 0

@@ -60,8 +60,8 @@ abbrev pub acceptedWords : List ℕ
 acceptedWords = 97 ∷ 99 ∷ 99 ∷ 101 ∷ 112 ∷ 116 ∷ 101 ∷ 100 ∷ 58 ∷ 32 ∷ 48 ∷ 32 ∷ 116 ∷ 111 ∷ 32 ∷ 54 ∷ 53 ∷ 53 ∷ 51 ∷ 53 ∷ 32 ∷ 99 ∷ 111 ∷ 118 ∷ 101 ∷ 114 ∷ 101 ∷ 100 ∷ 32 ∷ 111 ∷ 110 ∷ 99 ∷ 101 ∷ 32 ∷ 101 ∷ 97 ∷ 99 ∷ 104 ∷ 44 ∷ 32 ∷ 114 ∷ 111 ∷ 119 ∷ 115 ∷ 58 ∷ []
 
 -- what is wrong with a line
-unfoldable pub complaint : ℕ → List ℕ
-complaint kind =
+unfoldable pub rowComplaint : ℕ → List ℕ
+rowComplaint kind =
     if eqb kind 2 then notRow
     else if eqb kind 3 then firstOut
     else if eqb kind 4 then lastOut
@@ -70,29 +70,29 @@ complaint kind =
     else manyRows
 
 -- some words, and a number after a space
-abbrev pub named : List ℕ → ℕ → List ℕ
-named words n = words ++ field n
+abbrev pub numbered : List ℕ → ℕ → List ℕ
+numbered words n = words ++ field n
 
 -- and a row's three numbers
 unfoldable pub rowText : List ℕ → List ℕ → List ℕ
-rowText words row = named words (first row) ++ (field (last row) ++ field (selector row))
+rowText words row = numbered words (first row) ++ (field (last row) ++ field (selector row))
 
 unfoldable pub faultText : ℕ → ℕ → List ℕ
-faultText n kind = named lineWord n ++ complaint kind
+faultText n kind = numbered lineWord n ++ rowComplaint kind
 
 unfoldable pub gapText : ℕ → List ℕ
-gapText l = named gapWords l ++ newline
+gapText l = numbered gapWords l ++ newline
 
 -- the lines, and the layout
 unfoldable pub bothText : ℕ → ℕ → ℕ → List ℕ
-bothText l m n = named overlapWords m ++ (named andWord n ++ named coverWords l)
+bothText l m n = numbered overlapWords m ++ (numbered andWord n ++ numbered coverWords l)
 
 -- the rows
 unfoldable pub rowsText : List ℕ → List ℕ → List ℕ
 rowsText r s = rowText colon r ++ (rowText andWord s ++ newline)
 
 unfoldable pub acceptedText : ℕ → List ℕ
-acceptedText count = named acceptedWords count ++ newline
+acceptedText count = numbered acceptedWords count ++ newline
 
 unfoldable pub verdictText : Verdict → List ℕ
 verdictText (fault n kind) = faultText n kind

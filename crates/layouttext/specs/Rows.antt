@@ -17,25 +17,25 @@ use Rattle.layouttext.specs.declared.Read.{Read}
 -- ---- a line
 
 -- what a line can be: 0 a row, 1 empty, 2 neither
-abbrev pub parsed : ℕ → List ℕ → Parsed
-parsed kind row = record { kind = kind; row = row }
+abbrev pub parsedRow : ℕ → List ℕ → Parsed
+parsedRow kind row = record { kind = kind; row = row }
 
-abbrev pub without : ℕ → Parsed
-without kind = parsed kind (replicate 3 0)
+abbrev pub withoutRow : ℕ → Parsed
+withoutRow kind = parsedRow kind (replicate 3 0)
 
 -- what is done with a number
-abbrev pub withNumber : Number → (ℕ → Parsed) → Parsed
-withNumber Bad f = without 2
-withNumber (Of v) f = f v
+abbrev pub rowNumber : Number → (ℕ → Parsed) → Parsed
+rowNumber Bad f = withoutRow 2
+rowNumber (Of v) f = f v
 
 -- a row has three words, each a number, which go to the places from n on; a line without words is empty
-unfoldable pub gather : ℕ → List ℕ → List (List ℕ) → Parsed
-gather n row [] = if eqb n 3 then parsed 0 row else if eqb n 0 then without 1 else without 2
-gather n row (w ∷ ws) = if eqb n 3 then without 2 else withNumber (numberOf w) (λ v. gather (n + 1) (set row n v) ws)
+unfoldable pub gatherRow : ℕ → List ℕ → List (List ℕ) → Parsed
+gatherRow n row [] = if eqb n 3 then parsedRow 0 row else if eqb n 0 then withoutRow 1 else withoutRow 2
+gatherRow n row (w ∷ ws) = if eqb n 3 then withoutRow 2 else rowNumber (numberOf w) (λ v. gatherRow (n + 1) (set row n v) ws)
 
 -- the words before a line's remark
 unfoldable pub lineRow : List ℕ → Parsed
-lineRow line = gather 0 (replicate 3 0) (wordsOf (plain line))
+lineRow line = gatherRow 0 (replicate 3 0) (wordsOf (plain line))
 
 -- ---- what is wrong with it
 
@@ -61,17 +61,17 @@ pub record Reading : Type 0 where
   pub kind : ℕ
   pub line : ℕ
 
-abbrev pub reading : List (List ℕ) → List ℕ → ℕ → ℕ → Reading
-reading rows lines kind n = record { rows = rows; lines = lines; kind = kind; line = n }
+abbrev pub rowReading : List (List ℕ) → List ℕ → ℕ → ℕ → Reading
+rowReading rows lines kind n = record { rows = rows; lines = lines; kind = kind; line = n }
 
 -- line after line, up to the first at fault; n is the number of the next line, counted up to 2^64 - 1
 unfoldable pub readFrom : List (List ℕ) → List ℕ → ℕ → List (List ℕ) → Reading
-readFrom rows lines n [] = reading rows lines 0 n
+readFrom rows lines n [] = rowReading rows lines 0 n
 readFrom rows lines n (l ∷ ls) =
     let kind = lineKind (length rows) (lineRow l) in
     if eqb kind 0 then readFrom (rows ++ (lineRow l .row ∷ [])) (lines ++ (n ∷ [])) (more n) ls
     else if eqb kind 1 then readFrom rows lines (more n) ls
-    else reading rows lines kind n
+    else rowReading rows lines kind n
 
 -- what a reading leaves in lent buffers, and answers
 pub record Reads (x : Reading) (r : Read) (table : List (List ℕ)) (marks : List ℕ) : Type 0 where
@@ -82,7 +82,7 @@ pub record Reads (x : Reading) (r : Read) (table : List (List ℕ)) (marks : Lis
   pub few : r .count ≤ 64
 
 -- a row of kind 0 stands after the others, and so does its line's number; any other kind changes nothing
-pub record Kept (count n kind : ℕ) (row : List ℕ) (table : List (List ℕ)) (marks : List ℕ) (r : ℕ) (table′ : List (List ℕ)) (marks′ : List ℕ) : Type 0 where
+pub record RowKept (count n kind : ℕ) (row : List ℕ) (table : List (List ℕ)) (marks : List ℕ) (r : ℕ) (table′ : List (List ℕ)) (marks′ : List ℕ) : Type 0 where
   pub next : r ≡ (if eqb kind 0 then count + 1 else count)
   pub rows : table′ ≡ (if eqb kind 0 then set table count row else table)
   pub lines : marks′ ≡ (if eqb kind 0 then set marks count n else marks)

@@ -1,17 +1,16 @@
 // A table of layouts as text, a row a line: what is said of it.
 ghost use mathlib.Core.Path.{_≡_};
-ghost use mathlib.Core.List.{[], _∷_};
+ghost use mathlib.Core.List.{[]};
 ghost use Prim.Native.Nat.{_+_, _<_, _≤_};
 ghost use lib.ListN.{length, drop, replicate};
 ghost use Rattle.callfile.specs.Lines.{field};
-ghost use Rattle.callfile.specs.Placed.{Puts};
+ghost use Rattle.callfile.specs.Placed.{Puts, PutLine};
 ghost use Rattle.texting.specs.Lines.{linesOf};
-ghost use Rattle.texting.specs.Shown.{Front};
 ghost use Rattle.textwords.specs.Text.{wordsOf};
 ghost use Rattle.layouts.specs.Layouts.{coverCount, checked};
-ghost use Rattle.layouttext.specs.Rows.{parsed, without, gather, lineRow, rowFault, lineKind, readFrom, Reads, Kept};
+ghost use Rattle.layouttext.specs.Rows.{withoutRow, gatherRow, lineRow, rowFault, lineKind, readFrom, Reads, RowKept};
 ghost use Rattle.layouttext.specs.Verdict.{coverAt, overlapping, found, verdictOf};
-ghost use Rattle.layouttext.specs.Messages.{complaint, named, rowText, faultText, gapText, bothText, rowsText, acceptedText, verdictText};
+ghost use Rattle.layouttext.specs.Messages.{rowComplaint, numbered, rowText, faultText, gapText, bothText, rowsText, acceptedText, verdictText};
 use layouts::LayoutRow;
 use textwords::Number;
 use textwords::Stop;
@@ -57,14 +56,14 @@ const OVERLAP: u64 = 13;
 // ---- a line
 
 fn without_row(kind: u64) -> Parsed
-    ensures { λ r. ⌜ r ≡ without kind ⌝ }
+    ensures { λ r. ⌜ r ≡ withoutRow kind ⌝ }
 {
     Parsed { kind, row: [0; 3] }
 }
 
 // So many words were numbers, and no more words are left.
 fn end_of_words(n: usize, row: LayoutRow) -> Parsed
-    ensures { λ r. ⌜ r ≡ gather n row [] ⌝ }
+    ensures { λ r. ⌜ r ≡ gatherRow n row [] ⌝ }
 {
     if n == 3 {
         return Parsed { kind: ROW, row };
@@ -77,7 +76,7 @@ fn end_of_words(n: usize, row: LayoutRow) -> Parsed
 
 // The words of a line, without its remark.
 fn row_in(text: &[u8]) -> Parsed
-    ensures { λ r. ⌜ r ≡ gather 0 (replicate 3 0) (wordsOf (now (text .entry))) ⌝ }
+    ensures { λ r. ⌜ r ≡ gatherRow 0 (replicate 3 0) (wordsOf (now (text .entry))) ⌝ }
 {
     let mut row = [0u64; 3];
     let mut n = 0;
@@ -150,7 +149,7 @@ fn keep(
     row: LayoutRow,
 ) -> usize
     requires { ⌜ (kind ≡ 0 → count < 64) × (64 ≤ length (now rows)) × (64 ≤ length (now lines)) ⌝ }
-    ensures { λ r. ⌜ Kept count n kind row (now (rows .entry)) (now (lines .entry)) r (now (rows .exit)) (now (lines .exit)) ⌝ }
+    ensures { λ r. ⌜ RowKept count n kind row (now (rows .entry)) (now (lines .entry)) r (now (rows .exit)) (now (lines .exit)) ⌝ }
 {
     if kind != ROW {
         return count;
@@ -193,28 +192,6 @@ fn read_rows(text: &[u8], rows: &mut [LayoutRow], lines: &mut [u64]) -> Read
 
 // ---- words and numbers
 
-fn put(out: &mut [u8], at: usize, b: u8) -> usize
-    requires { do ⌜ at < (← ⟦out.len()⟧) ⌝ }
-    ensures { λ r. ⌜ Puts (b ∷ []) at (now (out .entry)) r (now (out .exit)) ⌝ }
-{
-    out[at] = b;
-    at + 1
-}
-
-// Bytes, one after the other.
-fn put_all(out: &mut [u8], at: usize, part: &[u8]) -> usize
-    requires { ⌜ at + length (now part) ≤ length (now out) ⌝ }
-    ensures { λ r. ⌜ Puts (now (part .entry)) at (now (out .entry)) r (now (out .exit)) ⌝ }
-{
-    let mut next = at;
-    let mut i = 0;
-    while i < part.len() {
-        next = put(out, next, part[i]);
-        i += 1;
-    }
-    next
-}
-
 // A space and a number.
 fn put_number(out: &mut [u8], at: usize, n: u64) -> usize
     requires { ⌜ at + 128 ≤ length (now out) ⌝ }
@@ -226,9 +203,9 @@ fn put_number(out: &mut [u8], at: usize, n: u64) -> usize
 // Some words, and a number.
 fn put_named(out: &mut [u8], at: usize, words: &[u8], n: u64) -> usize
     requires { ⌜ at + length (now words) + 128 ≤ length (now out) ⌝ }
-    ensures { λ r. ⌜ Puts (named (now (words .entry)) n) at (now (out .entry)) r (now (out .exit)) × (r ≤ at + length (now (words .entry)) + 22) ⌝ }
+    ensures { λ r. ⌜ Puts (numbered (now (words .entry)) n) at (now (out .entry)) r (now (out .exit)) × (r ≤ at + length (now (words .entry)) + 22) ⌝ }
 {
-    let a = put_all(out, at, words);
+    let a = callfile::put_all(out, at, words);
     put_number(out, a, n)
 }
 
@@ -247,19 +224,19 @@ fn put_row(out: &mut [u8], at: usize, words: &[u8], row: LayoutRow) -> usize
 // What is wrong with a line.
 fn put_complaint(out: &mut [u8], at: usize, kind: u64) -> usize
     requires { ⌜ at + 64 ≤ length (now out) ⌝ }
-    ensures { λ r. ⌜ Puts (complaint kind) at (now (out .entry)) r (now (out .exit)) × (r ≤ at + 64) ⌝ }
+    ensures { λ r. ⌜ Puts (rowComplaint kind) at (now (out .entry)) r (now (out .exit)) × (r ≤ at + 64) ⌝ }
 {
     match kind {
-        NOT_A_ROW => put_all(
+        NOT_A_ROW => callfile::put_all(
             out,
             at,
             b": not a row: want three numbers, first, last and selector\n",
         ),
-        FIRST_OUT => put_all(out, at, b": 3: first is not 0 to 65535\n"),
-        LAST_OUT => put_all(out, at, b": 3: last is not 0 to 65535\n"),
-        SELECTOR_OUT => put_all(out, at, b": 3: selector is not 0 to 63\n"),
-        FIRST_ABOVE => put_all(out, at, b": 3: first is above last\n"),
-        _ => put_all(out, at, b": 3: more than 64 rows\n"),
+        FIRST_OUT => callfile::put_all(out, at, b": 3: first is not 0 to 65535\n"),
+        LAST_OUT => callfile::put_all(out, at, b": 3: last is not 0 to 65535\n"),
+        SELECTOR_OUT => callfile::put_all(out, at, b": 3: selector is not 0 to 63\n"),
+        FIRST_ABOVE => callfile::put_all(out, at, b": 3: first is above last\n"),
+        _ => callfile::put_all(out, at, b": 3: more than 64 rows\n"),
     }
 }
 
@@ -276,7 +253,7 @@ fn put_gap(out: &mut [u8], layout: u64) -> usize
     ensures { λ r. ⌜ Puts (gapText layout) 0 (now (out .entry)) r (now (out .exit)) × (r ≤ 512) ⌝ }
 {
     let a = put_named(out, 0, b"12: gap: no row covers", layout);
-    put(out, a, b'\n')
+    callfile::put_byte(out, a, b'\n')
 }
 
 // The layout that two rows cover, and the lines of the two.
@@ -296,7 +273,7 @@ fn put_rows(out: &mut [u8], at: usize, row: LayoutRow, other: LayoutRow) -> usiz
 {
     let a = put_row(out, at, b":", row);
     let b = put_row(out, a, b" and", other);
-    put(out, b, b'\n')
+    callfile::put_byte(out, b, b'\n')
 }
 
 fn put_accepted(out: &mut [u8], count: usize) -> usize
@@ -309,7 +286,7 @@ fn put_accepted(out: &mut [u8], count: usize) -> usize
         b"accepted: 0 to 65535 covered once each, rows:",
         count as u64,
     );
-    put(out, a, b'\n')
+    callfile::put_byte(out, a, b'\n')
 }
 
 // ---- the verdict
@@ -372,7 +349,7 @@ fn put_verdict(text: &[u8], out: &mut [u8]) -> usize
 
 // What is said of a text of rows: the first line at fault, or what the check answers. Without room for 512 bytes, nothing is put.
 pub fn verdict(text: &[u8], out: &mut [u8]) -> usize
-    ensures { λ r. ⌜ Front 512 (verdictText (verdictOf (now (text .entry)))) (now (out .entry)) r (now (out .exit)) ⌝ }
+    ensures { λ r. ⌜ PutLine 512 (verdictText (verdictOf (now (text .entry)))) 0 (now (out .entry)) r (now (out .exit)) ⌝ }
 {
     if out.len() < ROOM {
         return 0;

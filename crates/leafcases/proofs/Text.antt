@@ -20,7 +20,7 @@ use Rattle.words.proofs.Signed.{flip}
 use Rattle.words.proofs.Tests.{by-test}
 use Rattle.leafcases.specs.declared.parse.Digits.the-variants as D
 use Rattle.leafcases.specs.declared.parse.Number.the-variants as N
-use Rattle.leafcases.specs.Parse.{nextDigit, andThen, digitsAfter, digitsOf, positive, negative, numberOf, wordLength, sameBytes, split, wordsAfter, noValues, withNumber, valuesOf}
+use Rattle.leafcases.specs.Parse.{nextDigit, andThen, spelledAfter, digitsOf, positive, negative, spelled, wordLength, sameBytes, split, wordsAfter, noValues, withSpelled, valuesOf}
 
 -- ---- numbers
 
@@ -33,15 +33,15 @@ minus (suc n) h i =
 
 -- the digits from i on are that at i and those after it
 pub digits-step : (s : List ℕ) (v i : ℕ) → i < length s
-    → digitsAfter v (drop i s) ≡ andThen (nextDigit v (getD s i 0)) (λ w. digitsAfter w (drop (i + 1) s))
-unfolding digitsAfter
+    → spelledAfter v (drop i s) ≡ andThen (nextDigit v (getD s i 0)) (λ w. spelledAfter w (drop (i + 1) s))
+unfolding spelledAfter
 digits-step s v i h = rw (drop-cons s i 0 h, add-one)
 
-pub digits-done : (s : List ℕ) (v i : ℕ) → length s ≤ i → digitsAfter v (drop i s) ≡ D.Value v
-unfolding digitsAfter
+pub digits-done : (s : List ℕ) (v i : ℕ) → length s ≤ i → spelledAfter v (drop i s) ≡ D.Value v
+unfolding spelledAfter
 digits-done s v i h = rw (drop-of-length-le s h)
 
-pub some-digits : (s : List ℕ) → 0 < length s → digitsOf s ≡ digitsAfter 0 s
+pub some-digits : (s : List ℕ) → 0 < length s → digitsOf s ≡ spelledAfter 0 s
 unfolding digitsOf
 some-digits [] h = absurd (omega arith)
 some-digits (b ∷ bs) h = refl
@@ -51,14 +51,14 @@ unfolding digitsOf
 no-digits [] h = refl
 no-digits (b ∷ bs) h = absurd (omega arith)
 
-pub no-number : (s : List ℕ) → length s ≤ 0 → N.Bad ≡ numberOf s
-unfolding numberOf
+pub no-number : (s : List ℕ) → length s ≤ 0 → N.Bad ≡ spelled s
+unfolding spelled
 no-number [] h = refl
 no-number (b ∷ bs) h = absurd (omega arith)
 
 pub some-number : (s : List ℕ) → 0 < length s
-    → numberOf s ≡ (if eqb (getD s 0 0) 45 then negative (digitsOf (drop 1 s)) else positive (digitsOf s))
-unfolding numberOf
+    → spelled s ≡ (if eqb (getD s 0 0) 45 then negative (digitsOf (drop 1 s)) else positive (digitsOf s))
+unfolding spelled
 some-number [] h = absurd (omega arith)
 some-number (b ∷ bs) h = refl
 
@@ -152,7 +152,7 @@ words-end s n h = rw (le-ltb n (length s) h)
 -- a turn of the loop over a line's numbers: n is where the word ends
 pub values-step : (s : List ℕ) (at n count : ℕ) (values : List ℕ) → at < length s → n ≡ at + 1 + wordLength (drop (at + 1) s)
     → valuesOf (wordsAfter at s) values count
-    ≡ withNumber (numberOf (take (n - (at + 1)) (drop (at + 1) s))) (λ x. if leb 9 count then noValues else valuesOf (wordsAfter n s) (set values count (unsigned x)) (count + 1))
+    ≡ withSpelled (spelled (take (n - (at + 1)) (drop (at + 1) s))) (λ x. if leb 9 count then noValues else valuesOf (wordsAfter n s) (set values count (unsigned x)) (count + 1))
 unfolding valuesOf
 values-step s at n count values h e =
     let k : n - (at + 1) ≡ wordLength (drop (at + 1) s) = omega arith in

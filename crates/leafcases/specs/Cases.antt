@@ -8,7 +8,7 @@ use lib.Signed.{leZ}
 use Rattle.words.specs.Pick.{every}
 use Rattle.leafcases.specs.declared.parse.Number.{Number}
 use Rattle.leafcases.specs.declared.parse.Number.the-variants as N
-use Rattle.leafcases.specs.Parse.{nextDigit, digitsAfter, digitsOf, positive, negative, numberOf, wordLength}
+use Rattle.leafcases.specs.Parse.{nextDigit, spelledAfter, digitsOf, positive, negative, spelled, wordLength}
 
 abbrev is : Number → ℤ → Bool
 is (N.Value a) b = leZ a b && leZ b a
@@ -19,24 +19,24 @@ bad (N.Value a) = false
 bad N.Bad = true
 
 cases : List Bool
-unfolding nextDigit digitsAfter digitsOf positive negative numberOf wordLength
+unfolding nextDigit spelledAfter digitsOf positive negative spelled wordLength
 cases =
-    is (numberOf (48 ∷ [])) (pos 0)
-    ∷ is (numberOf (45 ∷ 48 ∷ [])) (pos 0)
-    ∷ is (numberOf (48 ∷ 48 ∷ 55 ∷ [])) (pos 7)
-    ∷ is (numberOf (45 ∷ 49 ∷ [])) (negsuc 0)
-    ∷ is (numberOf (57 ∷ 50 ∷ 50 ∷ 51 ∷ 51 ∷ 55 ∷ 50 ∷ 48 ∷ 51 ∷ 54 ∷ 56 ∷ 53 ∷ 52 ∷ 55 ∷ 55 ∷ 53 ∷ 56 ∷ 48 ∷ 55 ∷ [])) (pos (2 ^ 63 - 1))
-    ∷ is (numberOf (45 ∷ 57 ∷ 50 ∷ 50 ∷ 51 ∷ 51 ∷ 55 ∷ 50 ∷ 48 ∷ 51 ∷ 54 ∷ 56 ∷ 53 ∷ 52 ∷ 55 ∷ 55 ∷ 53 ∷ 56 ∷ 48 ∷ 56 ∷ [])) (negsuc (2 ^ 63 - 1))
-    ∷ bad (numberOf (57 ∷ 50 ∷ 50 ∷ 51 ∷ 51 ∷ 55 ∷ 50 ∷ 48 ∷ 51 ∷ 54 ∷ 56 ∷ 53 ∷ 52 ∷ 55 ∷ 55 ∷ 53 ∷ 56 ∷ 48 ∷ 56 ∷ []))
-    ∷ bad (numberOf (45 ∷ 57 ∷ 50 ∷ 50 ∷ 51 ∷ 51 ∷ 55 ∷ 50 ∷ 48 ∷ 51 ∷ 54 ∷ 56 ∷ 53 ∷ 52 ∷ 55 ∷ 55 ∷ 53 ∷ 56 ∷ 48 ∷ 57 ∷ []))
-    ∷ bad (numberOf (49 ∷ 56 ∷ 52 ∷ 52 ∷ 54 ∷ 55 ∷ 52 ∷ 52 ∷ 48 ∷ 55 ∷ 51 ∷ 55 ∷ 48 ∷ 57 ∷ 53 ∷ 53 ∷ 49 ∷ 54 ∷ 49 ∷ 54 ∷ []))
-    ∷ bad (numberOf [])
-    ∷ bad (numberOf (45 ∷ []))
-    ∷ bad (numberOf (45 ∷ 45 ∷ 49 ∷ []))
-    ∷ bad (numberOf (49 ∷ 45 ∷ []))
-    ∷ bad (numberOf (43 ∷ 49 ∷ []))
-    ∷ bad (numberOf (49 ∷ 47 ∷ []))
-    ∷ bad (numberOf (49 ∷ 58 ∷ []))
+    is (spelled (48 ∷ [])) (pos 0)
+    ∷ is (spelled (45 ∷ 48 ∷ [])) (pos 0)
+    ∷ is (spelled (48 ∷ 48 ∷ 55 ∷ [])) (pos 7)
+    ∷ is (spelled (45 ∷ 49 ∷ [])) (negsuc 0)
+    ∷ is (spelled (57 ∷ 50 ∷ 50 ∷ 51 ∷ 51 ∷ 55 ∷ 50 ∷ 48 ∷ 51 ∷ 54 ∷ 56 ∷ 53 ∷ 52 ∷ 55 ∷ 55 ∷ 53 ∷ 56 ∷ 48 ∷ 55 ∷ [])) (pos (2 ^ 63 - 1))
+    ∷ is (spelled (45 ∷ 57 ∷ 50 ∷ 50 ∷ 51 ∷ 51 ∷ 55 ∷ 50 ∷ 48 ∷ 51 ∷ 54 ∷ 56 ∷ 53 ∷ 52 ∷ 55 ∷ 55 ∷ 53 ∷ 56 ∷ 48 ∷ 56 ∷ [])) (negsuc (2 ^ 63 - 1))
+    ∷ bad (spelled (57 ∷ 50 ∷ 50 ∷ 51 ∷ 51 ∷ 55 ∷ 50 ∷ 48 ∷ 51 ∷ 54 ∷ 56 ∷ 53 ∷ 52 ∷ 55 ∷ 55 ∷ 53 ∷ 56 ∷ 48 ∷ 56 ∷ []))
+    ∷ bad (spelled (45 ∷ 57 ∷ 50 ∷ 50 ∷ 51 ∷ 51 ∷ 55 ∷ 50 ∷ 48 ∷ 51 ∷ 54 ∷ 56 ∷ 53 ∷ 52 ∷ 55 ∷ 55 ∷ 53 ∷ 56 ∷ 48 ∷ 57 ∷ []))
+    ∷ bad (spelled (49 ∷ 56 ∷ 52 ∷ 52 ∷ 54 ∷ 55 ∷ 52 ∷ 52 ∷ 48 ∷ 55 ∷ 51 ∷ 55 ∷ 48 ∷ 57 ∷ 53 ∷ 53 ∷ 49 ∷ 54 ∷ 49 ∷ 54 ∷ []))
+    ∷ bad (spelled [])
+    ∷ bad (spelled (45 ∷ []))
+    ∷ bad (spelled (45 ∷ 45 ∷ 49 ∷ []))
+    ∷ bad (spelled (49 ∷ 45 ∷ []))
+    ∷ bad (spelled (43 ∷ 49 ∷ []))
+    ∷ bad (spelled (49 ∷ 47 ∷ []))
+    ∷ bad (spelled (49 ∷ 58 ∷ []))
     ∷ eqb (wordLength (97 ∷ 98 ∷ 32 ∷ 99 ∷ [])) 2
     ∷ eqb (wordLength (97 ∷ 98 ∷ 99 ∷ [])) 3
     ∷ []

@@ -26,11 +26,11 @@ use Rattle.leafcases.specs.declared.parse.Kind.the-variants as K
 -- ---- a case
 
 -- number k of a line, as the word that holds it, and as an i64
-abbrev pub word : List ℕ → ℕ → ℕ
-word v k = getD v k 0
+abbrev pub valueWord : List ℕ → ℕ → ℕ
+valueWord v k = getD v k 0
 
 abbrev pub time : List ℕ → ℕ → ℤ
-time v k = signed (word v k)
+time v k = signed (valueWord v k)
 
 -- whether a flag of the list, 0 or 1, says this
 unfoldable pub flagIs : Bool → ℕ → Bool
@@ -41,12 +41,12 @@ entryWith expiration redelivery = record { seq = 1; expiration = expiration; pro
 
 -- EXPIRATION NOW RESULT
 unfoldable pub expiredSame : List ℕ → Bool
-expiredSame v = flagIs (expired (time v 1) (entryWith (time v 0) (pos 0))) (word v 2)
+expiredSame v = flagIs (expired (time v 1) (entryWith (time v 0) (pos 0))) (valueWord v 2)
 
 -- BEFORE AFTER
 unfoldable pub redeliveredSame : List ℕ → Bool
 redeliveredSame v =
-    isInt (word v 0) && eqb (unsigned (redelivered (entryWith (pos 0) (int (word v 0))) .redelivery)) (word v 1)
+    isInt (valueWord v 0) && eqb (unsigned (redelivered (entryWith (pos 0) (int (valueWord v 0))) .redelivery)) (valueWord v 1)
 
 unfoldable pub admissionSame : Admission → ℕ → ℕ → Bool
 admissionSame a admitted limited = eqb (a .refusal) 0 && (flagIs (a .admitted) admitted && flagIs (a .limited) limited)
@@ -54,9 +54,9 @@ admissionSame a admitted limited = eqb (a .refusal) 0 && (flagIs (a .admitted) a
 -- LIMIT FLAG USED SIZE ADMITTED FLAG_AFTER
 unfoldable pub admitMemorySame : List ℕ → Bool
 admitMemorySame v =
-    let limited = eqb (word v 1) 1 in
-    flagIs limited (word v 1)
-    && admissionSame (admitMemory (word v 0) limited (word v 2) (word v 3)) (word v 4) (word v 5)
+    let limited = eqb (valueWord v 1) 1 in
+    flagIs limited (valueWord v 1)
+    && admissionSame (admitMemory (valueWord v 0) limited (valueWord v 2) (valueWord v 3)) (valueWord v 4) (valueWord v 5)
 
 unfoldable pub arrivalSame : Arrival → ℕ → ℕ → ℕ → Bool
 arrivalSame a live expiration timestamp =
@@ -70,9 +70,9 @@ options clock ttl ceiling = record { «default_ttl» = ttl; «ttl_ceiling» = ce
 -- USE_BROKER_CLOCK DEFAULT_TTL TTL_CEILING EXPIRATION TIMESTAMP NOW LIVE EXPIRATION_AFTER TIMESTAMP_AFTER
 unfoldable pub applyExpiryOptionsSame : List ℕ → Bool
 applyExpiryOptionsSame v =
-    let clock = eqb (word v 0) 1 in
-    flagIs clock (word v 0)
-    && arrivalSame (applyExpiryOptions (options clock (time v 1) (time v 2)) (times (time v 3) (time v 4)) (time v 5)) (word v 6) (word v 7) (word v 8)
+    let clock = eqb (valueWord v 0) 1 in
+    flagIs clock (valueWord v 0)
+    && arrivalSame (applyExpiryOptions (options clock (time v 1) (time v 2)) (times (time v 3) (time v 4)) (time v 5)) (valueWord v 6) (valueWord v 7) (valueWord v 8)
 
 unfoldable pub duplicateSame : Checked → ℕ → Bool
 duplicateSame c duplicate = eqb (c .refusal) 0 && flagIs (c .duplicate) duplicate
@@ -88,8 +88,8 @@ replayed a same w = record { tested = record { audit = a; same = same }; words =
 -- NUMBER DUPLICATE
 unfoldable pub auditCompared : Audit → List ℕ → List ℕ → Replayed
 auditCompared a v w =
-    let l = ringStep (word v 0) a w in
-    replayed (l .checked .audit) (duplicateSame (l .checked) (word v 1)) (l .words)
+    let l = ringStep (valueWord v 0) a w in
+    replayed (l .checked .audit) (duplicateSame (l .checked) (valueWord v 1)) (l .words)
 
 -- a case against the function that it names
 unfoldable pub compared : Kind → Audit → List ℕ → List ℕ → Replayed
@@ -114,17 +114,17 @@ abbrev pub newRun : Run
 newRun = record { counts = noCounts; audit = newAudit; lines = 0; shown = 0; len = 0; over = false; reading = true }
 
 -- one more, up to the greatest u64
-unfoldable pub oneMore : ℕ → ℕ
-oneMore n = if ltb n (2 ^ 64 - 1) then n + 1 else n
+unfoldable pub countMore : ℕ → ℕ
+countMore n = if ltb n (2 ^ 64 - 1) then n + 1 else n
 
-unfoldable pub counted : Count → Bool → Count
-counted c same = record { cases = oneMore (c .cases); differ = if same then c .differ else oneMore (c .differ) }
+unfoldable pub countedCase : Count → Bool → Count
+countedCase c same = record { cases = countMore (c .cases); differ = if same then c .differ else countMore (c .differ) }
 
 unfoldable pub countedAs : Counts → Kind → Bool → Counts
-countedAs c K.Expired same = record { expired = counted (c .expired) same; redelivered = c .redelivered; «admit_memory» = c .«admit_memory»; «apply_expiry_options» = c .«apply_expiry_options»; audit = c .audit; audits = c .audits; bad = c .bad }
-countedAs c K.Redelivered same = record { expired = c .expired; redelivered = counted (c .redelivered) same; «admit_memory» = c .«admit_memory»; «apply_expiry_options» = c .«apply_expiry_options»; audit = c .audit; audits = c .audits; bad = c .bad }
-countedAs c K.AdmitMemory same = record { expired = c .expired; redelivered = c .redelivered; «admit_memory» = counted (c .«admit_memory») same; «apply_expiry_options» = c .«apply_expiry_options»; audit = c .audit; audits = c .audits; bad = c .bad }
-countedAs c K.ApplyExpiryOptions same = record { expired = c .expired; redelivered = c .redelivered; «admit_memory» = c .«admit_memory»; «apply_expiry_options» = counted (c .«apply_expiry_options») same; audit = c .audit; audits = c .audits; bad = c .bad }
-countedAs c K.Audit same = record { expired = c .expired; redelivered = c .redelivered; «admit_memory» = c .«admit_memory»; «apply_expiry_options» = c .«apply_expiry_options»; audit = counted (c .audit) same; audits = c .audits; bad = c .bad }
-countedAs c K.AuditNew same = record { expired = c .expired; redelivered = c .redelivered; «admit_memory» = c .«admit_memory»; «apply_expiry_options» = c .«apply_expiry_options»; audit = c .audit; audits = oneMore (c .audits); bad = c .bad }
-countedAs c K.Bad same = record { expired = c .expired; redelivered = c .redelivered; «admit_memory» = c .«admit_memory»; «apply_expiry_options» = c .«apply_expiry_options»; audit = c .audit; audits = c .audits; bad = oneMore (c .bad) }
+countedAs c K.Expired same = record { expired = countedCase (c .expired) same; redelivered = c .redelivered; «admit_memory» = c .«admit_memory»; «apply_expiry_options» = c .«apply_expiry_options»; audit = c .audit; audits = c .audits; bad = c .bad }
+countedAs c K.Redelivered same = record { expired = c .expired; redelivered = countedCase (c .redelivered) same; «admit_memory» = c .«admit_memory»; «apply_expiry_options» = c .«apply_expiry_options»; audit = c .audit; audits = c .audits; bad = c .bad }
+countedAs c K.AdmitMemory same = record { expired = c .expired; redelivered = c .redelivered; «admit_memory» = countedCase (c .«admit_memory») same; «apply_expiry_options» = c .«apply_expiry_options»; audit = c .audit; audits = c .audits; bad = c .bad }
+countedAs c K.ApplyExpiryOptions same = record { expired = c .expired; redelivered = c .redelivered; «admit_memory» = c .«admit_memory»; «apply_expiry_options» = countedCase (c .«apply_expiry_options») same; audit = c .audit; audits = c .audits; bad = c .bad }
+countedAs c K.Audit same = record { expired = c .expired; redelivered = c .redelivered; «admit_memory» = c .«admit_memory»; «apply_expiry_options» = c .«apply_expiry_options»; audit = countedCase (c .audit) same; audits = c .audits; bad = c .bad }
+countedAs c K.AuditNew same = record { expired = c .expired; redelivered = c .redelivered; «admit_memory» = c .«admit_memory»; «apply_expiry_options» = c .«apply_expiry_options»; audit = c .audit; audits = countMore (c .audits); bad = c .bad }
+countedAs c K.Bad same = record { expired = c .expired; redelivered = c .redelivered; «admit_memory» = c .«admit_memory»; «apply_expiry_options» = c .«apply_expiry_options»; audit = c .audit; audits = c .audits; bad = countMore (c .bad) }

@@ -27,14 +27,14 @@ andThen (D.Value v) f = f v
 andThen D.Bad f = D.Bad
 
 -- a number and the digits after it
-unfoldable pub digitsAfter : ℕ → List ℕ → Digits
-digitsAfter v [] = D.Value v
-digitsAfter v (b ∷ bs) = andThen (nextDigit v b) (λ w. digitsAfter w bs)
+unfoldable pub spelledAfter : ℕ → List ℕ → Digits
+spelledAfter v [] = D.Value v
+spelledAfter v (b ∷ bs) = andThen (nextDigit v b) (λ w. spelledAfter w bs)
 
 -- one digit or more
 unfoldable pub digitsOf : List ℕ → Digits
 digitsOf [] = D.Bad
-digitsOf (b ∷ bs) = digitsAfter 0 (b ∷ bs)
+digitsOf (b ∷ bs) = spelledAfter 0 (b ∷ bs)
 
 -- as an i64, with no sign before it
 unfoldable pub positive : Digits → Number
@@ -47,9 +47,9 @@ negative (D.Value v) = if leb v (2 ^ 63) then N.Value (negℤ (pos v)) else N.Ba
 negative D.Bad = N.Bad
 
 -- the i64 that a text spells
-unfoldable pub numberOf : List ℕ → Number
-numberOf [] = N.Bad
-numberOf (b ∷ bs) = if eqb b 45 then negative (digitsOf bs) else positive (digitsOf (b ∷ bs))
+unfoldable pub spelled : List ℕ → Number
+spelled [] = N.Bad
+spelled (b ∷ bs) = if eqb b 45 then negative (digitsOf bs) else positive (digitsOf (b ∷ bs))
 
 -- how many bytes stand before a space or the end
 unfoldable pub wordLength : List ℕ → ℕ
@@ -63,8 +63,8 @@ sameBytes (a ∷ l) [] = false
 sameBytes (a ∷ l) (b ∷ m) = eqb a b && sameBytes l m
 
 -- expired, redelivered, admit_memory, apply_expiry_options, audit_new, audit
-unfoldable pub kindOf : List ℕ → Kind
-kindOf name =
+unfoldable pub kindNamed : List ℕ → Kind
+kindNamed name =
     if sameBytes name (101 ∷ 120 ∷ 112 ∷ 105 ∷ 114 ∷ 101 ∷ 100 ∷ []) then K.Expired
     else if sameBytes name (114 ∷ 101 ∷ 100 ∷ 101 ∷ 108 ∷ 105 ∷ 118 ∷ 101 ∷ 114 ∷ 101 ∷ 100 ∷ []) then K.Redelivered
     else if sameBytes name (97 ∷ 100 ∷ 109 ∷ 105 ∷ 116 ∷ 95 ∷ 109 ∷ 101 ∷ 109 ∷ 111 ∷ 114 ∷ 121 ∷ []) then K.AdmitMemory
@@ -74,14 +74,14 @@ kindOf name =
     else K.Bad
 
 -- how many numbers a line of this kind has
-abbrev pub wantedOf : Kind → ℕ
-wantedOf K.Expired = 3
-wantedOf K.Redelivered = 2
-wantedOf K.AdmitMemory = 6
-wantedOf K.ApplyExpiryOptions = 9
-wantedOf K.AuditNew = 0
-wantedOf K.Audit = 2
-wantedOf K.Bad = 0
+abbrev pub numbersWanted : Kind → ℕ
+numbersWanted K.Expired = 3
+numbersWanted K.Redelivered = 2
+numbersWanted K.AdmitMemory = 6
+numbersWanted K.ApplyExpiryOptions = 9
+numbersWanted K.AuditNew = 0
+numbersWanted K.Audit = 2
+numbersWanted K.Bad = 0
 
 -- ---- a line
 
@@ -91,14 +91,14 @@ zeros = 0 ∷ 0 ∷ 0 ∷ 0 ∷ 0 ∷ 0 ∷ 0 ∷ 0 ∷ 0 ∷ []
 abbrev pub noValues : Values
 noValues = record { values = zeros; count = 0; good = false }
 
-abbrev pub withNumber : Number → (ℤ → Values) → Values
-withNumber (N.Value x) f = f x
-withNumber N.Bad f = noValues
+abbrev pub withSpelled : Number → (ℤ → Values) → Values
+withSpelled (N.Value x) f = f x
+withSpelled N.Bad f = noValues
 
 -- the numbers of these words, each as the word of 64 bits that holds it, put after the n that are there; nine at most
 unfoldable pub valuesOf : List (List ℕ) → List ℕ → ℕ → Values
 valuesOf [] values n = record { values = values; count = n; good = true }
-valuesOf (w ∷ ws) values n = withNumber (numberOf w) (λ x. if leb 9 n then noValues else valuesOf ws (set values n (unsigned x)) (n + 1))
+valuesOf (w ∷ ws) values n = withSpelled (spelled w) (λ x. if leb 9 n then noValues else valuesOf ws (set values n (unsigned x)) (n + 1))
 
 abbrev pub onHead : ℕ → List (List ℕ) → List (List ℕ)
 onHead b [] = (b ∷ []) ∷ []
@@ -115,21 +115,21 @@ wordsAfter n s = if ltb n (length s) then split (drop (n + 1) s) else []
 
 -- the kind, if the numbers are good and as many as it wants
 unfoldable pub kindWith : Kind → Values → Kind
-kindWith kind v = if v .good && eqb (v .count) (wantedOf kind) then kind else K.Bad
+kindWith kind v = if v .good && eqb (v .count) (numbersWanted kind) then kind else K.Bad
 
 abbrev pub lineWith : Kind → Values → Line
 lineWith kind v = record { values = v .values; kind = kindWith kind v }
 
 abbrev pub lineOfWords : List (List ℕ) → Line
 lineOfWords [] = record { values = zeros; kind = K.Bad }
-lineOfWords (name ∷ ws) = lineWith (kindOf name) (valuesOf ws zeros 0)
+lineOfWords (name ∷ ws) = lineWith (kindNamed name) (valuesOf ws zeros 0)
 
 -- a name and its numbers
-unfoldable pub lineOf : List ℕ → Line
-lineOf s = lineOfWords (split s)
+unfoldable pub parsedLine : List ℕ → Line
+parsedLine s = lineOfWords (split s)
 
 -- the line in the first n bytes; bad where it was cut
 unfoldable pub lineIn : List ℕ → ℕ → Bool → Line
 lineIn buffer n cut =
     if cut || ltb (length buffer) n then record { values = zeros; kind = K.Bad }
-    else lineOf (take n buffer)
+    else parsedLine (take n buffer)

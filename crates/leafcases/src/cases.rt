@@ -1,7 +1,7 @@
 // A case against the leaf functions, and what is counted.
 use crate::parse::Kind;
 ghost use mathlib.Core.Path.{_≡_};
-ghost use Rattle.leafcases.specs.Compare.{noCount, noCounts, newRun, oneMore, counted, countedAs, entryWith, flagIs, expiredSame, redeliveredSame, admissionSame, admitMemorySame, arrivalSame, applyExpiryOptionsSame, duplicateSame, Replayed, auditCompared, compared};
+ghost use Rattle.leafcases.specs.Compare.{noCount, noCounts, newRun, countMore, countedCase, countedAs, entryWith, flagIs, expiredSame, redeliveredSame, admissionSame, admitMemorySame, arrivalSame, applyExpiryOptionsSame, duplicateSame, Replayed, auditCompared, compared};
 use audit::Audit;
 use audit::Checked;
 use broker::Admission;
@@ -49,7 +49,7 @@ pub(crate) struct Tested {
 }
 
 pub(crate) fn more(n: u64) -> u64
-    ensures { λ r. ⌜ r ≡ oneMore n ⌝ }
+    ensures { λ r. ⌜ r ≡ countMore n ⌝ }
 {
     if n < 18446744073709551615 { n + 1 } else { n }
 }
@@ -65,7 +65,7 @@ impl Count {
     }
 
     fn with(self, same: bool) -> Count
-        ensures { λ r. ⌜ r ≡ counted self same ⌝ }
+        ensures { λ r. ⌜ r ≡ countedCase self same ⌝ }
     {
         if same {
             Count {

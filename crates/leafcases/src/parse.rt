@@ -2,7 +2,7 @@
 ghost use mathlib.Core.Path.{_≡_};
 ghost use Prim.Native.Nat.{_+_};
 ghost use lib.ListN.{drop};
-ghost use Rattle.leafcases.specs.Parse.{nextDigit, digitsOf, positive, negative, numberOf, wordLength, sameBytes, kindOf, wantedOf, noValues, zeros, wordsAfter, valuesOf, kindWith, lineOf, lineIn};
+ghost use Rattle.leafcases.specs.Parse.{nextDigit, digitsOf, positive, negative, spelled, wordLength, sameBytes, kindNamed, numbersWanted, noValues, zeros, wordsAfter, valuesOf, kindWith, parsedLine, lineIn};
 use words::word_of;
 
 pub(crate) enum Number {
@@ -45,12 +45,6 @@ pub(crate) struct Values {
     pub good: bool,
 }
 
-fn wide(b: u8) -> u64
-    ensures { λ r. ⌜ r ≡ b ⌝ }
-{
-    b as u64
-}
-
 // One more digit.
 fn next_digit(before: u64, byte: u8) -> Digits
     ensures { λ r. ⌜ r ≡ nextDigit before byte ⌝ }
@@ -58,7 +52,7 @@ fn next_digit(before: u64, byte: u8) -> Digits
     if byte < b'0' || b'9' < byte || FULL < before {
         return Digits::Bad;
     }
-    Digits::Value(before * 10 + (wide(byte) - 48))
+    Digits::Value(before * 10 + (words::wide(byte) - 48))
 }
 
 fn digits_of(s: &[u8]) -> Digits
@@ -110,7 +104,7 @@ fn negative(d: Digits) -> Number
 
 // The i64 that the text spells.
 pub(crate) fn number_of(s: &[u8]) -> Number
-    ensures { λ r. ⌜ r ≡ numberOf (now (s .entry)) ⌝ }
+    ensures { λ r. ⌜ r ≡ spelled (now (s .entry)) ⌝ }
 {
     if s.len() == 0 {
         return Number::Bad;
@@ -142,7 +136,7 @@ fn same_bytes(a: &[u8], b: &[u8]) -> bool
 }
 
 pub(crate) fn kind_of(name: &[u8]) -> Kind
-    ensures { λ r. ⌜ r ≡ kindOf (now (name .entry)) ⌝ }
+    ensures { λ r. ⌜ r ≡ kindNamed (now (name .entry)) ⌝ }
 {
     if same_bytes(name, b"expired") {
         return Kind::Expired;
@@ -167,7 +161,7 @@ pub(crate) fn kind_of(name: &[u8]) -> Kind
 
 // How many numbers a line of this kind has.
 pub(crate) fn wanted(k: Kind) -> usize
-    ensures { λ r. ⌜ r ≡ wantedOf k ⌝ }
+    ensures { λ r. ⌜ r ≡ numbersWanted k ⌝ }
 {
     match k {
         Kind::Expired => 3,
@@ -231,7 +225,7 @@ fn kind_with(kind: Kind, v: Values) -> Kind
 }
 
 pub(crate) fn parsed(s: &[u8]) -> Line
-    ensures { λ r. ⌜ r ≡ lineOf (now (s .entry)) ⌝ }
+    ensures { λ r. ⌜ r ≡ parsedLine (now (s .entry)) ⌝ }
 {
     let end = word_end(s, 0);
     let kind = kind_of(&s[..end]);

@@ -1,14 +1,13 @@
 -- The tests of equality on signed numbers and identifiers decide equality, at all values; and they are those of the words.
 -- Assumes nothing.
 use mathlib.Core.Path.{_≡_, refl, sym, ap}
-use mathlib.Core.Bool.{Bool, true, false, _&&_, and-eq-true-iff, and-true, false≢true}
+use mathlib.Core.Bool.{true, false, _&&_, and-eq-true-iff, and-true, false≢true}
 use Prim.Native.Nat.{ℕ, _<_, _^_}
 use native.Mathlib.Nat.{le-refl}
 use native.Mathlib.Omega.{arith}
 use borrow.Author.Tests.{leb-true, le-leb, eqb-true, eqb-false, eq-eqb}
 use lib.Dec.{leb, eqb}
 use lib.IntN.{ℤ, pos, negsuc}
-use lib.Signed.{leZ}
 use Rattle.words.specs.Words.{signed}
 use Rattle.words.proofs.Tests.{by-test}
 use Rattle.words.proofs.Words.{signed-eq}

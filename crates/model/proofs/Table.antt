@@ -13,7 +13,7 @@ use Rattle.model.specs.declared.AckType.{AckType}
 use Rattle.model.specs.declared.AckType.the-variants.{Delivered, Poison, Standard, Redelivered, Individual, Unmatched, Expired, Other}
 use Rattle.model.specs.declared.AckRule.{AckRule}
 use Rattle.model.specs.Model.{ackType, ruleOf, ackRule}
-use Rattle.model.specs.Packed.{placeOf, unpacked}
+use Rattle.model.specs.Packed.{rulePlace, unpacked}
 
 -- the rules of n bytes, from i on
 abbrev pub rules : ℕ → ℕ → List AckRule
@@ -36,7 +36,7 @@ unnamed k h = rw (other 0 (omega arith), other 1 (omega arith), other 2 (omega a
     other : (j : ℕ) → j < k → eqb k j ≡ false
     other j l = ne-eqb k j (λ e. omega arith)
 
-pub placed : (t : AckType) (k : ℕ) → t ≡ ackType k → ackRule (placeOf t) ≡ ackRule k
+pub placed : (t : AckType) (k : ℕ) → t ≡ ackType k → ackRule (rulePlace t) ≡ ackRule k
 unfolding ackType ackRule
 placed Delivered k e = ap ruleOf e
 placed Poison k e = ap ruleOf e

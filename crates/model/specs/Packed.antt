@@ -13,15 +13,15 @@ use Rattle.model.specs.declared.AckCount.the-variants.{Uncounted, Dequeu
 use Rattle.model.specs.declared.AckRule.{AckRule}
 
 -- the place of a type's rule is its byte; a byte without a name has the place after those
-abbrev pub placeOf : AckType → ℕ
-placeOf Delivered = 0
-placeOf Poison = 1
-placeOf Standard = 2
-placeOf Redelivered = 3
-placeOf Individual = 4
-placeOf Unmatched = 5
-placeOf Expired = 6
-placeOf Other = 7
+abbrev pub rulePlace : AckType → ℕ
+rulePlace Delivered = 0
+rulePlace Poison = 1
+rulePlace Standard = 2
+rulePlace Redelivered = 3
+rulePlace Individual = 4
+rulePlace Unmatched = 5
+rulePlace Expired = 6
+rulePlace Other = 7
 
 unfoldable pub rangeOf : ℕ → AckRange
 rangeOf d = if eqb d 0 then Empty else if eqb d 1 then Between else if eqb d 2 then Cumulative else Last

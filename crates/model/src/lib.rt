@@ -1,7 +1,7 @@
 // Identifiers as numbers, and the ack types of model.rs.
 ghost use mathlib.Core.Path.{_≡_};
 ghost use Rattle.model.specs.Model.{newId, idOf, sameId, ackType, ackRule};
-ghost use Rattle.model.specs.Packed.{placeOf, rangeOf, effectOf, countOf, unpacked};
+ghost use Rattle.model.specs.Packed.{rulePlace, rangeOf, effectOf, countOf, unpacked};
 
 // ConsumerId and ProducerId: the host's numbers for their texts, one to one.
 pub struct Id {
@@ -92,7 +92,7 @@ impl AckType {
 
     // The place of a type's rule: its constant; after those for a byte without a name.
     fn place(self) -> u8
-        ensures { λ r. ⌜ r ≡ placeOf self ⌝ }
+        ensures { λ r. ⌜ r ≡ rulePlace self ⌝ }
     {
         match self {
             AckType::Delivered => AckType::DELIVERED,

@@ -4,6 +4,7 @@ use mathlib.Core.Bool.{Bool, true, false, _&&_}
 use mathlib.Core.List.{List, [], _∷_, map}
 use lib.Dec.{eqb, T}
 use lib.IntN.{ℤ, pos, negsuc}
+use Rattle.words.specs.Pick.{sameNumbers}
 use Rattle.definition.specs.Base.{every}
 use Rattle.definition.specs.Types.{queue, topic, Entry, Dest, withPending}
 use Rattle.definition.specs.Consumer.{consumerOpen}
@@ -12,12 +13,6 @@ use Rattle.definition.specs.Calls.{Lengths, opened, seqs, callsOpen}
 use Rattle.definition.specs.Words.{step, wordsOpen}
 use Rattle.definition.specs.Queries.{queriesOpen}
 use Rattle.outlook.specs.Outlook.{Outlook, outlook, outlookOpen}
-
-abbrev sameNumbers : List ℕ → List ℕ → Bool
-sameNumbers [] [] = true
-sameNumbers [] (b ∷ bs) = false
-sameNumbers (a ∷ l) [] = false
-sameNumbers (a ∷ l) (b ∷ m) = eqb a b && sameNumbers l m
 
 abbrev entry : ℕ → ℤ → Entry
 entry s ex = record { seq = s; expiration = ex; persistent = true; producer = 7; «match_word» = 0; redelivery = pos 0; size = 1 }

@@ -17,12 +17,12 @@ use Rattle.outlooks.specs.declared.Outlooked.{Outlooked}
 use Rattle.outlooks.specs.Listing.{entryAt}
 
 -- the line of the row at a place
-abbrev pub lineAt : List Row → ℕ → Line
-lineAt rows p = lineOf (entryAt rows p)
+abbrev pub outlookLineAt : List Row → ℕ → Line
+outlookLineAt rows p = lineOf (entryAt rows p)
 
 -- as the struct holds it, of the row at place i of a plan
 unfoldable pub planLine : List Row → OutlookPlan → ℕ → PageLine
-planLine rows p i = pageLine (lineAt rows (getD (p .places) i 0))
+planLine rows p i = pageLine (outlookLineAt rows (getD (p .places) i 0))
 
 -- 3 where a reading is above 2^62, 17 where the earlier is above the later
 unfoldable pub clocksRefusal : ℕ → ℕ → ℕ
@@ -38,13 +38,13 @@ pub record NoPlan (refused : ℕ) (r : OutlookPlan) : Type 0 where
   pub count : r .count ≡ 0
 
 -- its numbers are those of the answer, its rows in order those of the lines, and there is room
-pub record Planned (p : Outlook) (rows : List Row) (room : ℕ) (r : OutlookPlan) : Type 0 where
+pub record OutlookPlanned (p : Outlook) (rows : List Row) (room : ℕ) (r : OutlookPlan) : Type 0 where
   pub refusal : r .refusal ≡ p .refusal
   pub sure : r .sure ≡ p .sure
   pub perhaps : r .perhaps ≡ p .perhaps
   pub alive : r .alive ≡ p .alive
   pub next : r .next ≡ p .next
-  pub lines : p .lines ≡ map (lineAt rows) (take (r .count) (r .places))
+  pub lines : p .lines ≡ map (outlookLineAt rows) (take (r .count) (r .places))
   pub in-room : r .count ≤ room
   pub in-places : r .count ≤ length (r .places)
 

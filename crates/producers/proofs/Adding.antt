@@ -19,26 +19,24 @@ use Rattle.definition.specs.Destination.{isProducer}
 use Rattle.definition.specs.Calls.{adding, ownRefusal, perform}
 use Rattle.definition.specs.Layout.{Row, idAt, idsAt, auditsAt, ringsFormed}
 use Rattle.definition.proofs.Thin.{all-every}
+pub use Rattle.definition.proofs.Stored.{ids-length}
 use Rattle.state.specs.declared.Head.{Head}
-use Rattle.state.specs.State.{headView, withProducers, notIdle, refusedAs, doneAs}
-use Rattle.producers.specs.Groups.{over, idWords}
-use Rattle.producers.specs.Producers.{headFits, added, destOf, Promised}
+use Rattle.state.specs.State.{headView, withProducerCount, notIdle, refusedAs, doneAs}
+use Rattle.producers.specs.Groups.{writtenFrom, idWords}
+use Rattle.producers.specs.Producers.{headFits, added, headDest, Promised}
 use Rattle.producers.proofs.Words.{over-length, over-after, over-from}
-use Rattle.producers.proofs.Groups.{elems, elems-length, elems-before, elems-more}
+use Rattle.producers.proofs.Groups.{elems, elems-before, elems-more}
 use Rattle.producers.proofs.Tables.{counts, anyWords, ids-elems, ids-oks, id-local, id-same}
 use Rattle.producers.proofs.Promises.{refused-performs, unfit-performs}
 
-pub ids-length : (n : ℕ) (l : List ℕ) → length (idsAt n l) ≡ n
-ids-length n l = ap length (ids-elems n l) ∙ elems-length idAt anyWords 3 n l
-
 -- the producers of a head do not change with the words from the audits on
-pub ids-kept : (n : ℕ) (at : ℕ) (x h : List ℕ) → n ≤ 32 → 113 ≤ at → at ≤ length h → idsAt n (drop 17 (over at x h)) ≡ idsAt n (drop 17 h)
+pub ids-kept : (n : ℕ) (at : ℕ) (x h : List ℕ) → n ≤ 32 → 113 ≤ at → at ≤ length h → idsAt n (drop 17 (writtenFrom at x h)) ≡ idsAt n (drop 17 h)
 ids-kept n at x h a b c =
     let l : List ℕ = drop 17 h in
     let m : ℕ = at - 17 in
     let e : at ≡ 17 + m = omega arith in
     ap (idsAt n) (over-from at x h 17 m e c)
-    ∙ ids-elems n (over m x l)
+    ∙ ids-elems n (writtenFrom m x l)
     ∙ elems-before idAt anyWords 3 id-local id-same n m l (x ++ drop (m + length x) l) (omega arith) (omega (arith, length-drop 17 h)) (ids-oks n l)
     ∙ sym (ids-elems n l)
 
@@ -50,7 +48,7 @@ module _ (i : Id) (d : Head) (h : List ℕ) where
   abbrev ids : List Id
   ids = idsAt (d .producers) (drop 17 h)
 
-  own : (b : Bool) → isProducer i ids ≡ b → (subs rows : List Row) → ownRefusal (destOf d h subs rows) (adding i) ≡ (if not b && leb 32 (d .producers) then 8 else 0)
+  own : (b : Bool) → isProducer i ids ≡ b → (subs rows : List Row) → ownRefusal (headDest d h subs rows) (adding i) ≡ (if not b && leb 32 (d .producers) then 8 else 0)
   unfolding ownRefusal headView
   own b t subs rows = rw (t, ids-length (d .producers) (drop 17 h))
 
@@ -84,7 +82,7 @@ module _ (i : Id) (d : Head) (h : List ℕ) where
       place = 17 + d .producers * 3
 
       abbrev words : List ℕ
-      words = over place (idWords i) h
+      words = writtenFrom place (idWords i) h
 
       few : d .producers < 32
       few = leb-false 32 (d .producers) u
@@ -111,14 +109,14 @@ module _ (i : Id) (d : Head) (h : List ℕ) where
       words-long : length words ≡ length h
       words-long = over-length place (idWords i) h long
 
-      new-fits : headFits (length words) (notIdle (withProducers (d .producers + 1) d)) ≡ true
+      new-fits : headFits (length words) (notIdle (withProducerCount (d .producers + 1) d)) ≡ true
       new-fits =
           let c = counts (length h) d f in
           let g = few in
           let l = words-long in
           all-every (leb 8347 (length words) ∷ leb (d .producers + 1) 32 ∷ leb (d .audits) 8 ∷ []) (le-leb 8347 (length words) (omega arith), (le-leb (d .producers + 1) 32 (omega arith), (le-leb (d .audits) 8 (c .audits), tt)))
 
-      pub added-new : Promised (adding i) (added i d h) d h (doneAs 0 (notIdle (withProducers (d .producers + 1) d))) words
+      pub added-new : Promised (adding i) (added i d h) d h (doneAs 0 (notIdle (withProducerCount (d .producers + 1) d))) words
       unfolding added perform headView
       added-new = record {
         exact = rw (f, t, u);
@@ -130,6 +128,6 @@ module _ (i : Id) (d : Head) (h : List ℕ) where
           fit = λ _. new-fits;
           formed = λ _ o. ap (ringsFormed (d .audits)) audits-kept ∙ o;
           answer = λ _ _ subs rows. refl;
-          done = λ _ _ subs rows _ _. rw t (ap₂ (λ (x : List Id) (y : List Audit). headView (notIdle (withProducers (d .producers + 1) d)) subs rows x y) ids-new (ap (auditsAt (d .audits)) audits-kept));
+          done = λ _ _ subs rows _ _. rw t (ap₂ (λ (x : List Id) (y : List Audit). headView (notIdle (withProducerCount (d .producers + 1) d)) subs rows x y) ids-new (ap (auditsAt (d .audits)) audits-kept));
         };
       }

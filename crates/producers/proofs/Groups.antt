@@ -12,7 +12,7 @@ use lib.ListN.{length, take, drop, set, length-append, length-drop}
 use lib.Seq.{length-take-le, drop-drop, drop-at, take-add}
 use Rattle.definition.specs.Base.{keep, find, put}
 use Rattle.definition.proofs.Tests.{by-test, and-left, and-right, and-both}
-use Rattle.producers.specs.Groups.{firstOf, keptCount, keptWords, over}
+use Rattle.producers.specs.Groups.{firstOf, keptCount, keptWords, writtenFrom}
 
 -- one group fewer
 pub mul-less : (n w : ℕ) → suc n * w ≡ w + n * w
@@ -88,10 +88,6 @@ module _ {A : Type 0} (f : List ℕ → A) (ok : List ℕ → Bool) (w : ℕ) wh
   abbrev pub oks : ℕ → List ℕ → Bool
   oks zero l = true
   oks (suc n) l = ok l && oks n (drop w l)
-
-  pub elems-length : (n : ℕ) (l : List ℕ) → length (elems n l) ≡ n
-  elems-length zero l = refl
-  elems-length (suc n) l = ap suc (elems-length n (drop w l))
 
   more : (n : ℕ) (l : List ℕ) → elems (suc n) l ≡ elems n l ++ f (drop (n * w) l) ∷ []
   more zero l = let z : 0 * w ≡ 0 = omega arith in rw z
@@ -191,7 +187,7 @@ module _ {A : Type 0} (f : List ℕ → A) (ok : List ℕ → Bool) (w : ℕ) wh
         (λ e. rw e ih)
 
     -- a group written over: g is a whole one
-    over-front : (k : ℕ) (g l : List ℕ) → suc k * w ≤ length l → over (suc k * w) g l ≡ take w l ++ over (k * w) g (drop w l)
+    over-front : (k : ℕ) (g l : List ℕ) → suc k * w ≤ length l → writtenFrom (suc k * w) g l ≡ take w l ++ writtenFrom (k * w) g (drop w l)
     over-front k g l h =
         let b : suc k * w - w ≡ k * w = omega (arith, mul-less k w) in
         let c : suc k * w + length g ≡ w + (k * w + length g) = omega (arith, mul-less k w) in
@@ -199,7 +195,7 @@ module _ {A : Type 0} (f : List ℕ → A) (ok : List ℕ → Bool) (w : ℕ) wh
         ∙ ap₂ (λ (i : ℕ) (x : List ℕ). take w l ++ (take i (drop w l) ++ (g ++ x))) b (ap (λ (i : ℕ). drop i l) c ∙ sym (drop-drop (k * w + length g) w l))
 
     pub elems-over : (k n : ℕ) (g l : List ℕ) → k < n → n * w ≤ length l → length g ≡ w → oks n l ≡ true
-        → elems n (over (k * w) g l) ≡ set (elems n l) k (f (g ++ drop (k * w + w) l))
+        → elems n (writtenFrom (k * w) g l) ≡ set (elems n l) k (f (g ++ drop (k * w + w) l))
     elems-over k zero g l h r e o = absurd (omega arith)
     elems-over zero (suc n) g l h r e o =
         let z : 0 * w ≡ 0 = omega arith in
@@ -211,12 +207,12 @@ module _ {A : Type 0} (f : List ℕ → A) (ok : List ℕ → Bool) (w : ℕ) wh
         let j : suc k * w + w ≡ w + (k * w + w) = omega (arith, mul-less k w) in
         let d : drop (suc k * w + w) l ≡ drop (k * w + w) (drop w l) = ap (λ (i : ℕ). drop i l) j ∙ sym (drop-drop (k * w + w) w l) in
         ap (elems (suc n)) (over-front k g l s)
-        ∙ ap₂ (λ (x : A) (y : List A). x ∷ y) (local l (over (k * w) g (drop w l)) a (and-left (ok l) (oks n (drop w l)) o))
-        (ap (elems n) (front-drop l (over (k * w) g (drop w l)) a)
+        ∙ ap₂ (λ (x : A) (y : List A). x ∷ y) (local l (writtenFrom (k * w) g (drop w l)) a (and-left (ok l) (oks n (drop w l)) o))
+        (ap (elems n) (front-drop l (writtenFrom (k * w) g (drop w l)) a)
         ∙ elems-over k n g (drop w l) (omega arith) (room-less n w l r) e (and-right (ok l) (oks n (drop w l)) o)
         ∙ ap (λ (x : List ℕ). set (elems n (drop w l)) k (f (g ++ x))) (sym d))
 
-    pub oks-over : (k n : ℕ) (g l : List ℕ) → k < n → n * w ≤ length l → length g ≡ w → oks n l ≡ true → ok (g ++ drop (k * w + w) l) ≡ true → oks n (over (k * w) g l) ≡ true
+    pub oks-over : (k n : ℕ) (g l : List ℕ) → k < n → n * w ≤ length l → length g ≡ w → oks n l ≡ true → ok (g ++ drop (k * w + w) l) ≡ true → oks n (writtenFrom (k * w) g l) ≡ true
     oks-over k zero g l h r e o t = absurd (omega arith)
     oks-over zero (suc n) g l h r e o t =
         let z : 0 * w ≡ 0 = omega arith in
@@ -228,8 +224,8 @@ module _ {A : Type 0} (f : List ℕ → A) (ok : List ℕ → Bool) (w : ℕ) wh
         let j : suc k * w + w ≡ w + (k * w + w) = omega (arith, mul-less k w) in
         let d : drop (suc k * w + w) l ≡ drop (k * w + w) (drop w l) = ap (λ (i : ℕ). drop i l) j ∙ sym (drop-drop (k * w + w) w l) in
         ap (oks (suc n)) (over-front k g l s)
-        ∙ and-both _ _ (same l (over (k * w) g (drop w l)) a ∙ and-left (ok l) (oks n (drop w l)) o)
-        (ap (oks n) (front-drop l (over (k * w) g (drop w l)) a)
+        ∙ and-both _ _ (same l (writtenFrom (k * w) g (drop w l)) a ∙ and-left (ok l) (oks n (drop w l)) o)
+        (ap (oks n) (front-drop l (writtenFrom (k * w) g (drop w l)) a)
         ∙ oks-over k n g (drop w l) (omega arith) (room-less n w l r) e (and-right (ok l) (oks n (drop w l)) o) (ap (λ (x : List ℕ). ok (g ++ x)) (sym d) ∙ t))
 
   -- one more group

@@ -7,7 +7,7 @@ use native.Mathlib.Omega.{arith}
 use lib.ListN.{length, take, drop, length-drop}
 use lib.Seq.{slice, length-slice, drop-drop}
 use Rattle.table.proofs.Lists.{slice-take}
-use Rattle.producers.specs.Groups.{firstOf, keptCount, keptWords, over, packed}
+use Rattle.producers.specs.Groups.{firstOf, keptCount, keptWords, writtenFrom, packed}
 use Rattle.producers.proofs.Words.{over-length, over-after, over-none, over-join}
 use Rattle.producers.proofs.Groups.{mul-less, first-here, first-next, kept-length, kept-stays, kept-goes}
 
@@ -59,11 +59,11 @@ module _ (p : List ℕ → Bool) (w n : ℕ) where
   pub count-start : (at : ℕ) (h : List ℕ) → 0 + keptCount p w (n - 0) (drop at h) ≡ keptCount p w n (drop at h)
   count-start at h = let e : n - 0 ≡ n = omega arith in rw e (omega arith)
 
-  pub pack-start : (at : ℕ) (h : List ℕ) → over at (keptWords p w (n - 0) (drop at h)) h ≡ packed p at w n h
+  pub pack-start : (at : ℕ) (h : List ℕ) → writtenFrom at (keptWords p w (n - 0) (drop at h)) h ≡ packed p at w n h
   unfolding packed
   pack-start at h = let e : n - 0 ≡ n = omega arith in rw e
 
-  pub pack-end : (k from to : ℕ) (h : List ℕ) → n ≤ k → over to (keptWords p w (n - k) (drop from h)) h ≡ h
+  pub pack-end : (k from to : ℕ) (h : List ℕ) → n ≤ k → writtenFrom to (keptWords p w (n - k) (drop from h)) h ≡ h
   unfolding keptWords
   pack-end k from to h b = let e : n - k ≡ 0 = omega arith in rw e (over-none to h)
 
@@ -76,11 +76,11 @@ module _ (p : List ℕ → Bool) (w n : ℕ) where
     later l = keptWords p w (n - (k + 1)) (drop (from + w) l)
 
     -- the next goes
-    pub pack-goes : (to : ℕ) → p (drop from h) ≡ false → over to (later h) h ≡ over to (keptWords p w (n - k) (drop from h)) h
+    pub pack-goes : (to : ℕ) → p (drop from h) ≡ false → writtenFrom to (later h) h ≡ writtenFrom to (keptWords p w (n - k) (drop from h)) h
     pack-goes to t =
         let e = kept-goes p w (n - k) (drop from h) (omega arith) t .1 in
         let f : keptWords p w (n - k - 1) (drop w (drop from h)) ≡ later h = ap₂ (λ (m : ℕ) (l : List ℕ). keptWords p w m l) (next-left n k b) (next-words w from h) in
-        ap (λ (l : List ℕ). over to l h) (sym (e ∙ f))
+        ap (λ (l : List ℕ). writtenFrom to l h) (sym (e ∙ f))
 
     pub count-goes : (kept : ℕ) → p (drop from h) ≡ false → kept + keptCount p w (n - (k + 1)) (drop (from + w) h) ≡ kept + keptCount p w (n - k) (drop from h)
     count-goes kept t =
@@ -94,7 +94,7 @@ module _ (p : List ℕ → Bool) (w n : ℕ) where
       group = slice from (from + w) h
 
       abbrev moved : List ℕ
-      moved = over to group h
+      moved = writtenFrom to group h
 
       group-long : length group ≡ w
       group-long = length-slice from (from + w) h (room-here n k w from (length h) b r) ∙ omega arith
@@ -113,14 +113,14 @@ module _ (p : List ℕ → Bool) (w n : ℕ) where
           let g : group ≡ take w (drop from h) = slice-take from (from + w) h (omega arith) ∙ ap (λ (m : ℕ). take m (drop from h)) i in
           e ∙ ap₂ (λ (x y : List ℕ). x ++ y) (sym g) f
 
-      pub pack-stays : over (to + w) (later moved) moved ≡ over to (keptWords p w (n - k) (drop from h)) h
+      pub pack-stays : writtenFrom (to + w) (later moved) moved ≡ writtenFrom to (keptWords p w (n - k) (drop from h)) h
       pack-stays =
           let s : from + w + (n - (k + 1)) * w ≤ length h = room-next n k w from (length h) b r in
           let y : length (drop (from + w) h) ≡ length h - (from + w) = length-drop (from + w) h in
           let l : length (later h) ≤ (n - (k + 1)) * w = kept-length p w (n - (k + 1)) (drop (from + w) h) (omega arith) in
-          ap (λ (x : List ℕ). over (to + w) (keptWords p w (n - (k + 1)) x) moved) moved-after
+          ap (λ (x : List ℕ). writtenFrom (to + w) (keptWords p w (n - (k + 1)) x) moved) moved-after
           ∙ over-join to (to + w) group (later h) h (omega (arith, group-long)) (omega arith)
-          ∙ ap (λ (x : List ℕ). over to x h) (sym kept-is)
+          ∙ ap (λ (x : List ℕ). writtenFrom to x h) (sym kept-is)
 
       pub count-stays : (kept : ℕ) → kept + 1 + keptCount p w (n - (k + 1)) (drop (from + w) moved) ≡ kept + keptCount p w (n - k) (drop from h)
       count-stays kept =
@@ -136,7 +136,7 @@ pub record Packing (p : List ℕ → Bool) (w n at : ℕ) (h₀ h : List ℕ) (f
   pub room : from + (n - k) * w ≤ length h
   pub long : length h ≡ length h₀
   pub count : kept + keptCount p w (n - k) (drop from h) ≡ keptCount p w n (drop at h₀)
-  pub words : over to (keptWords p w (n - k) (drop from h)) h ≡ packed p at w n h₀
+  pub words : writtenFrom to (keptWords p w (n - k) (drop from h)) h ≡ packed p at w n h₀
 
 module _ (p : List ℕ → Bool) (w n at : ℕ) (h₀ : List ℕ) where
   pub packing-holds : at + n * w ≤ length h₀ → Packing p w n at h₀ h₀ at at 0 0
@@ -162,7 +162,7 @@ module _ (p : List ℕ → Bool) (w n at : ℕ) (h₀ : List ℕ) where
       words = pack-goes p w n k from h b to t ∙ i .words;
     }
 
-    pub packing-stays : p (drop from h) ≡ true → Packing p w n at h₀ (over to (slice from (from + w) h) h) (from + w) (to + w) (kept + 1) (k + 1)
+    pub packing-stays : p (drop from h) ≡ true → Packing p w n at h₀ (writtenFrom to (slice from (from + w) h) h) (from + w) (to + w) (kept + 1) (k + 1)
     packing-stays t =
         let long = moved-length p w n k from h b to (i .down) (i .room) t in
         let room : from + w + (n - (k + 1)) * w ≤ length h = room-next n k w from (length h) b (i .room) in

@@ -1,23 +1,22 @@
 -- No function here touches the words after the state's: what each leaves has them as they were. Assumes nothing.
-use mathlib.Core.Path.{_≡_, refl, sym, ap, _∙_}
-use mathlib.Core.Bool.{Bool, true, false, not}
-use mathlib.Core.List.{List, [], _∷_}
+use mathlib.Core.Path.{_≡_, _∙_}
+use mathlib.Core.Bool.{true, false}
+use mathlib.Core.List.{List, _∷_}
 use Prim.Native.Nat.{ℕ, _+_, _*_, _≤_, _<_}
 use native.Mathlib.Omega.{arith}
 use borrow.Author.Tests.{ltb-true, leb-false}
 use lib.Dec.{eqb, ltb, leb}
 use lib.ListN.{length, take, drop, length-take, length-set}
-use Rattle.words.specs.Pick.{if_then_else_}
-use Rattle.audit.specs.Audit.{ringStep, seen, orderOf, refusalOf, place}
+use Rattle.audit.specs.Audit.{ringStep, seen, orderOf, ringRefusal, place}
 use Rattle.model.specs.declared.Id.{Id}
 use Rattle.model.specs.Model.{idOf}
 use Rattle.definition.specs.Destination.{isProducer}
 use Rattle.definition.specs.Layout.{idsAt, ringAt}
 use Rattle.definition.proofs.Tests.{by-test}
 use Rattle.state.specs.declared.Head.{Head}
-use Rattle.state.specs.State.{withAudits}
-use Rattle.producers.specs.Groups.{hasId, stays, firstOf, over, packed, idWords, newWords}
-use Rattle.producers.specs.Producers.{headFits, added, removed, checkedAt, tested, released}
+use Rattle.state.specs.State.{withAuditCount}
+use Rattle.producers.specs.Groups.{hasId, stays, firstOf, writtenFrom, packed, idWords, newWords}
+use Rattle.producers.specs.Producers.{headFits, added, producerRemoved, checkedAt, tested, released}
 use Rattle.producers.proofs.Words.{over-length, over-after}
 use Rattle.producers.proofs.Removing.{packed-length, packed-after}
 use Rattle.producers.proofs.Tables.{counts}
@@ -25,7 +24,7 @@ use Rattle.producers.proofs.Tables.{counts}
 -- a step of a ring keeps the window's length
 step-length : (q : ℕ) (l w : List ℕ) → length (ringStep q (ringAt l) w .words) ≡ length w
 unfolding ringStep
-step-length q l w = by-test (eqb (refusalOf (ringAt l) w) 0)
+step-length q l w = by-test (eqb (ringRefusal (ringAt l) w) 0)
     (λ e. by-test (seen q (orderOf (ringAt l) w)) (λ f. rw (e, f)) (λ f. rw (e, f) (length-set w (place (ringAt l)) q)))
     (λ e. rw e)
 
@@ -38,8 +37,8 @@ module _ (d : Head) (h : List ℕ) (f : headFits (length h) d ≡ true) where
       (λ g. rw (f, e, g))
       (λ g. rw (f, e, g) (let c = counts (length h) d f in over-after (17 + d .producers * 3) (idWords i) h 8345 (omega (arith, leb-false 32 (d .producers) g)) (omega (arith, c .long, leb-false 32 (d .producers) g)))))
 
-  pub removed-past : (now : ℕ) (i : Id) → drop 8345 (removed now i d h .words) ≡ drop 8345 h
-  unfolding removed
+  pub removed-past : (now : ℕ) (i : Id) → drop 8345 (producerRemoved now i d h .words) ≡ drop 8345 h
+  unfolding producerRemoved
   removed-past now i = rw f (
       let c = counts (length h) d f in
       let p = stays true i in
@@ -74,7 +73,7 @@ tested-past i q d h f =
     let c = counts (length h) d f in
     let k : ℕ = firstOf (hasId i) 1029 (d .audits) (drop 113 h) in
     let n : ℕ = d .audits in
-    let o : List ℕ = over (113 + n * 1029) (newWords i) h in
+    let o : List ℕ = writtenFrom (113 + n * 1029) (newWords i) h in
     by-test (eqb (i .conn) 0)
     (λ e. rw (f, e))
     (λ e. by-test (ltb k n)
@@ -84,5 +83,5 @@ tested-past i q d h f =
     (λ j. rw (f, e, g, j) (
     let b : n < 8 = leb-false 8 n j in
     let s : length o ≡ length h = over-length (113 + n * 1029) (newWords i) h (omega (arith, b, c .long)) in
-    checked-past n q (withAudits (n + 1) d) o b (omega (arith, s, c .long))
+    checked-past n q (withAuditCount (n + 1) d) o b (omega (arith, s, c .long))
     ∙ over-after (113 + n * 1029) (newWords i) h 8345 (omega (arith, b)) (omega (arith, b, c .long))))))

@@ -2,7 +2,7 @@
 use mathlib.Core.Path.{_≡_, refl, sym, ap, ap₂, _∙_}
 use mathlib.Core.Bool.{Bool, true, false, not}
 use mathlib.Core.List.{List, [], _∷_, _++_}
-use Prim.Native.Nat.{ℕ, _+_, _-_, _*_, _≤_}
+use Prim.Native.Nat.{ℕ, _+_, _*_, _≤_}
 use native.Mathlib.Omega.{arith}
 use borrow.Author.Tests.{le-leb}
 use lib.Dec.{eqb, leb}
@@ -16,16 +16,17 @@ use Rattle.definition.specs.Destination.{auditOf, touchIdle}
 use Rattle.definition.specs.Calls.{removing, forgetting, ownRefusal, perform}
 use Rattle.definition.specs.Layout.{Row, subRows, idAt, idsAt, auditsAt, ringsFormed}
 use Rattle.definition.proofs.Thin.{all-every}
+use Rattle.definition.proofs.Stored.{ids-length}
 use Rattle.state.specs.declared.Head.{Head}
-use Rattle.state.specs.State.{headView, withProducers, withAudits, withIdle, touched, refusedAs, doneAs}
+use Rattle.state.specs.State.{headView, withProducerCount, withAuditCount, withIdleMark, touched, refusedAs, doneAs}
 use Rattle.state.proofs.View.{touched-mark, touch-view}
 use Rattle.producers.specs.Groups.{stays, keptCount, keptWords, packed}
-use Rattle.producers.specs.Producers.{headFits, removed, released, destOf, Promised}
+use Rattle.producers.specs.Producers.{headFits, producerRemoved, released, headDest, Promised}
 use Rattle.producers.proofs.Words.{over-length, over-after}
 use Rattle.producers.proofs.Groups.{elems, oks, count-most, kept-length, kept-elems, kept-oks}
 use Rattle.producers.proofs.Tables.{Counts, counts, anyWords, ids-elems, ids-oks, id-local, id-same, auditAt, ringOk, audits-elems, rings-oks, audit-local, ring-same}
 use Rattle.producers.proofs.Promises.{unfit-performs}
-use Rattle.producers.proofs.Adding.{ids-length, ids-kept}
+use Rattle.producers.proofs.Adding.{ids-kept}
 
 -- ---- packed groups
 
@@ -107,7 +108,7 @@ module _ (conn : ℕ) (d : Head) (h : List ℕ) where
   stay = stays false (idOf conn 0 0)
 
   abbrev d₁ : Head
-  d₁ = withAudits (keptCount stay 1029 n (drop 113 h)) d
+  d₁ = withAuditCount (keptCount stay 1029 n (drop 113 h)) d
 
   pub released-unfit : headFits (length h) d ≡ false → Promised (forgetting conn) (released conn d h) d h (refusedAs 2 d) h
   unfolding released
@@ -156,10 +157,10 @@ module _ (now : ℕ) (i : Id) (d : Head) (h : List ℕ) where
   k₂ = packed gone 113 1029 (d .audits) k₁
 
   abbrev d₂ : Head
-  d₂ = withAudits (keptCount gone 1029 (d .audits) (drop 113 k₁)) (withProducers (keptCount gone 3 (d .producers) (drop 17 h)) d)
+  d₂ = withAuditCount (keptCount gone 1029 (d .audits) (drop 113 k₁)) (withProducerCount (keptCount gone 3 (d .producers) (drop 17 h)) d)
 
-  pub removed-unfit : headFits (length h) d ≡ false → Promised (removing i now) (removed now i d h) d h (refusedAs 2 d) h
-  unfolding removed
+  pub removed-unfit : headFits (length h) d ≡ false → Promised (removing i now) (producerRemoved now i d h) d h (refusedAs 2 d) h
+  unfolding producerRemoved
   removed-unfit f = record { exact = rw f; performs = unfit-performs (removing i now) d h f }
 
   module _ (f : headFits (length h) d ≡ true) where
@@ -207,8 +208,8 @@ module _ (now : ℕ) (i : Id) (d : Head) (h : List ℕ) where
     marked-audits : touched now d₂ .audits ≡ d₂ .audits
     marked-audits = ap (λ (x : Head). x .audits) (touched-mark now d₂)
 
-    removed-others : touched now d₂ ≡ withIdle (touched now d₂ .idle) (touched now d₂ .«idle_since») (withProducers (touched now d₂ .producers) (withAudits (touched now d₂ .audits) d))
-    removed-others = touched-mark now d₂ ∙ ap₂ (λ (x y : ℕ). withIdle (touched now d₂ .idle) (touched now d₂ .«idle_since») (withProducers x (withAudits y d))) (sym marked-producers) (sym marked-audits)
+    removed-others : touched now d₂ ≡ withIdleMark (touched now d₂ .idle) (touched now d₂ .«idle_since») (withProducerCount (touched now d₂ .producers) (withAuditCount (touched now d₂ .audits) d))
+    removed-others = touched-mark now d₂ ∙ ap₂ (λ (x y : ℕ). withIdleMark (touched now d₂ .idle) (touched now d₂ .«idle_since») (withProducerCount x (withAuditCount y d))) (sym marked-producers) (sym marked-audits)
 
     removed-fits : headFits (length k₂) (touched now d₂) ≡ true
     removed-fits =
@@ -216,11 +217,11 @@ module _ (now : ℕ) (i : Id) (d : Head) (h : List ℕ) where
         let e = k₂-long in
         let p = less-producers in
         let a = less-audits in
-        ap₂ (λ (x y : ℕ). headFits (length k₂) (withProducers x (withAudits y d))) marked-producers marked-audits
+        ap₂ (λ (x y : ℕ). headFits (length k₂) (withProducerCount x (withAuditCount y d))) marked-producers marked-audits
         ∙ all-every (leb 8347 (length k₂) ∷ leb (d₂ .producers) 32 ∷ leb (d₂ .audits) 8 ∷ []) (le-leb 8347 (length k₂) (omega arith), (le-leb (d₂ .producers) 32 p, (le-leb (d₂ .audits) 8 a, tt)))
 
     removed-dest : ringsFormed (d .audits) (drop 113 h) ≡ true → (subs rows : List Row) → d .consumers ≤ length subs → subRows (take (d .consumers) subs) + (d .reserved + d .waiting) ≤ length rows
-        → destOf (touched now d₂) k₂ subs rows ≡ perform (destOf d h subs rows) (removing i now) .dest
+        → headDest (touched now d₂) k₂ subs rows ≡ perform (headDest d h subs rows) (removing i now) .dest
     unfolding perform headView
     removed-dest o subs rows hs hr =
         let ps : List Id = idsAt (d₂ .producers) (drop 17 k₂) in
@@ -229,8 +230,8 @@ module _ (now : ℕ) (i : Id) (d : Head) (h : List ℕ) where
         ∙ touch-view subs rows ps aus now d₂ hs hr (ids-length (d₂ .producers) (drop 17 k₂))
         ∙ ap₂ (λ (x : List Id) (y : List Audit). touchIdle now (headView d₂ subs rows x y)) ids-left (audits-left o)
 
-    pub removed-done : Promised (removing i now) (removed now i d h) d h (doneAs 0 (touched now d₂)) k₂
-    unfolding removed perform ownRefusal headView
+    pub removed-done : Promised (removing i now) (producerRemoved now i d h) d h (doneAs 0 (touched now d₂)) k₂
+    unfolding producerRemoved perform ownRefusal headView
     removed-done = record {
       exact = rw f;
       performs = record {

@@ -2,13 +2,13 @@
 use mathlib.Core.Path.{_≡_, refl, sym, ap, ap₂, _∙_}
 use mathlib.Core.Bool.{Bool, true, false, _&&_}
 use mathlib.Core.List.{List, [], _∷_, _++_}
-use Prim.Native.Nat.{ℕ, zero, suc, _+_, _≤_, _<_}
+use Prim.Native.Nat.{ℕ, zero, suc, _≤_, _<_}
 use native.Mathlib.Omega.{arith}
 use borrow.Author.Tests.{lt-ltb, le-ltb, ltb-true, ltb-false, eqb-true, leb-true}
 use lib.Dec.{ltb, leb, eqb}
 use lib.ListN.{length, take, drop, getD, length-drop, take-append-drop, List·getD-append}
 use lib.Seq.{length-take-le, getD-take, take-append-le, drop-append-le}
-use Rattle.audit.specs.Audit.{window, orderOf, auditOk}
+use Rattle.audit.specs.Audit.{auditWindow, orderOf, ringSound}
 use Rattle.audit.specs.declared.Audit as Ring
 use Rattle.model.specs.declared.Id.{Id}
 use Rattle.definition.specs.Types.{Audit}
@@ -83,7 +83,7 @@ abbrev pub auditAt : List ℕ → Audit
 auditAt l = record { producer = idAt l; order = orderOf (ringAt l) (drop 5 l) }
 
 abbrev pub ringOk : List ℕ → Bool
-ringOk l = auditOk (ringAt l)
+ringOk l = ringSound (ringAt l)
 
 pub audits-elems : (n : ℕ) (l : List ℕ) → auditsAt n l ≡ elems auditAt ringOk 1029 n l
 unfolding auditsAt
@@ -96,26 +96,26 @@ rings-oks zero l = refl
 rings-oks (suc n) l = ap (λ (b : Bool). ringOk l && b) (rings-oks n (drop 1029 l))
 
 -- a ring in range starts within its window, so its order is that of the window
-start-most : (a : Ring.Audit) → auditOk a ≡ true → a .start ≤ window
-unfolding auditOk
-start-most a h = by-test (ltb (a .count) window)
+start-most : (a : Ring.Audit) → ringSound a ≡ true → a .start ≤ auditWindow
+unfolding ringSound
+start-most a h = by-test (ltb (a .count) auditWindow)
     (λ e. let g : eqb (a .start) 0 ≡ true = rw e at h in omega (arith, eqb-true (a .start) 0 g))
-    (λ e. by-test (eqb (a .count) window)
-    (λ f. let g : ltb (a .start) window ≡ true = rw (e, f) at h in omega (arith, ltb-true (a .start) window g))
+    (λ e. by-test (eqb (a .count) auditWindow)
+    (λ f. let g : ltb (a .start) auditWindow ≡ true = rw (e, f) at h in omega (arith, ltb-true (a .start) auditWindow g))
     (λ f. absurd (let g : false ≡ true = rw (e, f) at h in let z : _≡_ {A = ℕ} 0 1 = cc in omega arith)))
 
-pub order-window : (a : Ring.Audit) (w m : List ℕ) → auditOk a ≡ true → length w ≡ window → orderOf a (w ++ m) ≡ orderOf a w
+pub order-window : (a : Ring.Audit) (w m : List ℕ) → ringSound a ≡ true → length w ≡ auditWindow → orderOf a (w ++ m) ≡ orderOf a w
 unfolding orderOf
 order-window a w m o e =
     let s : a .start ≤ length w = omega (arith, start-most a o) in
-    let n : window ≤ length w = omega arith in
-    rw (take-append-le window w m n, take-append-le (a .start) w m s)
+    let n : auditWindow ≤ length w = omega arith in
+    rw (take-append-le auditWindow w m n, take-append-le (a .start) w m s)
 
 front-ring : (l m : List ℕ) → 1029 ≤ length l → ringAt (take 1029 l ++ m) ≡ ringAt l
 front-ring l m h = rw (front-word 1029 3 l m (omega arith) h, front-word 1029 4 l m (omega arith) h)
 
 pub ring-same : (l m : List ℕ) → 1029 ≤ length l → ringOk (take 1029 l ++ m) ≡ ringOk l
-ring-same l m h = ap auditOk (front-ring l m h)
+ring-same l m h = ap ringSound (front-ring l m h)
 
 front-order : (l m : List ℕ) → 1029 ≤ length l → ringOk l ≡ true → orderOf (ringAt l) (drop 5 (take 1029 l ++ m)) ≡ orderOf (ringAt l) (drop 5 (take 1029 l))
 front-order l m h o =

@@ -3,7 +3,7 @@ use mathlib.Core.Path.{_≡_, refl, sym, ap, ap₂, _∙_, subst}
 use mathlib.Core.Bool.{Bool, true, false, not, _&&_, true≢false}
 use mathlib.Core.List.{List, [], _∷_, _++_}
 use mathlib.Core.Option.{Option, none, some}
-use Prim.Native.Nat.{ℕ, _+_, _-_, _*_, _≤_, _<_}
+use Prim.Native.Nat.{ℕ, _+_, _*_, _≤_, _<_}
 use native.Mathlib.Omega.{arith}
 use borrow.Author.Tests.{lt-ltb, le-ltb, le-leb, leb-false}
 use lib.Dec.{eqb, leb}
@@ -12,7 +12,7 @@ use lib.Seq.{length-take-le, drop-drop, drop-at, set-at}
 use mir.Syntax.{w64}
 use mir.Val.{SFits, boolByte}
 use Rattle.words.specs.Pick.{if_then_else_}
-use Rattle.audit.specs.Audit.{seen, recorded, orderOf, auditOk}
+use Rattle.audit.specs.Audit.{seen, recorded, orderOf, ringSound}
 use Rattle.audit.proofs.Ring.{order-new}
 use Rattle.model.specs.declared.Id.{Id}
 use Rattle.model.proofs.Ids.{same-id}
@@ -24,16 +24,17 @@ use Rattle.definition.specs.Layout.{Row, idAt, idsAt, ringAt, auditsAt, ringsFo
 use Rattle.definition.proofs.Tests.{by-test, and-both}
 use Rattle.definition.proofs.Lists.{find-passes, put-found}
 use Rattle.definition.proofs.Thin.{all-every}
+use Rattle.definition.proofs.Stored.{audits-length}
 use Rattle.state.specs.declared.Head.{Head}
-use Rattle.state.specs.State.{headView, withAudits, refusedAs, doneAs}
-use Rattle.producers.specs.Groups.{hasId, firstOf, over, newWords}
-use Rattle.producers.specs.Producers.{headFits, Left, checkedAt, tested, destOf, Performs, Promised}
+use Rattle.state.specs.State.{headView, withAuditCount, refusedAs, doneAs}
+use Rattle.producers.specs.Groups.{hasId, firstOf, writtenFrom, newWords}
+use Rattle.producers.specs.Producers.{headFits, HeadLeft, checkedAt, tested, headDest, PerformsInHead, Promised}
 use Rattle.producers.proofs.Words.{over-length, over-from}
 use Rattle.producers.proofs.Groups.{elems, oks, elems-before, oks-before, elems-more, oks-more, found, not-found, put-first}
 use Rattle.producers.proofs.Tables.{counts, auditAt, ringOk, audits-elems, rings-oks, audit-local, ring-same}
 use Rattle.producers.proofs.Promises.{refused-performs, unfit-performs}
 use Rattle.producers.proofs.Adding.{ids-kept, id-back}
-use Rattle.producers.proofs.Testing.{audits-length, oks-at, place, here, ring, words, step, after, order, order-is, value, refused-ring, checked-is, checked-long, checked-audits, checked-formed, checked-ids, duplicate-is, order-seen, order-new-is}
+use Rattle.producers.proofs.Testing.{oks-at, place, here, ring, words, step, after, order, order-is, value, refused-ring, checked-is, checked-long, checked-audits, checked-formed, checked-ids, duplicate-is, order-seen, order-new-is}
 
 -- ---- the definitions' call
 
@@ -104,11 +105,11 @@ module _ (i : Id) (q : ℕ) (d : Head) (h : List ℕ) where
         unfolding tested
         tested-at = rw (f, c, lt-ltb first n b)
 
-        own-none : (subs rows : List Row) → 0 ≡ (if headFits (length h) d then ownRefusal (destOf d h subs rows) (testing i q) else 2)
+        own-none : (subs rows : List Row) → 0 ≡ (if headFits (length h) d then ownRefusal (headDest d h subs rows) (testing i q) else 2)
         unfolding headView
-        own-none subs rows = rw f (sym (own i q (destOf d h subs rows) c (some audit) find-is))
+        own-none subs rows = rw f (sym (own i q (headDest d h subs rows) c (some audit) find-is))
 
-        module _ (o : auditOk (ring first n q h b few long) ≡ true) where
+        module _ (o : ringSound (ring first n q h b few long) ≡ true) where
           abbrev numbers : List ℕ
           numbers = order first n q h b few long o
 
@@ -116,7 +117,7 @@ module _ (i : Id) (q : ℕ) (d : Head) (h : List ℕ) where
           dup = step first n q h b few long .checked .duplicate
 
           abbrev exit : List ℕ
-          exit = over (place first n q h b few long + 3) (after first n q h b few long o) h
+          exit = writtenFrom (place first n q h b few long + 3) (after first n q h b few long o) h
 
           audits-put : ringsFormed n l ≡ true → auditsAt n (drop 113 exit) ≡ put (auditOf i) (value first n q h b few long o) (auditsAt n l)
           audits-put r =
@@ -129,7 +130,7 @@ module _ (i : Id) (q : ℕ) (d : Head) (h : List ℕ) where
           seen-is = ap (seen q) (order-is first n q h b few long o)
 
           leaves : ringsFormed n l ≡ true → (subs rows : List Row)
-              → (boolByte dup ≡ testAt i q (destOf d h subs rows) (some audit) .answer) × (destOf d exit subs rows ≡ testAt i q (destOf d h subs rows) (some audit) .dest)
+              → (boolByte dup ≡ testAt i q (headDest d h subs rows) (some audit) .answer) × (headDest d exit subs rows ≡ testAt i q (headDest d h subs rows) (some audit) .dest)
           unfolding testAt headView
           leaves r subs rows = by-test (seen q numbers)
               (λ e.
@@ -144,7 +145,7 @@ module _ (i : Id) (q : ℕ) (d : Head) (h : List ℕ) where
               let a : auditsAt n (drop 113 exit) ≡ put (auditOf i) (record { producer = i; order = recorded q (audit .order) }) (auditsAt n l) = audits-put r ∙ ap (λ (x : Audit). put (auditOf i) x (auditsAt n l)) v in
               rw s (ap boolByte (duplicate-is first n q h b few long o ∙ e), ap₂ (λ (x : List Id) (y : List Audit). headView d subs rows x y) (checked-ids first n q h b few long o (d .producers) (counts (length h) d f .producers)) a))
 
-          ok-performs : Performs (testing i q) d h (doneAs (boolByte dup) d) exit
+          ok-performs : PerformsInHead (testing i q) d h (doneAs (boolByte dup) d) exit
           unfolding headView
           ok-performs =
               let same : length exit ≡ length h = checked-long first n q h b few long o in
@@ -155,18 +156,18 @@ module _ (i : Id) (q : ℕ) (d : Head) (h : List ℕ) where
                 refusal = λ _ subs rows. own-none subs rows;
                 fit = λ _. ap (λ (m : ℕ). headFits m d) same ∙ f;
                 formed = λ _ r. checked-formed first n q h b few long o (sym (rings-oks n l) ∙ r);
-                answer = λ _ r subs rows. leaves r subs rows .0 ∙ sym (ap (λ (a : Answer). a .answer) (tested-by i q (destOf d h subs rows) c (some audit) find-is));
-                done = λ _ r subs rows _ _. leaves r subs rows .1 ∙ sym (ap (λ (a : Answer). a .dest) (tested-by i q (destOf d h subs rows) c (some audit) find-is));
+                answer = λ _ r subs rows. leaves r subs rows .0 ∙ sym (ap (λ (a : Answer). a .answer) (tested-by i q (headDest d h subs rows) c (some audit) find-is));
+                done = λ _ r subs rows _ _. leaves r subs rows .1 ∙ sym (ap (λ (a : Answer). a .dest) (tested-by i q (headDest d h subs rows) c (some audit) find-is));
               }
 
-        pub found-performs : Performs (testing i q) d h (checkedAt first q d h .result) (checkedAt first q d h .words)
-        found-performs = by-test (auditOk (ring first n q h b few long))
-            (λ o. subst (λ (x : Left). Performs (testing i q) d h (x .result) (x .words)) (sym (checked-is first n q h b few long o d)) (ok-performs o))
+        pub found-performs : PerformsInHead (testing i q) d h (checkedAt first q d h .result) (checkedAt first q d h .words)
+        found-performs = by-test (ringSound (ring first n q h b few long))
+            (λ o. subst (λ (x : HeadLeft). PerformsInHead (testing i q) d h (x .result) (x .words)) (sym (checked-is first n q h b few long o d)) (ok-performs o))
             (λ o.
-            subst (λ (x : Left). Performs (testing i q) d h (x .result) (x .words)) (sym (refused-ring first n q h b few long d o))
+            subst (λ (x : HeadLeft). PerformsInHead (testing i q) d h (x .result) (x .words)) (sym (refused-ring first n q h b few long d o))
             (refused-performs (testing i q) d h 2 (λ z. omega arith) (λ r subs rows. absurd (true≢false (sym (formed-ok r) ∙ o)))))
           where
-            formed-ok : ringsFormed n l ≡ true → auditOk (ring first n q h b few long) ≡ true
+            formed-ok : ringsFormed n l ≡ true → ringSound (ring first n q h b few long) ≡ true
             formed-ok r = ap ringOk (sym (drop-drop (first * 1029) 113 h)) ∙ oks-at first n l b (sym (rings-oks n l) ∙ r)
 
       -- ---- it has none
@@ -175,9 +176,9 @@ module _ (i : Id) (q : ℕ) (d : Head) (h : List ℕ) where
         missing : find (auditOf i) (auditsAt n l) ≡ none
         missing = ap (find (auditOf i)) (audits-elems n l) ∙ not-found auditAt ringOk 1029 (auditOf i) n l b
 
-        own-missing : (subs rows : List Row) → ownRefusal (destOf d h subs rows) (testing i q) ≡ (if leb 8 n then 8 else 0)
+        own-missing : (subs rows : List Row) → ownRefusal (headDest d h subs rows) (testing i q) ≡ (if leb 8 n then 8 else 0)
         unfolding headView
-        own-missing subs rows = own i q (destOf d h subs rows) c none missing ∙ ap (λ (m : ℕ). if leb 8 m then 8 else 0) (audits-length n l)
+        own-missing subs rows = own i q (headDest d h subs rows) c none missing ∙ ap (λ (m : ℕ). if leb 8 m then 8 else 0) (audits-length n l)
 
         pub tested-full : leb 8 n ≡ true → Promised (testing i q) (tested i q d h) d h (refusedAs 8 d) h
         unfolding tested
@@ -191,10 +192,10 @@ module _ (i : Id) (q : ℕ) (d : Head) (h : List ℕ) where
           spot′ = 113 + n * 1029
 
           abbrev h₁ : List ℕ
-          h₁ = over spot′ (newWords i) h
+          h₁ = writtenFrom spot′ (newWords i) h
 
           abbrev d₁ : Head
-          d₁ = withAudits (n + 1) d
+          d₁ = withAuditCount (n + 1) d
 
           abbrev rest : List ℕ
           rest = newWords i ++ drop (spot′ + 5) h
@@ -223,8 +224,8 @@ module _ (i : Id) (q : ℕ) (d : Head) (h : List ℕ) where
           spot-is : drop (n * 1029) (drop 113 h₁) ≡ rest
           spot-is = drop-drop (n * 1029) 113 h₁ ∙ new-here
 
-          ok₁ : auditOk (ring n (n + 1) q h₁ one few₁ long₁) ≡ true
-          unfolding auditOk
+          ok₁ : ringSound (ring n (n + 1) q h₁ one few₁ long₁) ≡ true
+          unfolding ringSound
           ok₁ = ap ringOk new-here
 
           order₁ : order n (n + 1) q h₁ one few₁ long₁ ok₁ ≡ []
@@ -246,7 +247,7 @@ module _ (i : Id) (q : ℕ) (d : Head) (h : List ℕ) where
           fits-l = let e = end′ in omega (arith, length-drop 113 h)
 
           abbrev exit′ : List ℕ
-          exit′ = over (place n (n + 1) q h₁ one few₁ long₁ + 3) (after n (n + 1) q h₁ one few₁ long₁ ok₁) h₁
+          exit′ = writtenFrom (place n (n + 1) q h₁ one few₁ long₁ + 3) (after n (n + 1) q h₁ one few₁ long₁ ok₁) h₁
 
           module _ (r : ringsFormed n l ≡ true) where
             oks-l : oks auditAt ringOk 1029 n l ≡ true
@@ -286,7 +287,7 @@ module _ (i : Id) (q : ℕ) (d : Head) (h : List ℕ) where
               let e = exit-long in
               all-every (leb 8347 (length exit′) ∷ leb (d .producers) 32 ∷ leb (n + 1) 8 ∷ []) (le-leb 8347 (length exit′) (omega arith), (le-leb (d .producers) 32 (k .producers), (le-leb (n + 1) 8 few₁, tt)))
 
-          fresh : Performs (testing i q) d h (doneAs (boolByte (step n (n + 1) q h₁ one few₁ long₁ .checked .duplicate)) d₁) exit′
+          fresh : PerformsInHead (testing i q) d h (doneAs (boolByte (step n (n + 1) q h₁ one few₁ long₁ .checked .duplicate)) d₁) exit′
           unfolding testAt headView
           fresh = record {
             long = exit-long;
@@ -295,12 +296,12 @@ module _ (i : Id) (q : ℕ) (d : Head) (h : List ℕ) where
             refusal = λ _ subs rows. rw f (sym (own-missing subs rows ∙ rw u));
             fit = λ _. new-fits;
             formed = λ _ r. checked-formed n (n + 1) q h₁ one few₁ long₁ ok₁ (oks₁ r);
-            answer = λ _ _ subs rows. ap boolByte (duplicate-is n (n + 1) q h₁ one few₁ long₁ ok₁ ∙ not-seen) ∙ sym (ap (λ (a : Answer). a .answer) (tested-by i q (destOf d h subs rows) c none missing));
-            done = λ _ r subs rows _ _. ap₂ (λ (x : List Id) (y : List Audit). headView d₁ subs rows x y) ids-new (audits-new r) ∙ sym (ap (λ (a : Answer). a .dest) (tested-by i q (destOf d h subs rows) c none missing));
+            answer = λ _ _ subs rows. ap boolByte (duplicate-is n (n + 1) q h₁ one few₁ long₁ ok₁ ∙ not-seen) ∙ sym (ap (λ (a : Answer). a .answer) (tested-by i q (headDest d h subs rows) c none missing));
+            done = λ _ r subs rows _ _. ap₂ (λ (x : List Id) (y : List Audit). headView d₁ subs rows x y) ids-new (audits-new r) ∙ sym (ap (λ (a : Answer). a .dest) (tested-by i q (headDest d h subs rows) c none missing));
           }
 
-          pub fresh-performs : Performs (testing i q) d h (checkedAt n q d₁ h₁ .result) (checkedAt n q d₁ h₁ .words)
-          fresh-performs = subst (λ (x : Left). Performs (testing i q) d h (x .result) (x .words)) (sym (checked-is n (n + 1) q h₁ one few₁ long₁ ok₁ d₁)) fresh
+          pub fresh-performs : PerformsInHead (testing i q) d h (checkedAt n q d₁ h₁ .result) (checkedAt n q d₁ h₁ .words)
+          fresh-performs = subst (λ (x : HeadLeft). PerformsInHead (testing i q) d h (x .result) (x .words)) (sym (checked-is n (n + 1) q h₁ one few₁ long₁ ok₁ d₁)) fresh
 
           pub tested-fresh : tested i q d h ≡ checkedAt n q d₁ h₁
           unfolding tested

@@ -2,13 +2,13 @@
 use mathlib.Core.Path.{_≡_, refl, sym, ap, ap₂, _∙_}
 use mathlib.Core.Bool.{true, false}
 use mathlib.Core.List.{List, [], _∷_, _++_}
-use Prim.Native.Nat.{ℕ, zero, suc, _+_, _-_, _*_, _≤_, _<_}
+use Prim.Native.Nat.{ℕ, zero, suc, _+_, _*_, _≤_, _<_}
 use native.Mathlib.Omega.{arith}
 use borrow.Author.Tests.{eq-eqb}
 use lib.ListN.{length, take, drop, set, length-drop, take-append-drop}
 use lib.Seq.{length-take-le, drop-drop}
 use mir.Val.{boolByte}
-use Rattle.audit.specs.Audit.{window, seen, recorded, checkAndRecord, Tested, orderOf, auditOk, refusalOf, ringStep, Left as RingLeft, CheckedAndRecorded}
+use Rattle.audit.specs.Audit.{auditWindow, seen, recorded, checkAndRecord, Tested, orderOf, ringSound, ringRefusal, ringStep, RingLeft as RingLeft, CheckedAndRecorded}
 use Rattle.audit.specs.declared.Audit as Ring
 use Rattle.audit.proofs.Ring.{refusal-none, refusal-ring, step-refused, step-kept}
 use Rattle.definition.specs.Types.{Audit}
@@ -17,15 +17,12 @@ use Rattle.definition.specs.Layout.{idAt, idsAt, ringAt, auditsAt, ringsFormed}
 use Rattle.definition.proofs.Tests.{by-test, and-left, and-right}
 use Rattle.state.specs.declared.Head.{Head}
 use Rattle.state.specs.State.{refusedAs, doneAs}
-use Rattle.producers.specs.Groups.{over}
-use Rattle.producers.specs.Producers.{left, checkedAt}
+use Rattle.producers.specs.Groups.{writtenFrom}
+use Rattle.producers.specs.Producers.{headLeft, checkedAt}
 use Rattle.producers.proofs.Words.{over-length, over-from, over-back}
-use Rattle.producers.proofs.Groups.{oks, elems-length, elems-over, oks-over}
+use Rattle.producers.proofs.Groups.{oks, elems-over, oks-over}
 use Rattle.producers.proofs.Tables.{auditAt, ringOk, audits-elems, rings-oks, audit-local, ring-same, order-window}
 use Rattle.producers.proofs.Adding.{ids-kept}
-
-pub audits-length : (n : ℕ) (l : List ℕ) → length (auditsAt n l) ≡ n
-audits-length n l = ap length (audits-elems n l) ∙ elems-length auditAt ringOk 1029 n l
 
 three-words : (l : List ℕ) → 3 ≤ length l → take 3 l ≡ at 0 l ∷ at 1 l ∷ at 2 l ∷ []
 three-words [] h = absurd (omega arith)
@@ -72,14 +69,14 @@ module _ (k n q : ℕ) (h : List ℕ) (b : k < n) (few : n ≤ 8) (long : 8347 �
   words-long : length words ≡ 1024
   words-long = length-take-le 1024 (drop (place + 5) h) (omega (arith, length-drop (place + 5) h))
 
-  pub refused-ring : (d : Head) → auditOk ring ≡ false → checkedAt k q d h ≡ left (refusedAs 2 d) h
+  pub refused-ring : (d : Head) → ringSound ring ≡ false → checkedAt k q d h ≡ headLeft (refusedAs 2 d) h
   unfolding checkedAt
   refused-ring d o =
       let w = words-long in
       rw (step-refused q ring words 2 (refusal-ring ring words (omega arith) o) (omega arith))
 
-  module _ (o : auditOk ring ≡ true) where
-    accepted : refusalOf ring words ≡ 0
+  module _ (o : ringSound ring ≡ true) where
+    accepted : ringRefusal ring words ≡ 0
     accepted = let w = words-long in refusal-none ring words (omega arith) o
 
     abbrev pub order : List ℕ
@@ -105,14 +102,14 @@ module _ (k n q : ℕ) (h : List ℕ) (b : k < n) (few : n ≤ 8) (long : 8347 �
     after-long : length after ≡ 1026
     after-long = let e = kept .long in let w = words-long in omega arith
 
-    pub checked-is : (d : Head) → checkedAt k q d h ≡ left (doneAs (boolByte (step .checked .duplicate)) d) (over (place + 3) after h)
+    pub checked-is : (d : Head) → checkedAt k q d h ≡ headLeft (doneAs (boolByte (step .checked .duplicate)) d) (writtenFrom (place + 3) after h)
     unfolding checkedAt
     checked-is d = rw (eq-eqb (step .checked .refusal) 0 (kept .refusal ∙ accepted))
 
     end : place + 3 + length after ≤ length h
     end = let a = after-long in omega arith
 
-    pub checked-long : length (over (place + 3) after h) ≡ length h
+    pub checked-long : length (writtenFrom (place + 3) after h) ≡ length h
     checked-long = over-length (place + 3) after h end
 
     -- the words of the audit, whole
@@ -125,7 +122,7 @@ module _ (k n q : ℕ) (h : List ℕ) (b : k < n) (few : n ≤ 8) (long : 8347 �
     audits-long : n * 1029 ≤ length audits
     audits-long = omega (arith, length-drop 113 h)
 
-    group-over : drop 113 (over (place + 3) after h) ≡ over (k * 1029) group audits
+    group-over : drop 113 (writtenFrom (place + 3) after h) ≡ writtenFrom (k * 1029) group audits
     group-over =
         let m : ℕ = k * 1029 + 3 in
         let e : place + 3 ≡ 113 + m = omega arith in
@@ -134,9 +131,9 @@ module _ (k n q : ℕ) (h : List ℕ) (b : k < n) (few : n ≤ 8) (long : 8347 �
         let c : 3 ≤ length here = omega (arith, length-drop (k * 1029) audits) in
         over-from (place + 3) after h 113 m e (omega arith)
         ∙ over-back (k * 1029) 3 m after audits refl (omega arith)
-        ∙ ap (λ (x : List ℕ). over (k * 1029) (x ++ after) audits) (three-words here c)
+        ∙ ap (λ (x : List ℕ). writtenFrom (k * 1029) (x ++ after) audits) (three-words here c)
 
-    pub still-ok : auditOk (step .checked .audit) ≡ true
+    pub still-ok : ringSound (step .checked .audit) ≡ true
     still-ok = kept .ok ∙ o
 
     abbrev pub value : Audit
@@ -145,24 +142,24 @@ module _ (k n q : ℕ) (h : List ℕ) (b : k < n) (few : n ≤ 8) (long : 8347 �
     value-is : auditAt (group ++ drop (k * 1029 + 1029) audits) ≡ value
     value-is =
         let rest : List ℕ = drop (k * 1029 + 1029) audits in
-        let w : length (step .words) ≡ window = kept .long ∙ words-long in
+        let w : length (step .words) ≡ auditWindow = kept .long ∙ words-long in
         ap (λ (x : List ℕ). record { producer = idAt here; order = x }) (order-window (step .checked .audit) (step .words) rest still-ok w ∙ ap (λ (t : Tested). t .order) tested-is)
 
     module _ (f : oks auditAt ringOk 1029 n audits ≡ true) where
-      pub checked-audits : auditsAt n (drop 113 (over (place + 3) after h)) ≡ set (auditsAt n audits) k value
+      pub checked-audits : auditsAt n (drop 113 (writtenFrom (place + 3) after h)) ≡ set (auditsAt n audits) k value
       checked-audits =
           ap (auditsAt n) group-over
-          ∙ audits-elems n (over (k * 1029) group audits)
+          ∙ audits-elems n (writtenFrom (k * 1029) group audits)
           ∙ elems-over auditAt ringOk 1029 audit-local ring-same k n group audits b audits-long group-long f
           ∙ ap₂ (λ (x : List Audit) (y : Audit). set x k y) (sym (audits-elems n audits)) value-is
 
-      pub checked-formed : ringsFormed n (drop 113 (over (place + 3) after h)) ≡ true
+      pub checked-formed : ringsFormed n (drop 113 (writtenFrom (place + 3) after h)) ≡ true
       checked-formed =
           ap (ringsFormed n) group-over
-          ∙ rings-oks n (over (k * 1029) group audits)
+          ∙ rings-oks n (writtenFrom (k * 1029) group audits)
           ∙ oks-over auditAt ringOk 1029 audit-local ring-same k n group audits b audits-long group-long f still-ok
 
-    pub checked-ids : (m : ℕ) → m ≤ 32 → idsAt m (drop 17 (over (place + 3) after h)) ≡ idsAt m (drop 17 h)
+    pub checked-ids : (m : ℕ) → m ≤ 32 → idsAt m (drop 17 (writtenFrom (place + 3) after h)) ≡ idsAt m (drop 17 h)
     checked-ids m c = let a = after-long in ids-kept m (place + 3) after h c (omega arith) (omega arith)
 
     -- what the test says, and the order after it

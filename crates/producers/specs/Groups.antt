@@ -38,12 +38,12 @@ keptWords p w zero l = []
 keptWords p w (suc n) l = if p l then take w l ++ keptWords p w n (drop w l) else keptWords p w n (drop w l)
 
 -- words written from a place on
-abbrev pub over : ℕ → List ℕ → List ℕ → List ℕ
-over at l h = take at h ++ (l ++ drop (at + length l) h)
+abbrev pub writtenFrom : ℕ → List ℕ → List ℕ → List ℕ
+writtenFrom at l h = take at h ++ (l ++ drop (at + length l) h)
 
 -- of n groups from a place on those that pass a test stand there one after the other; the words after them stay as they were
 unfoldable pub packed : (List ℕ → Bool) → ℕ → ℕ → ℕ → List ℕ → List ℕ
-packed p at w n h = over at (keptWords p w n (drop at h)) h
+packed p at w n h = writtenFrom at (keptWords p w n (drop at h)) h
 
 -- the words of an identifier, and of an audit with no numbers yet
 abbrev pub idWords : Id → List ℕ

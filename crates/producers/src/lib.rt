@@ -4,8 +4,8 @@ ghost use Prim.Native.Nat.{_+_, _*_, _≤_, _<_};
 ghost use lib.ListN.{length, drop};
 ghost use lib.Seq.{slice};
 ghost use Rattle.definition.specs.Calls.{adding, removing, testing, forgetting};
-ghost use Rattle.producers.specs.Groups.{hasId, goes, stays, firstOf, keptCount, over, packed, idWords, newWords};
-ghost use Rattle.producers.specs.Producers.{headFits, left, added, removed, checkedAt, tested, released, Promised};
+ghost use Rattle.producers.specs.Groups.{hasId, goes, stays, firstOf, keptCount, writtenFrom, packed, idWords, newWords};
+ghost use Rattle.producers.specs.Producers.{headFits, headLeft, added, producerRemoved, checkedAt, tested, released, Promised};
 use audit::Audit;
 use model::Id;
 use state::Answer;
@@ -79,7 +79,7 @@ fn find(head: &[u64], at: usize, width: usize, n: usize, id: Id) -> usize
 // The words from..to move down to a place.
 fn move_words(head: &mut [u64], from: usize, to: usize, at: usize)
     requires { ⌜ (at ≤ from) × (from ≤ to) × (to ≤ length (now head)) ⌝ }
-    ensures { λ _. ⌜ now (head .exit) ≡ over at (slice from to (now (head .entry))) (now (head .entry)) ⌝ }
+    ensures { λ _. ⌜ now (head .exit) ≡ writtenFrom at (slice from to (now (head .entry))) (now (head .entry)) ⌝ }
 {
     let mut i = from;
     let mut j = at;
@@ -117,7 +117,7 @@ fn pack(head: &mut [u64], at: usize, width: usize, n: usize, id: Id, whole: bool
 
 fn put_id(head: &mut [u64], at: usize, id: Id)
     requires { ⌜ at + 3 ≤ length (now head) ⌝ }
-    ensures { λ _. ⌜ now (head .exit) ≡ over at (idWords id) (now (head .entry)) ⌝ }
+    ensures { λ _. ⌜ now (head .exit) ≡ writtenFrom at (idWords id) (now (head .entry)) ⌝ }
 {
     let session = words::word_of(id.session);
     let value = words::word_of(id.value);
@@ -150,7 +150,7 @@ pub fn add_producer(head: &mut [u64], mut d: Head, id: Id) -> Answer
 
 // Takes a producer and its audit away. Where the numbers do not fit the head, refused with 2.
 pub fn remove_producer(head: &mut [u64], mut d: Head, id: Id, clock: u64) -> Answer
-    ensures { λ r. ⌜ Promised (removing id clock) (removed clock id d (now (head .entry))) d (now (head .entry)) r (now (head .exit)) ⌝ }
+    ensures { λ r. ⌜ Promised (removing id clock) (producerRemoved clock id d (now (head .entry))) d (now (head .entry)) r (now (head .exit)) ⌝ }
 {
     if !fits(head.len(), d) {
         return Answer::refused(2, d);
@@ -167,7 +167,7 @@ pub fn remove_producer(head: &mut [u64], mut d: Head, id: Id, clock: u64) -> Ans
 // `check_and_record` on the audit at a place.
 fn check_at(head: &mut [u64], d: Head, k: usize, number: u64) -> Answer
     requires { ⌜ (k < 8) × (8347 ≤ length (now head)) ⌝ }
-    ensures { λ r. ⌜ left r (now (head .exit)) ≡ checkedAt k number d (now (head .entry)) ⌝ }
+    ensures { λ r. ⌜ headLeft r (now (head .exit)) ≡ checkedAt k number d (now (head .entry)) ⌝ }
 {
     let at = AUDIT_TABLE + k * AUDIT_WORDS;
     let a = Audit {
@@ -189,7 +189,7 @@ fn check_at(head: &mut [u64], d: Head, k: usize, number: u64) -> Answer
 // A new audit at the end of the table.
 fn new_audit(head: &mut [u64], k: usize, id: Id)
     requires { ⌜ (k < 8) × (8347 ≤ length (now head)) ⌝ }
-    ensures { λ _. ⌜ now (head .exit) ≡ over (113 + k * 1029) (newWords id) (now (head .entry)) ⌝ }
+    ensures { λ _. ⌜ now (head .exit) ≡ writtenFrom (113 + k * 1029) (newWords id) (now (head .entry)) ⌝ }
 {
     let at = AUDIT_TABLE + k * AUDIT_WORDS;
     let a = Audit::new();

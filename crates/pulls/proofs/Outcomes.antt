@@ -19,8 +19,8 @@ use Rattle.definition.specs.Destination.{Out, putSub, room, pullTimeout}
 use Rattle.definition.specs.Words.{at}
 use Rattle.definition.specs.Layout.{Row, eventWords}
 use Rattle.consumers.specs.declared.Sub.{Sub}
-use Rattle.consumers.specs.declared.Found.the-variants.{At, Nothing}
-use Rattle.consumers.specs.Consumers.{subOf, subWords, subView}
+use Rattle.entry.specs.declared.Found.the-variants.{At, Nothing}
+use Rattle.consumers.specs.Consumers.{rowSub, subWords, subView}
 use Rattle.consumers.specs.Table.{positionFrom}
 use Rattle.state.specs.declared.Head.{Head}
 use Rattle.state.specs.declared.Answer as State
@@ -30,7 +30,7 @@ use Rattle.state.specs.Leaves.{silent, LeavesIf}
 use Rattle.state.proofs.Fitting.{fits-facts}
 use Rattle.state.proofs.Leaves.{when-leaves, unless-touched}
 use Rattle.state.proofs.Events.{pushed-room, events-up-to, events-after}
-use Rattle.pulls.specs.Pulls.{withPrefetch, withPull, prefetched, pulls, registered, answered, answeredOut, OneMore, Waits, Answers, risable}
+use Rattle.pulls.specs.Pulls.{subPrefetch, subPull, prefetched, pulls, registered, answered, answeredOut, OneMore, PullWaits, PullAnswers, risable}
 use Rattle.pulls.proofs.Reword.{Within, leaves-same, none-view, own, ownFlying, ownHeld, own-view, own-fitting, own-test, put-fits, leaves-put}
 use Rattle.pulls.proofs.Parts.{quiet, prefetched-none, registered-none, pulls-none, answered-none, timeout-none, prefetched-here, registered-not, pulls-not, registered-here, pulls-here, answered-satisfied, answered-null, answered-timed, answered-waits, timeout-satisfied, timeout-other, timeout-null}
 
@@ -39,11 +39,11 @@ pub none-more : (d : Head) → OneMore d d
 none-more d = record { head = refl; few = omega arith }
 
 -- a test has failed
-pub waits-not : (b : Bool) (id : Id) (d : Head) (subs rows : List Row) → b ≡ false → Waits b id d subs rows false
+pub waits-not : (b : Bool) (id : Id) (d : Head) (subs rows : List Row) → b ≡ false → PullWaits b id d subs rows false
 waits-not b id d subs rows h = record { exact = λ ps qs. sym (ap (λ (y : Bool). y && pulls id (headView d subs rows ps qs)) h) }
 
 pub answer-refused : (b : Bool) → b ≡ false → (id : Id) (d : Head) (subs rows events : List Row) (timeout : ℤ) (r : State.Answer) → r ≡ refusedAs 2 d
-    → LeavesIf b (OneMore d (r .head)) (answeredOut id timeout) d (r .head) subs rows events subs rows events × Answers b id timeout d subs rows r
+    → LeavesIf b (OneMore d (r .head)) (answeredOut id timeout) d (r .head) subs rows events subs rows events × PullAnswers b id timeout d subs rows r
 answer-refused b h id d subs rows events timeout r e = (
   unless-touched b _ (answeredOut id timeout) d (r .head) subs rows events subs rows events h (record { same-head = ap (λ (y : State.Answer). y .head) e; same-subs = refl; same-rows = refl; same-events = refl }),
   record {
@@ -61,11 +61,11 @@ module _ (b : Bool) (t : b ≡ true) (id : Id) (d : Head) (subs rows events : Li
       → LeavesIf b also f d d subs rows events subs rows events
   same also f a says = when-leaves b also f d d subs rows events subs rows events t (leaves-same f d subs rows events w says, a)
 
-  waits-by : (x : Bool) → ((ps : List Id) (qs : List Audit) → pulls id (viewed ps qs) ≡ x) → Waits b id d subs rows x
+  waits-by : (x : Bool) → ((ps : List Id) (qs : List Audit) → pulls id (viewed ps qs) ≡ x) → PullWaits b id d subs rows x
   waits-by x says = record { exact = λ ps qs. sym (ap (λ (y : Bool). y && pulls id (viewed ps qs)) t ∙ says ps qs) }
 
   answers-by : (timeout : ℤ) (x : ℕ) (h : Head) (r : State.Answer) → r ≡ doneAs x h
-      → ((ps : List Id) (qs : List Audit) → answered id timeout (viewed ps qs) .answer ≡ x) → Answers b id timeout d subs rows r
+      → ((ps : List Id) (qs : List Audit) → answered id timeout (viewed ps qs) .answer ≡ x) → PullAnswers b id timeout d subs rows r
   answers-by timeout x h r e says = record {
     refusal = ap (λ (y : State.Answer). y .refusal) e ∙ sym (ap (λ (y : Bool). if_then_else_ {A = ℕ} y 0 2) t);
     answer = λ ps qs. ap (λ (y : State.Answer). y .answer) e ∙ sym (ap (λ (y : Bool). if y then answered id timeout (viewed ps qs) .answer else 0) t ∙ says ps qs);
@@ -79,7 +79,7 @@ module _ (b : Bool) (t : b ≡ true) (id : Id) (d : Head) (subs rows events : Li
     pub prefetch-missing : (also : Type 0) (p : ℤ) → also → LeavesIf b also (silent (prefetched id p)) d d subs rows events subs rows events
     prefetch-missing also p a = same also (silent (prefetched id p)) a (λ ps qs. prefetched-none id (viewed ps qs) (none-view d subs rows id e ps qs) p)
 
-    pub register-missing : (also : Type 0) → also → LeavesIf b also (silent (registered id)) d d subs rows events subs rows events × Waits b id d subs rows false
+    pub register-missing : (also : Type 0) → also → LeavesIf b also (silent (registered id)) d d subs rows events subs rows events × PullWaits b id d subs rows false
     register-missing also a = (
       same also (silent (registered id)) a (λ ps qs. registered-none id (viewed ps qs) (none-view d subs rows id e ps qs)),
       waits-by false (λ ps qs. pulls-none id (viewed ps qs) (none-view d subs rows id e ps qs)),
@@ -89,7 +89,7 @@ module _ (b : Bool) (t : b ≡ true) (id : Id) (d : Head) (subs rows events : Li
     timeout-missing also g a = same also (pullTimeout id g) a (λ ps qs. timeout-none id (viewed ps qs) (none-view d subs rows id e ps qs) g)
 
   -- it is at a place, where s was loaded
-  module _ (i : ℕ) (e : positionFrom 0 id (take (d .consumers) subs) ≡ At i) (s : Sub) (q : s ≡ subOf (getD subs i [])) where
+  module _ (i : ℕ) (e : positionFrom 0 id (take (d .consumers) subs) ≡ At i) (s : Sub) (q : s ≡ rowSub (getD subs i [])) where
     long : d .consumers ≤ length subs
     long = omega (arith, w .subs-long, w .consumers)
 
@@ -108,13 +108,13 @@ module _ (b : Bool) (t : b ≡ true) (id : Id) (d : Head) (subs rows events : Li
     found : (ps : List Id) (qs : List Audit) → Destination.subOf id (viewed ps qs) ≡ some (subView k here f h)
     found = own-view d subs rows id i long e
 
-    pub prefetch-put : b ≡ fits subs d (length rows) (length events) → (p : ℤ) (subs′ : List Row) → subs′ ≡ set subs i (subWords (withPrefetch (room p) s))
+    pub prefetch-put : b ≡ fits subs d (length rows) (length events) → (p : ℤ) (subs′ : List Row) → subs′ ≡ set subs i (subWords (subPrefetch (room p) s))
         → LeavesIf b (fits subs′ d (length rows) (length events) ≡ true) (silent (prefetched id p)) d d subs rows events subs′ rows events
     prefetch-put g p subs′ r =
-        let z : Sub = withPrefetch (room p) here in
+        let z : Sub = subPrefetch (room p) here in
         let c : fits subs d (length rows) (length events) ≡ true = sym g ∙ t in
         let o = own-fitting d subs rows id i long e (fits-facts subs d (length rows) (length events) c .fitted) in
-        let x : subs′ ≡ set subs i (subWords z) = r ∙ ap (λ (y : Sub). set subs i (subWords (withPrefetch (room p) y))) q in
+        let x : subs′ ≡ set subs i (subWords z) = r ∙ ap (λ (y : Sub). set subs i (subWords (subPrefetch (room p) y))) q in
         rw x (when-leaves b _ (silent (prefetched id p)) d d subs rows events (set subs i (subWords z)) rows events t (
           leaves-put d subs rows id i long e z refl refl (silent (prefetched id p)) [] (d .events) events events w
               (λ v n. prefetched-here id k here f h v n p) (omega arith) (sym (append-nil (take (d .events) events))) refl refl,
@@ -127,20 +127,20 @@ module _ (b : Bool) (t : b ≡ true) (id : Id) (d : Head) (subs rows events : Li
         let z : s .generation ≡ here .generation = ap (λ (y : Sub). y .generation) q in
         omega arith
 
-    pub register-not : (also : Type 0) → also → 0 < s .prefetch → LeavesIf b also (silent (registered id)) d d subs rows events subs rows events × Waits b id d subs rows false
+    pub register-not : (also : Type 0) → also → 0 < s .prefetch → LeavesIf b also (silent (registered id)) d d subs rows events subs rows events × PullWaits b id d subs rows false
     register-not also a c =
         let x : ltb 0 (here .prefetch) ≡ true = ap (λ (y : Sub). ltb 0 (y .prefetch)) (sym q) ∙ lt-ltb 0 (s .prefetch) c in (
           same also (silent (registered id)) a (λ ps qs. registered-not id k here f h (viewed ps qs) (found ps qs) x),
           waits-by false (λ ps qs. pulls-not id k here f h (viewed ps qs) (found ps qs) x),
         )
 
-    pub register-put : b ≡ fits subs d (length rows) (length events) → s .prefetch ≤ 0 → (subs′ : List Row) → subs′ ≡ set subs i (subWords (withPull true (s .generation + 1) (s .generation + 1) s))
-        → LeavesIf b (all risable (take (d .consumers) subs) ≡ true → fits subs′ d (length rows) (length events) ≡ true) (silent (registered id)) d d subs rows events subs′ rows events × Waits b id d subs rows true
-    unfolding subOf
+    pub register-put : b ≡ fits subs d (length rows) (length events) → s .prefetch ≤ 0 → (subs′ : List Row) → subs′ ≡ set subs i (subWords (subPull true (s .generation + 1) (s .generation + 1) s))
+        → LeavesIf b (all risable (take (d .consumers) subs) ≡ true → fits subs′ d (length rows) (length events) ≡ true) (silent (registered id)) d d subs rows events subs′ rows events × PullWaits b id d subs rows true
+    unfolding rowSub
     register-put g c subs′ r =
-        let z : Sub = withPull true (here .generation + 1) (here .generation + 1) here in
+        let z : Sub = subPull true (here .generation + 1) (here .generation + 1) here in
         let y : ltb 0 (here .prefetch) ≡ false = ap (λ (v : Sub). ltb 0 (v .prefetch)) (sym q) ∙ le-ltb 0 (s .prefetch) c in
-        let x : subs′ ≡ set subs i (subWords z) = r ∙ ap (λ (v : Sub). set subs i (subWords (withPull true (v .generation + 1) (v .generation + 1) v))) q in (
+        let x : subs′ ≡ set subs i (subWords z) = r ∙ ap (λ (v : Sub). set subs i (subWords (subPull true (v .generation + 1) (v .generation + 1) v))) q in (
           rw x (when-leaves b _ (silent (registered id)) d d subs rows events (set subs i (subWords z)) rows events t (
             leaves-put d subs rows id i long e z refl refl (silent (registered id)) [] (d .events) events events w
                 (λ v n. registered-here id k here f h v n y) (omega arith) (sym (append-nil (take (d .events) events))) refl refl,
@@ -152,18 +152,18 @@ module _ (b : Bool) (t : b ≡ true) (id : Id) (d : Head) (subs rows events : Li
     -- a null is sent
     module _ (g : Dest → Out) (room : d .events < length events)
         (says : (v : Dest) → Destination.subOf id v ≡ some (subView k here f h)
-        → g v ≡ record { dest = putSub id (subView k (withPull false 0 (here .generation) here) f h) v; events = null (idOf (here .conn) (here .session) (here .value)) ∷ [] })
+        → g v ≡ record { dest = putSub id (subView k (subPull false 0 (here .generation) here) f h) v; events = null (idOf (here .conn) (here .session) (here .value)) ∷ [] })
         (r : Head) (subs′ events′ : List Row)
         (pr : r ≡ pushed d (length events))
-        (ps : subs′ ≡ set subs i (subWords (withPull false 0 (s .generation) s)))
+        (ps : subs′ ≡ set subs i (subWords (subPull false 0 (s .generation) s)))
         (pe : events′ ≡ set events (d .events) (eventWords (null (idOf (s .conn) (s .session) (s .value)))))
       where
         null-sent : LeavesIf b (OneMore d r) g d r subs rows events subs′ rows events′
         null-sent =
-            let z : Sub = withPull false 0 (here .generation) here in
+            let z : Sub = subPull false 0 (here .generation) here in
             let v : Row = eventWords (null (idOf (here .conn) (here .session) (here .value))) in
             let n : ℕ = d .events + 1 in
-            let x : subs′ ≡ set subs i (subWords z) = ps ∙ ap (λ (y : Sub). set subs i (subWords (withPull false 0 (y .generation) y))) q in
+            let x : subs′ ≡ set subs i (subWords z) = ps ∙ ap (λ (y : Sub). set subs i (subWords (subPull false 0 (y .generation) y))) q in
             let y : events′ ≡ set events (d .events) v = pe ∙ ap (λ (u : Sub). set events (d .events) (eventWords (null (idOf (u .conn) (u .session) (u .value))))) q in
             let o : r ≡ withEvents n d = pr ∙ pushed-room d (length events) room in
             rw (o, x, y) (when-leaves b _ g d (withEvents n d) subs rows events (set subs i (subWords z)) rows (set events (d .events) v) t (
@@ -183,7 +183,7 @@ module _ (b : Bool) (t : b ≡ true) (id : Id) (d : Head) (subs rows events : Li
           (λ ps qs. timeout-other id k here f h (viewed ps qs) (found ps qs) generation (ap (λ (y : Sub). y .pulling) (sym q) ∙ c) (ap (λ (y : Sub). eqb (y .pull) generation) (sym q) ∙ n))
 
       pub timeout-sent : d .events < length events → s .pulling ≡ true → eqb (s .pull) generation ≡ true → (r : Head) (subs′ events′ : List Row) → r ≡ pushed d (length events)
-          → subs′ ≡ set subs i (subWords (withPull false 0 (s .generation) s)) → events′ ≡ set events (d .events) (eventWords (null (idOf (s .conn) (s .session) (s .value))))
+          → subs′ ≡ set subs i (subWords (subPull false 0 (s .generation) s)) → events′ ≡ set events (d .events) (eventWords (null (idOf (s .conn) (s .session) (s .value))))
           → LeavesIf b (OneMore d r) (pullTimeout id generation) d r subs rows events subs′ rows events′
       timeout-sent room c n = null-sent (pullTimeout id generation) room
           (λ v x. timeout-null id k here f h v x generation (ap (λ (y : Sub). y .pulling) (sym q) ∙ c) (ap (λ (y : Sub). eqb (y .pull) generation) (sym q) ∙ n))
@@ -191,7 +191,7 @@ module _ (b : Bool) (t : b ≡ true) (id : Id) (d : Head) (subs rows events : Li
   -- the answer after the dispatch
   module _ (timeout : ℤ) (r : State.Answer) where
     abbrev Answered : List Row → List Row → Type 0
-    Answered subs′ events′ = LeavesIf b (OneMore d (r .head)) (answeredOut id timeout) d (r .head) subs rows events subs′ rows events′ × Answers b id timeout d subs rows r
+    Answered subs′ events′ = LeavesIf b (OneMore d (r .head)) (answeredOut id timeout) d (r .head) subs rows events subs′ rows events′ × PullAnswers b id timeout d subs rows r
 
     -- nothing changes
     kept : (x : ℕ) → r ≡ doneAs x d → ((ps : List Id) (qs : List Audit) → answered id timeout (viewed ps qs) ≡ record { answer = x; dest = viewed ps qs; events = [] }) → Answered subs events
@@ -204,7 +204,7 @@ module _ (b : Bool) (t : b ≡ true) (id : Id) (d : Head) (subs rows events : Li
     pub answer-missing : positionFrom 0 id (take (d .consumers) subs) ≡ Nothing → r ≡ doneAs 0 d → Answered subs events
     answer-missing e p = kept 0 p (λ ps qs. answered-none id (viewed ps qs) (none-view d subs rows id e ps qs) timeout)
 
-    module _ (i : ℕ) (e : positionFrom 0 id (take (d .consumers) subs) ≡ At i) (s : Sub) (q : s ≡ subOf (getD subs i [])) where
+    module _ (i : ℕ) (e : positionFrom 0 id (take (d .consumers) subs) ≡ At i) (s : Sub) (q : s ≡ rowSub (getD subs i [])) where
       abbrev mine : Sub
       mine = here i e s q
 
@@ -216,7 +216,7 @@ module _ (b : Bool) (t : b ≡ true) (id : Id) (d : Head) (subs rows events : Li
         waiting = ap (λ (y : Sub). y .pulling) (sym q) ∙ c
 
         pub answer-null : ltZ timeout (pos 0) ≡ true → d .events < length events → (x : Head) → r ≡ doneAs 0 x → (subs′ events′ : List Row) → x ≡ pushed d (length events)
-            → subs′ ≡ set subs i (subWords (withPull false 0 (s .generation) s)) → events′ ≡ set events (d .events) (eventWords (null (idOf (s .conn) (s .session) (s .value))))
+            → subs′ ≡ set subs i (subWords (subPull false 0 (s .generation) s)) → events′ ≡ set events (d .events) (eventWords (null (idOf (s .conn) (s .session) (s .value))))
             → Answered subs′ events′
         answer-null l room x p subs′ events′ px ps pe =
             let n : r .head ≡ pushed d (length events) = ap (λ (y : State.Answer). y .head) p ∙ px in (

@@ -19,7 +19,7 @@ use Rattle.definition.proofs.Tests.{by-test, if-true, if-false}
 use Rattle.consumers.specs.declared.Sub.{Sub}
 use Rattle.consumers.specs.Consumers.{subView}
 use Rattle.state.specs.Leaves.{silent}
-use Rattle.pulls.specs.Pulls.{withPrefetch, withPull, prefetched, pullsAt, pulls, pulling, registeredAt, registered, answered}
+use Rattle.pulls.specs.Pulls.{subPrefetch, subPull, prefetched, pullsAt, pulls, pulling, registeredAt, registered, answered}
 
 abbrev pub quiet : Dest → Out
 quiet t = record { dest = t; events = [] }
@@ -56,7 +56,7 @@ module _ (i : Id) (k : Kind) (s : Sub) (f h : List Row) (t : Dest) (e : subOf i 
   abbrev here : Def.Sub
   here = subView k s f h
 
-  pub prefetched-here : (p : ℤ) → silent (prefetched i p) t ≡ quiet (putSub i (subView k (withPrefetch (room p) s) f h) t)
+  pub prefetched-here : (p : ℤ) → silent (prefetched i p) t ≡ quiet (putSub i (subView k (subPrefetch (room p) s) f h) t)
   unfolding prefetched subView
   prefetched-here p = ap (λ (o : Option Def.Sub). quiet (prefetchAt i p t o)) e
 
@@ -74,11 +74,11 @@ module _ (i : Id) (k : Kind) (s : Sub) (f h : List Row) (t : Dest) (e : subOf i 
   unfolding pulls
   pulls-not c = ap pullsAt e ∙ ap not (ap (ltb 0) prefetch-is ∙ c)
 
-  pulling-is : pulling here ≡ subView k (withPull true (s .generation + 1) (s .generation + 1) s) f h
+  pulling-is : pulling here ≡ subView k (subPull true (s .generation + 1) (s .generation + 1) s) f h
   unfolding subView
   pulling-is = refl
 
-  pub registered-here : ltb 0 (s .prefetch) ≡ false → silent (registered i) t ≡ quiet (putSub i (subView k (withPull true (s .generation + 1) (s .generation + 1) s) f h) t)
+  pub registered-here : ltb 0 (s .prefetch) ≡ false → silent (registered i) t ≡ quiet (putSub i (subView k (subPull true (s .generation + 1) (s .generation + 1) s) f h) t)
   unfolding registered
   registered-here c =
       ap (λ (o : Option Def.Sub). quiet (registeredAt i t o)) e
@@ -92,7 +92,7 @@ module _ (i : Id) (k : Kind) (s : Sub) (f h : List Row) (t : Dest) (e : subOf i 
   -- a null
 
   abbrev nulled : Dest
-  nulled = putSub i (subView k (withPull false 0 (s .generation) s) f h) t
+  nulled = putSub i (subView k (subPull false 0 (s .generation) s) f h) t
 
   abbrev name : Id
   name = idOf (s .conn) (s .session) (s .value)

@@ -1,7 +1,7 @@
 -- A consumer stored again in its place, with as many rows as before: what the tables then hold, that the numbers still fit, and what a call
 -- leaves that does no more than this and send events. Assumes nothing.
-use mathlib.Core.Path.{_≡_, refl, sym, ap, ap₂, _∙_, subst}
-use mathlib.Core.Bool.{Bool, true, false}
+use mathlib.Core.Path.{_≡_, refl, sym, ap, ap₂, _∙_}
+use mathlib.Core.Bool.{Bool, true}
 use mathlib.Core.List.{List, [], _∷_, _++_, append-nil, map}
 use mathlib.Core.Option.{none, some}
 use Prim.Native.Nat.{ℕ, zero, suc, _+_, _≤_, _<_}
@@ -16,11 +16,12 @@ use Rattle.definition.specs.Types.{Kind, Id, Audit, Dest, Event}
 use Rattle.definition.specs.Destination as Destination
 use Rattle.definition.specs.Destination.{Out, putSub}
 use Rattle.definition.specs.Words.{at}
-use Rattle.definition.specs.Layout.{Row, heldAt, inflightOf, heldOf, subsAt, subRows, entryStrict, subsStrict, eventWords}
+use Rattle.definition.specs.Layout.{Row, heldAt, inflightCount, heldCount, subsAt, subRows, entryStrict, subsStrict, eventWords}
 use Rattle.definition.proofs.Tests.{and-left, and-right, and-both}
+use Rattle.definition.proofs.Lists.{all-stored}
 use Rattle.consumers.specs.declared.Sub.{Sub}
-use Rattle.consumers.specs.declared.Found.the-variants.{At, Nothing}
-use Rattle.consumers.specs.Consumers.{subOf, subWords, subView}
+use Rattle.entry.specs.declared.Found.the-variants.{At, Nothing}
+use Rattle.consumers.specs.Consumers.{rowSub, subWords, subView}
 use Rattle.consumers.specs.Seats.{flyingIn, heldIn}
 use Rattle.consumers.specs.Table.{positionFrom, fitting}
 use Rattle.consumers.proofs.View.{sub-at, sub-stored, inflight-stored, held-stored, inflight-loaded, held-loaded, rows-split, rows-set, subs-reword}
@@ -30,17 +31,12 @@ use Rattle.consumers.proofs.Strict.{stored-strict, strict-reword, tables-strict
 use Rattle.state.specs.declared.Head.{Head}
 use Rattle.state.specs.State.{headView, kindBy, strictTables, withEvents}
 use Rattle.state.specs.Fits.{fits}
-use Rattle.state.specs.Leaves.{Leaves, Untouched, LeavesIf}
+use Rattle.state.specs.Leaves.{Leaves}
 use Rattle.state.proofs.Fitting.{fits-facts, facts-fit}
 
 -- ---- tests of all elements
 
 module _ {A : Type 0} (p : A → Bool) where
-  pub all-set : (l : List A) (i : ℕ) (x : A) → all p l ≡ true → p x ≡ true → all p (set l i x) ≡ true
-  all-set [] i x h k = h
-  all-set (y ∷ l) zero x h k = and-both (p x) (all p l) k (and-right (p y) (all p l) h)
-  all-set (y ∷ l) (suc i) x h k = and-both (p y) (all p (set l i x)) (and-left (p y) (all p l) h) (all-set l i x (and-right (p y) (all p l) h) k)
-
   pub all-at : (l : List A) (i : ℕ) (z : A) → all p l ≡ true → i < length l → p (getD l i z) ≡ true
   all-at [] i z h b = absurd (not-suc-le-zero b)
   all-at (y ∷ l) zero z h b = and-left (p y) (all p l) h
@@ -106,7 +102,7 @@ module _ (d : Head) (subs rows : List Row) (id : Id) (i : ℕ) (long : d .consum
 
   -- its words, and its rows
   abbrev pub own : Sub
-  own = subOf (getD subs i [])
+  own = rowSub (getD subs i [])
 
   abbrev pub ownFlying : List Row
   ownFlying = flyingIn ws rows i
@@ -125,10 +121,10 @@ module _ (d : Head) (subs rows : List Row) (id : Id) (i : ℕ) (long : d .consum
 
   pub own-view : (ps : List Id) (qs : List Audit) → Destination.subOf id (headView d subs rows ps qs) ≡ some (subView k own ownFlying ownHeld)
   unfolding headView
-  own-view ps qs = found-at id ws i e k rows ∙ ap some (sub-at k (getD ws i []) ownFlying ownHeld ∙ ap (λ (w : Row). subView k (subOf w) ownFlying ownHeld) row-is)
+  own-view ps qs = found-at id ws i e k rows ∙ ap some (sub-at k (getD ws i []) ownFlying ownHeld ∙ ap (λ (w : Row). subView k (rowSub w) ownFlying ownHeld) row-is)
 
   pub own-fitting : all fitting ws ≡ true → (own .freed ≤ own .inflight) × (own .«next_dseq» ≤ 72057594037927937) × (own .generation ≤ 72057594037927937)
-  unfolding subOf
+  unfolding rowSub
   own-fitting h = rw row-is at (fitting-at ws i h here)
 
   pub own-test : (p : Row → Bool) → all p ws ≡ true → p (getD subs i []) ≡ true
@@ -142,11 +138,11 @@ module _ (d : Head) (subs rows : List Row) (id : Id) (i : ℕ) (long : d .consum
     table-is : take (d .consumers) subs′ ≡ set ws i (subWords s)
     table-is = take-set-lt (d .consumers) subs i (subWords s) less
 
-    flying-same : inflightOf (subWords s) ≡ inflightOf (getD ws i [])
-    flying-same = inflight-stored s ∙ f ∙ inflight-loaded (getD subs i []) ∙ ap inflightOf (sym row-is)
+    flying-same : inflightCount (subWords s) ≡ inflightCount (getD ws i [])
+    flying-same = inflight-stored s ∙ f ∙ inflight-loaded (getD subs i []) ∙ ap inflightCount (sym row-is)
 
-    held-same : heldOf (subWords s) ≡ heldOf (getD ws i [])
-    held-same = held-stored s ∙ h ∙ held-loaded (getD subs i []) ∙ ap heldOf (sym row-is)
+    held-same : heldCount (subWords s) ≡ heldCount (getD ws i [])
+    held-same = held-stored s ∙ h ∙ held-loaded (getD subs i []) ∙ ap heldCount (sym row-is)
 
     rows-same : subRows (take (d .consumers) subs′) ≡ subRows ws
     rows-same =
@@ -218,7 +214,7 @@ module _ (d : Head) (subs rows : List Row) (id : Id) (i : ℕ) (long : d .consum
           discarded = x .discarded;
           dispatched = x .dispatched;
           rows-used = ap (λ (n : ℕ). n + (d .reserved + d .waiting)) rows-same ∙ x .rows-used;
-          fitted = ap (all fitting) table-is ∙ all-set fitting ws i (subWords s) (x .fitted) one;
+          fitted = ap (all fitting) table-is ∙ all-stored fitting ws i (subWords s) (x .fitted) one;
         })
 
     -- what is left, with so many events sent

@@ -11,7 +11,7 @@ use Rattle.definition.specs.Base.{all}
 use Rattle.definition.specs.Types.{Kind}
 use Rattle.definition.specs.Calls.{bound, subTests, subSound, soundTests, sound}
 use Rattle.definition.specs.Words.{at}
-use Rattle.definition.specs.Layout.{Row, Buffers, inflightOf, heldOf, subAt, eachSub, subsAt, usedSubs, view, formed, soundBuffers}
+use Rattle.definition.specs.Layout.{Row, Buffers, inflightCount, heldCount, subAt, eachSub, subsAt, usedSubs, view, formed, soundBuffers}
 use Rattle.definition.proofs.Tests.{and-left, and-right, and-both}
 use Rattle.definition.proofs.Thin.{every-all}
 use Rattle.pulls.specs.Pulls.{risable}
@@ -27,9 +27,9 @@ subs-rise : (k : Kind) (used : ℕ) → used < 2 ^ 40 → (ws rows : List Row) �
 unfolding eachSub
 subs-rise k used u [] rows h = refl
 subs-rise k used u (w ∷ ws) rows h =
-    let f : List Row = take (inflightOf w) rows in
-    let g : List Row = take (heldOf w) (drop (inflightOf w) rows) in
-    and-both _ _ (sub-rises k used u w f g (and-left _ _ h)) (subs-rise k used u ws (drop (heldOf w) (drop (inflightOf w) rows)) (and-right (subSound k used (subAt k w f g)) _ h))
+    let f : List Row = take (inflightCount w) rows in
+    let g : List Row = take (heldCount w) (drop (inflightCount w) rows) in
+    and-both _ _ (sub-rises k used u w f g (and-left _ _ h)) (subs-rise k used u ws (drop (heldCount w) (drop (inflightCount w) rows)) (and-right (subSound k used (subAt k w f g)) _ h))
 
 pub sound-rises : (b : Buffers) → soundBuffers b ≡ true → eqb (at 3 (b .head)) (at 2 (b .head)) ≡ false → all risable (usedSubs b) ≡ true
 unfolding soundBuffers sound view

@@ -20,12 +20,12 @@ use Rattle.state.specs.State.{headView, withEvents}
 
 -- ---- a consumer by value
 
-abbrev pub withPrefetch : ℕ → Sub → Sub
-withPrefetch x s = record { conn = s .conn; session = s .session; value = s .value; prefetch = x; selector = s .selector; «next_dseq» = s .«next_dseq»; cursor = s .cursor; pull = s .pull; generation = s .generation; freed = s .freed; inflight = s .inflight; held = s .held; «no_local» = s .«no_local»; browser = s .browser; finished = s .finished; pulling = s .pulling }
+abbrev pub subPrefetch : ℕ → Sub → Sub
+subPrefetch x s = record { conn = s .conn; session = s .session; value = s .value; prefetch = x; selector = s .selector; «next_dseq» = s .«next_dseq»; cursor = s .cursor; pull = s .pull; generation = s .generation; freed = s .freed; inflight = s .inflight; held = s .held; «no_local» = s .«no_local»; browser = s .browser; finished = s .finished; pulling = s .pulling }
 
 -- whether a pull waits, which, and the generation
-abbrev pub withPull : Bool → ℕ → ℕ → Sub → Sub
-withPull b x g s = record { conn = s .conn; session = s .session; value = s .value; prefetch = s .prefetch; selector = s .selector; «next_dseq» = s .«next_dseq»; cursor = s .cursor; pull = x; generation = g; freed = s .freed; inflight = s .inflight; held = s .held; «no_local» = s .«no_local»; browser = s .browser; finished = s .finished; pulling = b }
+abbrev pub subPull : Bool → ℕ → ℕ → Sub → Sub
+subPull b x g s = record { conn = s .conn; session = s .session; value = s .value; prefetch = s .prefetch; selector = s .selector; «next_dseq» = s .«next_dseq»; cursor = s .cursor; pull = x; generation = g; freed = s .freed; inflight = s .inflight; held = s .held; «no_local» = s .«no_local»; browser = s .browser; finished = s .finished; pulling = b }
 
 -- ---- the parts of the calls
 
@@ -66,11 +66,11 @@ pub record OneMore (d r : Head) : Type 0 where
   pub few : r .events ≤ d .events + 1
 
 -- whether a pull waits: no where a test fails
-pub record Waits (test : Bool) (i : Id) (d : Head) (subs rows : List Row) (r : Bool) : Type 0 where
+pub record PullWaits (test : Bool) (i : Id) (d : Head) (subs rows : List Row) (r : Bool) : Type 0 where
   pub exact : (producers : List Id) (audits : List Audit) → r ≡ (test && pulls i (headView d subs rows producers audits))
 
 -- what a pull is answered: refused with 2 where a test fails
-pub record Answers (test : Bool) (i : Id) (timeout : ℤ) (d : Head) (subs rows : List Row) (r : State.Answer) : Type 0 where
+pub record PullAnswers (test : Bool) (i : Id) (timeout : ℤ) (d : Head) (subs rows : List Row) (r : State.Answer) : Type 0 where
   pub refusal : r .refusal ≡ (if test then 0 else 2)
   pub answer : (producers : List Id) (audits : List Audit) → r .answer ≡ (if test then answered i timeout (headView d subs rows producers audits) .answer else 0)
 

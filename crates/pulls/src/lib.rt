@@ -13,10 +13,10 @@ ghost use Rattle.consumers.specs.Consumers.{subWords};
 ghost use Rattle.state.specs.State.{pushed};
 ghost use Rattle.state.specs.Fits.{fits};
 ghost use Rattle.state.specs.Leaves.{silent, LeavesIf};
-ghost use Rattle.pulls.specs.Pulls.{withPrefetch, withPull, prefetched, registered, answeredOut, OneMore, Waits, Answers, stands, risable};
-use consumers::Found;
+ghost use Rattle.pulls.specs.Pulls.{subPrefetch, subPull, prefetched, registered, answeredOut, OneMore, PullWaits, PullAnswers, stands, risable};
 use consumers::Sub;
 use consumers::SubRow;
+use entry::Found;
 use entry::Row;
 use model::Id;
 use state::Answer;
@@ -35,7 +35,7 @@ pub fn room(prefetch: i32) -> u64
 
 // With a new prefetch.
 fn with_prefetch(mut s: Sub, prefetch: u64) -> Sub
-    ensures { λ r. ⌜ r ≡ withPrefetch prefetch s ⌝ }
+    ensures { λ r. ⌜ r ≡ subPrefetch prefetch s ⌝ }
 {
     s.prefetch = prefetch;
     s
@@ -44,7 +44,7 @@ fn with_prefetch(mut s: Sub, prefetch: u64) -> Sub
 // With a new pull.
 fn pulling(mut s: Sub) -> Sub
     requires { ⌜ s .generation < 2 ^ 63 ⌝ }
-    ensures { λ r. ⌜ r ≡ withPull true (s .generation + 1) (s .generation + 1) s ⌝ }
+    ensures { λ r. ⌜ r ≡ subPull true (s .generation + 1) (s .generation + 1) s ⌝ }
 {
     let next = s.generation + 1;
     s.generation = next;
@@ -55,7 +55,7 @@ fn pulling(mut s: Sub) -> Sub
 
 // With no pull.
 fn not_pulling(mut s: Sub) -> Sub
-    ensures { λ r. ⌜ r ≡ withPull false 0 (s .generation) s ⌝ }
+    ensures { λ r. ⌜ r ≡ subPull false 0 (s .generation) s ⌝ }
 {
     s.pulling = false;
     s.pull = 0;
@@ -65,7 +65,7 @@ fn not_pulling(mut s: Sub) -> Sub
 // `send_null` to the consumer s at a place.
 fn send_null(subs: &mut [SubRow], events: &mut [Event], d: Head, i: usize, s: Sub) -> Head
     ensures { λ r. ⌜ (r ≡ pushed d (length (now (events .entry)))) × (now (events .exit) ≡ set (now (events .entry)) (d .events) (eventWords (null (idOf (s .conn) (s .session) (s .value))))) ⌝ }
-    ensures { λ _. ⌜ now (subs .exit) ≡ set (now (subs .entry)) i (subWords (withPull false 0 (s .generation) s)) ⌝ }
+    ensures { λ _. ⌜ now (subs .exit) ≡ set (now (subs .entry)) i (subWords (subPull false 0 (s .generation) s)) ⌝ }
 {
     consumers::store(subs, i, not_pulling(s));
     state::push_null(events, d, s.conn, s.session, s.value)
@@ -96,7 +96,7 @@ pub fn set_prefetch(
 // happens.
 pub fn register(subs: &mut [SubRow], rows: &[Row], events: &[Event], d: Head, id: Id) -> bool
     ensures { λ _. ⌜ LeavesIf (fits (now (subs .entry)) d (length (now (rows .entry))) (length (now (events .entry)))) (all risable (take (d .consumers) (now (subs .entry))) ≡ true → fits (now (subs .exit)) d (length (now (rows .entry))) (length (now (events .entry))) ≡ true) (silent (registered id)) d d (now (subs .entry)) (now (rows .entry)) (now (events .entry)) (now (subs .exit)) (now (rows .entry)) (now (events .entry)) ⌝ }
-    ensures { λ r. ⌜ Waits (fits (now (subs .entry)) d (length (now (rows .entry))) (length (now (events .entry)))) id d (now (subs .entry)) (now (rows .entry)) r ⌝ }
+    ensures { λ r. ⌜ PullWaits (fits (now (subs .entry)) d (length (now (rows .entry))) (length (now (events .entry)))) id d (now (subs .entry)) (now (rows .entry)) r ⌝ }
 {
     if !state::fits(subs, d, rows.len(), events.len()) {
         return false;
@@ -151,7 +151,7 @@ pub fn answer_pull(
     timeout: i64,
 ) -> Answer
     ensures { λ r. ⌜ LeavesIf (stands (now (subs .entry)) d (length (now (rows .entry))) (length (now (events .entry)))) (OneMore d (r .head)) (answeredOut id timeout) d (r .head) (now (subs .entry)) (now (rows .entry)) (now (events .entry)) (now (subs .exit)) (now (rows .entry)) (now (events .exit)) ⌝ }
-    ensures { λ r. ⌜ Answers (stands (now (subs .entry)) d (length (now (rows .entry))) (length (now (events .entry)))) id timeout d (now (subs .entry)) (now (rows .entry)) r ⌝ }
+    ensures { λ r. ⌜ PullAnswers (stands (now (subs .entry)) d (length (now (rows .entry))) (length (now (events .entry)))) id timeout d (now (subs .entry)) (now (rows .entry)) r ⌝ }
 {
     if !stands(subs, d, rows.len(), events.len()) {
         return Answer::refused(2, d);

@@ -1,7 +1,7 @@
 -- The answers by the numbers of a destination by value, where they fit the tables: they are the definitions' of its view. Assumes nothing.
 use mathlib.Core.Path.{_≡_, refl, sym, ap, ap₂, _∙_}
 use mathlib.Core.Bool.{Bool, true, false, not, _&&_, _||_}
-use mathlib.Core.List.{List, [], _∷_, map}
+use mathlib.Core.List.{List, [], map}
 use mathlib.Core.Option.{none, some}
 use Prim.Native.Nat.{ℕ, _+_, _-_, _/_, _≤_, _<_, _^_, min}
 use native.Mathlib.Omega.{arith}
@@ -11,41 +11,30 @@ use lib.ListN.{length, take, drop, getD, length-map, length-drop, List·getD-map
 use lib.Seq.{slice, drop-drop, length-take-le, getD-take, getD-drop}
 use mir.Val.{boolByte}
 use Rattle.entry.specs.Entry.{entryOf}
-use Rattle.definition.specs.Base.{if_then_else_, all, empty, nth}
+use Rattle.definition.specs.Base.{if_then_else_, all, empty, nth, is-some}
 use Rattle.definition.specs.Types.{Entry, Dest}
 use Rattle.definition.specs.Destination.{heldRows}
-use Rattle.definition.specs.Queries.{Query, ofKind, consumers, expirations, messages, idle, sequence, queryOk, answerOf, isQueue, hasConsumers, expiring, hasExpiring, marked, idleSeconds, idleFor, messageCount, seqOf, seqAt, number}
+use Rattle.definition.specs.Queries.{Query, ofKind, consumers, expirations, messages, idle, sequence, queryOk, answerOf, isQueue, hasConsumers, expiring, hasExpiring, idleSeconds, idleFor, messageCount, seqOf, seqAt, number}
 use Rattle.definition.specs.Words.{at, kindBy}
-use Rattle.definition.specs.Layout.{Row, flag, heldOf, tpendingAt, subAt, subsAt, subRows, bufferQuery}
+use Rattle.definition.specs.Layout.{Row, flag, tpendingAt, subAt, subsAt, subRows, bufferQuery}
 use Rattle.sound.specs.Sound.{lent}
-use Rattle.definition.proofs.Tests.{by-if}
-use Rattle.consumers.specs.Table.{heldBy, keptRows}
-use Rattle.consumers.proofs.Laws.{held-subs}
+use Rattle.definition.proofs.Lists.{empty-length}
+use Rattle.consumers.specs.Table.{keptRows}
+use Rattle.consumers.proofs.Laws.{held-subs, kept-few}
 use Rattle.consumers.proofs.View.{subs-length}
 use Rattle.sound.proofs.Tests.{part-of, all-map}
 use Rattle.state.specs.declared.Head.{Head}
 use Rattle.state.specs.State.{headView, loaded, firstWaiting}
 use Rattle.state.specs.Fits.{Fits}
+use Rattle.state.proofs.View.{is-queue}
 use Rattle.queries.specs.declared.Asked.{Asked}
 use Rattle.queries.specs.Answers.{asAsked, barred, lasts, subLasts, isIdle}
-use Rattle.queries.proofs.Lists.{empty-length, nth-past, nth-at}
+use Rattle.queries.proofs.Lists.{nth-past, nth-at}
 use Rattle.queries.proofs.Opened.{ids, rings, facts, no-producers, answered}
 
 as-number : (x : Bool) → boolByte x ≡ number x
 as-number true = refl
 as-number false = refl
-
-is-queue : (q : Bool) → isQueue (kindBy q) ≡ q
-is-queue true = refl
-is-queue false = refl
-
--- what counts of the consumers' rows is some of them
-kept-few : (q : Bool) (ws : List Row) → keptRows q ws ≤ subRows ws
-unfolding keptRows subRows
-kept-few q [] = omega arith
-kept-few q (w ∷ ws) =
-    let one : heldBy q w ≤ heldOf w = by-if (λ (n : ℕ). n ≤ heldOf w) (q && flag (at 6 w)) 0 (heldOf w) (λ _. omega arith) (λ _. omega arith) in
-    omega (arith, one, kept-few q ws)
 
 -- ---- one consumer
 
@@ -146,7 +135,7 @@ module _ (h : List ℕ) (subs rows : List Row) (z : barred (lent h subs rows) �
 
   -- ---- idle_for
 
-  mark : (now secs : ℕ) (b : Bool) → (b && leb secs ((now - d .«idle_since») / 1000)) ≡ (marked (if b then some (d .«idle_since») else none) && leb secs (idleSeconds now (if b then some (d .«idle_since») else none)))
+  mark : (now secs : ℕ) (b : Bool) → (b && leb secs ((now - d .«idle_since») / 1000)) ≡ (is-some (if b then some (d .«idle_since») else none) && leb secs (idleSeconds now (if b then some (d .«idle_since») else none)))
   mark now secs true = refl
   mark now secs false = refl
 

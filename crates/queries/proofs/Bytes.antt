@@ -1,8 +1,8 @@
 -- Bytes of rows: what the definitions say, the turns of the loops, and the order of three blocks. Assumes nothing.
 use mathlib.Core.Path.{_≡_, refl, sym, ap, ap₂, _∙_}
-use mathlib.Core.Bool.{Bool, true, false, not, _&&_, _||_, or-comm}
+use mathlib.Core.Bool.{Bool, true, false, not, _||_, or-comm}
 use mathlib.Core.List.{List, [], _∷_, _++_, map, append-assoc}
-use Prim.Native.Nat.{ℕ, zero, suc, _+_, _-_, _*_, _≤_, _<_, _^_}
+use Prim.Native.Nat.{ℕ, zero, suc, _+_, _-_, _≤_, _<_, _^_}
 use native.Mathlib.Omega.{arith}
 use borrow.Author.Tests.{eq-eqb, ne-eqb, ltb-true, not-true}
 use lib.Dec.{leb, ltb, eqb}
@@ -13,15 +13,15 @@ use Rattle.words.proofs.Tests.{by-test}
 use Rattle.entry.specs.Entry.{entryOf}
 use Rattle.definition.specs.Base.{all, member, distinct}
 use Rattle.definition.specs.Types.{Entry}
-use Rattle.definition.specs.Calls.{entryOk, word, within, seqs, sizesAgree}
+use Rattle.definition.specs.Calls.{entryOk, word, signedWithin, seqs, sizesAgree}
 use Rattle.definition.specs.Queries.{bytesOf}
 use Rattle.definition.specs.Words.{at}
 use Rattle.definition.specs.Layout.{Row}
 use Rattle.definition.proofs.Tests.{and-left, and-right}
-use Rattle.definition.proofs.Thin.{every-all, map-append}
+use Rattle.definition.proofs.Thin.{every-all}
 use Rattle.definition.proofs.Sums.{bad, occ, odd, sum, sum-append, ok-sum, sum-ok, once-sum, sum-once, agree-sum, sum-agree}
 use Rattle.definition.proofs.Bytes.{bytes-any-order}
-use Rattle.distinct.proofs.Laws.{member-append}
+use Rattle.distinct.proofs.Laws.{member-seqs}
 use Rattle.copies.proofs.Laws.{part-turn, row-more}
 use Rattle.sound.proofs.Subs.{seqs-rows}
 use Rattle.queries.specs.Bytes.{bytesAt, sizesOf, Small}
@@ -87,7 +87,7 @@ size-small : (v : Row) → entryOk (entryOf v) ≡ true → at 9 v ≤ 429496729
 unfolding entryOf
 size-small v o =
     let e : Entry = entryOf v in
-    let f = every-all (leb 1 (e .seq) ∷ ltb (e .seq) (2 ^ 63) ∷ within (2 ^ 63) (e .expiration) ∷ word (e .producer) ∷ word (e .«match_word») ∷ within (2 ^ 31) (e .redelivery) ∷ ltb (e .size) (2 ^ 32) ∷ []) o in
+    let f = every-all (leb 1 (e .seq) ∷ ltb (e .seq) (2 ^ 63) ∷ signedWithin (2 ^ 63) (e .expiration) ∷ word (e .producer) ∷ word (e .«match_word») ∷ signedWithin (2 ^ 31) (e .redelivery) ∷ ltb (e .size) (2 ^ 32) ∷ []) o in
     omega (arith, ltb-true (at 9 v) (2 ^ 32) (f .1 .1 .1 .1 .1 .1 .0))
 
 pub rows-small : (n : ℕ) (rows : List Row) → n ≤ length rows → all entryOk (map entryOf (take n rows)) ≡ true → Small n rows
@@ -116,9 +116,6 @@ module _ (a b c : List Entry) where
       let r = agree-sum (a ++ (b ++ c)) h x in
       let f = odd x (r .0) in
       (r .0, omega (arith, r .1, sum-append f a (b ++ c), sum-append f b c, sum-append f a (c ++ b), sum-append f c b)))
-
-member-seqs : (x : ℕ) (l m : List Entry) → member x (seqs (l ++ m)) ≡ (member x (seqs l) || member x (seqs m))
-member-seqs x l m = ap (member x) (map-append (λ e. e .seq) l m) ∙ member-append x (seqs l) (seqs m)
 
 bytes-inner : (a b c : List Entry) → sizesAgree (a ++ (b ++ c)) ≡ true → bytesOf (a ++ (b ++ c)) ≡ bytesOf (a ++ (c ++ b))
 bytes-inner [] b c h = bytes-any-order b c h

@@ -16,7 +16,7 @@ use lib.Seq.{take-suc, getD-drop}
 use Rattle.definition.specs.Queries.{Line}
 use Rattle.definition.specs.Layout.{Row}
 use Rattle.queries.specs.declared.PageLine.{PageLine}
-use Rattle.queries.specs.Pages.{rowLine, pageLine, lineAt, written}
+use Rattle.queries.specs.Pages.{rowLine, pageLine, pageLineAt, written}
 
 -- the first n lines, of a line for each place
 unfoldable pub given : (ℕ → PageLine) → ℕ → List PageLine
@@ -66,16 +66,16 @@ module _ (line : ℕ → PageLine) where
 
 module _ (rows : List Row) (from : ℕ) where
   -- the lines of the n rows from `from` on
-  listed : (n : ℕ) → from + n ≤ length rows → given (lineAt rows from) n ≡ map pageLine (map rowLine (take n (drop from rows)))
-  unfolding given lineAt
+  listed : (n : ℕ) → from + n ≤ length rows → given (pageLineAt rows from) n ≡ map pageLine (map rowLine (take n (drop from rows)))
+  unfolding given pageLineAt
   listed zero h = refl
   listed (suc n) h =
       let within : n < length (drop from rows) = omega (arith, length-drop from rows) in
-      ap (λ (l : List PageLine). l ++ (lineAt rows from n ∷ [])) (listed n (omega arith))
+      ap (λ (l : List PageLine). l ++ (pageLineAt rows from n ∷ [])) (listed n (omega arith))
       ∙ sym (ap (λ (l : List Row). map pageLine (map rowLine l)) (take-suc (drop from rows) n [] within)
       ∙ ap (map pageLine) (map-append rowLine (take n (drop from rows)) (getD (drop from rows) n [] ∷ []))
       ∙ map-append pageLine (map rowLine (take n (drop from rows))) (rowLine (getD (drop from rows) n []) ∷ [])
       ∙ ap (λ (w : Row). map pageLine (map rowLine (take n (drop from rows))) ++ (pageLine (rowLine w) ∷ [])) (getD-drop from rows n []))
 
-  pub filled-is : (lines : List Line) (ys : List PageLine) (n : ℕ) → from + n ≤ length rows → lines ≡ map rowLine (take n (drop from rows)) → n ≡ length lines → filled (lineAt rows from) ys n ≡ written lines ys
+  pub filled-is : (lines : List Line) (ys : List PageLine) (n : ℕ) → from + n ≤ length rows → lines ≡ map rowLine (take n (drop from rows)) → n ≡ length lines → filled (pageLineAt rows from) ys n ≡ written lines ys
   filled-is lines ys n h is len = ap (λ (l : List PageLine). l ++ drop n ys) (listed n h ∙ ap (map pageLine) (sym is)) ∙ ap (λ (k : ℕ). map pageLine lines ++ drop k ys) len

@@ -1,6 +1,6 @@
 -- The bytes of a sound state's used rows are those that the definitions count, and what the code goes by. Assumes nothing.
-use mathlib.Core.Path.{_≡_, refl, sym, ap, ap₂, _∙_}
-use mathlib.Core.Bool.{Bool, true, false}
+use mathlib.Core.Path.{_≡_, refl, sym, ap, _∙_}
+use mathlib.Core.Bool.{true, false}
 use mathlib.Core.List.{List, _++_, map}
 use Prim.Native.Nat.{ℕ, _+_, _≤_}
 use native.Mathlib.Omega.{arith}
@@ -9,7 +9,7 @@ use lib.Dec.{leb, eqb}
 use lib.ListN.{length, take, drop}
 use Rattle.entry.specs.Entry.{entryOf}
 use Rattle.definition.specs.Base.{every, all, distinct}
-use Rattle.definition.specs.Types.{Kind, Entry, Dest}
+use Rattle.definition.specs.Types.{Kind, Entry}
 use Rattle.definition.specs.Calls.{entryOk, bound, seqs, consumerRows, allRows, sizesAgree}
 use Rattle.definition.specs.Queries.{bytes, bytesOf, bytesHeld}
 use Rattle.definition.specs.Words.{at, kindBy}

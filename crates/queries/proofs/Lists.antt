@@ -1,20 +1,15 @@
 -- Laws of lists: whether one is empty, an element at a place, and a part of a front of one, mapped. Assumes nothing.
 use mathlib.Core.Path.{_≡_, refl, sym, ap, _∙_}
-use mathlib.Core.List.{List, [], _∷_, map}
+use mathlib.Core.List.{List, [], _∷_}
 use mathlib.Core.Option.{none, some}
 use Prim.Native.Nat.{ℕ, zero, suc, _-_, _≤_, _<_, min}
 use native.Mathlib.Nat.{suc-sub-suc}
 use native.Mathlib.Omega.{arith}
-use lib.Dec.{eqb, eqb·suc-zero}
 use lib.ListN.{length, take, drop, getD}
 use lib.Seq.{take-nil}
-use Rattle.definition.specs.Base.{empty, nth}
+use Rattle.definition.specs.Base.{nth}
 
 module _ {A : Type 0} where
-  pub empty-length : (l : List A) → empty l ≡ eqb (length l) 0
-  empty-length [] = refl
-  empty-length (x ∷ l) = sym (eqb·suc-zero (length l))
-
   pub nth-past : (i : ℕ) (l : List A) → length l ≤ i → nth i l ≡ none
   nth-past i [] h = refl
   nth-past zero (x ∷ l) h = absurd (omega arith)
@@ -42,18 +37,3 @@ module _ {A : Type 0} where
       take-nil m ∙ sym (ap (λ (j : ℕ). take j (drop (suc k) l)) e)
   take-part m (suc n) (suc k) [] = take-nil m ∙ sym (take-nil (min m (suc n - suc k)))
   take-part m (suc n) (suc k) (x ∷ l) = take-part m n k l ∙ ap (λ (j : ℕ). take (min m j) (drop k l)) (sym (suc-sub-suc n k))
-
-module _ {A B : Type 0} (f : A → B) where
-  pub map-take : (n : ℕ) (l : List A) → take n (map f l) ≡ map f (take n l)
-  map-take zero l = refl
-  map-take (suc n) [] = refl
-  map-take (suc n) (x ∷ l) = ap (λ (r : List B). f x ∷ r) (map-take n l)
-
-  pub map-drop : (n : ℕ) (l : List A) → drop n (map f l) ≡ map f (drop n l)
-  map-drop zero l = refl
-  map-drop (suc n) [] = refl
-  map-drop (suc n) (x ∷ l) = map-drop n l
-
-pub map-map : {A B C : Type 0} (g : B → C) (f : A → B) (l : List A) → map g (map f l) ≡ map (λ x. g (f x)) l
-map-map g f [] = refl
-map-map {C = C} g f (x ∷ l) = ap (λ (r : List C). g (f x) ∷ r) (map-map g f l)

@@ -1,7 +1,7 @@
 -- A page by the numbers of a destination: which rows its lines are of. Assumes nothing.
 use mathlib.Core.Path.{_≡_, refl, sym, ap, ap₂, _∙_}
 use mathlib.Core.Bool.{Bool, false}
-use mathlib.Core.List.{List, [], map}
+use mathlib.Core.List.{List, [], map, map-map}
 use Prim.Native.Nat.{ℕ, _+_, _-_, _≤_, _<_, min}
 use native.Mathlib.Omega.{arith}
 use borrow.Author.Tests.{lt-ltb, le-ltb, ne-eqb}
@@ -15,14 +15,15 @@ use Rattle.definition.specs.Calls.{stateShort}
 use Rattle.definition.specs.Queries.{Line, lineOf, pageEntries, queryRefusal, Page, page}
 use Rattle.definition.specs.Layout.{Row, Buffers, usedRows, view, lengthsOf, bufferPage}
 use Rattle.definition.proofs.Tests.{by-test}
+use Rattle.definition.proofs.Lists.{map-take, map-drop}
 use Rattle.sound.specs.Sound.{lent}
 use Rattle.state.specs.declared.Head.{Head}
 use Rattle.state.specs.State.{headOf, loaded}
 use Rattle.state.specs.State as State
 use Rattle.queries.specs.declared.PagePlan.{PagePlan}
 use Rattle.queries.specs.Answers.{barred}
-use Rattle.queries.specs.Pages.{rowLine, firstWaiting, asPlan, Planned}
-use Rattle.queries.proofs.Lists.{take-part, map-take, map-drop, map-map}
+use Rattle.queries.specs.Pages.{rowLine, bufferFirstWaiting, asPlan, PagePlanned}
+use Rattle.queries.proofs.Lists.{take-part}
 use Rattle.queries.proofs.Opened.{barred-cases, d-is, shown}
 use Rattle.queries.proofs.Answered.{in-rows, waits, waiting-count}
 
@@ -34,7 +35,7 @@ noPlan k = record { refusal = k; total = 0; from = 0; count = 0 }
 
 -- both promises of `plan`
 abbrev pub Plans : ℕ → Page → List Row → ℕ → PagePlan → Type 0
-Plans from p rows room r = (r ≡ asPlan from p) × Planned p rows room r
+Plans from p rows room r = (r ≡ asPlan from p) × PagePlanned p rows room r
 
 no-lines : (k from : ℕ) (p : Page) (rows : List Row) (room : ℕ) (r : PagePlan) → p ≡ none k → r ≡ noPlan k → Plans from p rows room r
 no-lines k from p rows room r e q = rw (e, q) (refl, record { lines = refl; in-rows = omega arith; in-room = omega arith })
@@ -47,7 +48,7 @@ module _ (h : List ℕ) (subs rows : List Row) (room offset limit : ℕ) where
   paged = bufferPage b room offset limit
 
   abbrev start : ℕ
-  start = firstWaiting b + offset
+  start = bufferFirstWaiting b + offset
 
   short-list : room < 50 → paged ≡ none 1
   unfolding bufferPage page queryRefusal

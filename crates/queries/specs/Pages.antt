@@ -22,12 +22,12 @@ abbrev pub pageLine : Line → PageLine
 pageLine l = record { seq = l .seq; expiration = l .expiration; redelivery = l .redelivery }
 
 -- the line of the row at place i after `from`; past the rows, zeros
-unfoldable pub lineAt : List Row → ℕ → ℕ → PageLine
-lineAt rows from i = pageLine (rowLine (getD rows (from + i) []))
+unfoldable pub pageLineAt : List Row → ℕ → ℕ → PageLine
+pageLineAt rows from i = pageLine (rowLine (getD rows (from + i) []))
 
 -- the first of the rows that wait on the queue
-abbrev pub firstWaiting : Buffers → ℕ
-firstWaiting b = subRows (usedSubs b) + at 15 (b .head)
+abbrev pub bufferFirstWaiting : Buffers → ℕ
+bufferFirstWaiting b = subRows (usedSubs b) + at 15 (b .head)
 
 -- a page whose lines stand from this row on; where there is none, from 0
 abbrev pub asPlan : ℕ → Page → PagePlan
@@ -39,7 +39,7 @@ asPlan from p = record {
 }
 
 -- the rows that a plan names are those of the page's lines, and there is room
-pub record Planned (p : Page) (rows : List Row) (room : ℕ) (r : PagePlan) : Type 0 where
+pub record PagePlanned (p : Page) (rows : List Row) (room : ℕ) (r : PagePlan) : Type 0 where
   pub lines : p .lines ≡ map rowLine (take (r .count) (drop (r .from) rows))
   pub in-rows : r .from + r .count ≤ length rows
   pub in-room : r .count ≤ room

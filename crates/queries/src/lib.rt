@@ -14,7 +14,7 @@ ghost use Rattle.copies.specs.Copies.{Slot, sharedBy};
 ghost use Rattle.sound.specs.Sound.{lent};
 ghost use Rattle.queries.specs.Answers.{asAsked, asCounted, barred, lasts, subLasts, isIdle};
 ghost use Rattle.queries.specs.Bytes.{bytesAt, sizesOf, Small};
-ghost use Rattle.queries.specs.Pages.{firstWaiting, asPlan, Planned, lineAt};
+ghost use Rattle.queries.specs.Pages.{bufferFirstWaiting, asPlan, PagePlanned, pageLineAt};
 use consumers::BROWSER;
 use consumers::HELD;
 use consumers::INFLIGHT;
@@ -452,8 +452,8 @@ pub fn plan(
     offset: u64,
     limit: u64,
 ) -> PagePlan
-    ensures { λ r. ⌜ r ≡ asPlan (firstWaiting (lent (now (head .entry)) (now (subs .entry)) (now (rows .entry))) + offset) (bufferPage (lent (now (head .entry)) (now (subs .entry)) (now (rows .entry))) lines offset limit) ⌝ }
-    ensures { λ r. ⌜ Planned (bufferPage (lent (now (head .entry)) (now (subs .entry)) (now (rows .entry))) lines offset limit) (now (rows .entry)) lines r ⌝ }
+    ensures { λ r. ⌜ r ≡ asPlan (bufferFirstWaiting (lent (now (head .entry)) (now (subs .entry)) (now (rows .entry))) + offset) (bufferPage (lent (now (head .entry)) (now (subs .entry)) (now (rows .entry))) lines offset limit) ⌝ }
+    ensures { λ r. ⌜ PagePlanned (bufferPage (lent (now (head .entry)) (now (subs .entry)) (now (rows .entry))) lines offset limit) (now (rows .entry)) lines r ⌝ }
 {
     if lines < PAGE_MAX {
         return no_plan(1);
@@ -484,7 +484,7 @@ pub fn plan(
 
 // The line of the row at `i` after `from`; past the rows, zeros.
 pub fn line_at(rows: &[Row], from: usize, i: usize) -> PageLine
-    ensures { λ r. ⌜ r ≡ lineAt (now (rows .entry)) from i ⌝ }
+    ensures { λ r. ⌜ r ≡ pageLineAt (now (rows .entry)) from i ⌝ }
 {
     if from < rows.len() {
         if i < rows.len() - from {

@@ -3,17 +3,13 @@ use mathlib.Core.Path.{_≡_, sym, ap, _∙_}
 use mathlib.Core.Bool.{Bool, true, false, not, _&&_}
 use Prim.Native.Nat.{ℕ, _-_, _%_, _≤_, _<_}
 use native.Mathlib.Nat.{mod-eq-of-lt, mod-eq-sub-mod}
-use lib.ListN.{getD}
-use mir.Syntax.{w32}
-use mir.Val.{SFits}
-use Rattle.words.proofs.Words.{int-fits}
-use Rattle.entry.specs.Entry.{entryOf, rowOf}
+use Rattle.entry.specs.Entry.{rowOf}
 use Rattle.entry.proofs.Rows.{EntryFits, entry-of-row}
 use Rattle.definition.specs.Types.{Entry}
 use Rattle.definition.specs.Consumer.{inflightOf}
 use Rattle.definition.specs.Layout.{Row, inflightAt}
 use Rattle.consumers.specs.declared.Sub.{Sub}
-use Rattle.consumers.specs.Consumers.{subOf, creditOf}
+use Rattle.consumers.specs.Consumers.{rowSub, creditOf}
 use Rattle.queues.specs.Scan.{canTake}
 
 -- a row as it goes out
@@ -21,17 +17,13 @@ pub flown : (e : Entry) (n : ℕ) → EntryFits e → inflightAt (rowOf e n 0 0)
 unfolding rowOf
 flown e n f = λ j. record { dseq = n; entry = entry-of-row e n 0 0 f j; freed = false; tx = false }
 
-pub redelivery-fits : (w : Row) → SFits w32 (entryOf w .redelivery)
-unfolding entryOf
-redelivery-fits w = int-fits (getD w 5 0)
-
 -- the consumer of a row, with the row's tests
-module _ (w : Row) (s : Sub) (is : s ≡ subOf w) where
+module _ (w : Row) (s : Sub) (is : s ≡ rowSub w) where
   pub takes-open : not (s .browser) ≡ true → creditOf s ≡ canTake w
-  takes-open h = ap creditOf is ∙ sym (ap (λ (b : Bool). b && creditOf (subOf w)) (ap (λ (x : Sub). not (x .browser)) (sym is) ∙ h))
+  takes-open h = ap creditOf is ∙ sym (ap (λ (b : Bool). b && creditOf (rowSub w)) (ap (λ (x : Sub). not (x .browser)) (sym is) ∙ h))
 
   pub takes-browser : not (s .browser) ≡ false → false ≡ canTake w
-  takes-browser h = sym (ap (λ (b : Bool). b && creditOf (subOf w)) (ap (λ (x : Sub). not (x .browser)) (sym is) ∙ h))
+  takes-browser h = sym (ap (λ (b : Bool). b && creditOf (rowSub w)) (ap (λ (x : Sub). not (x .browser)) (sym is) ∙ h))
 
 -- a remainder by one subtraction
 pub turned-once : (x n : ℕ) → x - n < n → n ≤ x → x - n ≡ x % n

@@ -2,9 +2,9 @@
 use mathlib.Core.Path.{_≡_, sym, _∙_}
 use mathlib.Core.Bool.{Bool, true, _&&_}
 use mathlib.Core.List.{List, [], _∷_}
-use Prim.Native.Nat.{ℕ, _+_, _-_, _≤_, _^_, min}
+use Prim.Native.Nat.{ℕ, _+_, _≤_, _^_, min}
 use native.Mathlib.Omega.{arith}
-use borrow.Author.Tests.{leb-true, leb-false, eqb-true, eqb-false, le-leb, lt-leb, eq-eqb, ne-eqb}
+use borrow.Author.Tests.{leb-true, eqb-true, eqb-false, le-leb, eq-eqb, ne-eqb}
 use lib.Dec.{leb, eqb}
 use lib.ListN.{length, take}
 use Rattle.words.proofs.Tests.{by-test}
@@ -15,13 +15,8 @@ use Rattle.definition.proofs.Tests.{and-left, and-right, and-both}
 use Rattle.definition.proofs.Thin.{every-all, all-every}
 use Rattle.consumers.proofs.Strict.{all-weaker}
 use Rattle.state.specs.declared.Head.{Head}
-use Rattle.queues.specs.Scan.{tablesFit, countersFit, rowsFit, nextFits, nextRoom, scans, Scans}
-
--- a ≤ b - c, where c is no more than b
-pub leb-less : (a b c : ℕ) → c ≤ b → leb a (b - c) ≡ leb (a + c) b
-leb-less a b c h = by-test (leb (a + c) b)
-    (λ t. le-leb a (b - c) (omega (arith, leb-true (a + c) b t)) ∙ sym t)
-    (λ t. lt-leb a (b - c) (omega (arith, leb-false (a + c) b t)) ∙ sym t)
+use Rattle.consumers.specs.Table.{nextFits}
+use Rattle.queues.specs.Scan.{scanTables, scanCounters, rowsFit, nextRoom, scans, Scans}
 
 -- a sum up to 513 is no more than 512 only where it is the sum
 pub eqb-capped : (a b u : ℕ) → u ≤ 512 → eqb (min 513 a + b) u ≡ eqb (a + b) u
@@ -34,15 +29,15 @@ module _ (now : ℕ) (subs : List Row) (d : Head) (rows events : ℕ) where
   tables = leb 32 (length subs) ∷ leb 512 rows ∷ leb (d .consumers) 32 ∷ leb (d .turn) 32 ∷ leb (d .events + d .waiting) events ∷ []
 
   abbrev tests : List Bool
-  tests = leb now (2 ^ 62) ∷ d .queue ∷ every tables ∷ countersFit (d .stats) ∷ rowsFit subs d ∷ all nextFits (take (d .consumers) subs) ∷ []
+  tests = leb now (2 ^ 62) ∷ d .queue ∷ every tables ∷ scanCounters (d .stats) ∷ rowsFit subs d ∷ all nextFits (take (d .consumers) subs) ∷ []
 
   -- test by test
-  pub scans-by : {a b t u v : Bool} → leb now (2 ^ 62) ≡ a → d .queue ≡ b → tablesFit d (length subs) rows events ≡ t → countersFit (d .stats) ≡ u → rowsFit subs d ≡ v
+  pub scans-by : {a b t u v : Bool} → leb now (2 ^ 62) ≡ a → d .queue ≡ b → scanTables d (length subs) rows events ≡ t → scanCounters (d .stats) ≡ u → rowsFit subs d ≡ v
       → scans now subs d rows events ≡ (a && (b && (t && (u && (v && (all nextFits (take (d .consumers) subs) && true))))))
   unfolding scans
   scans-by p q r s e = λ j. p j && (q j && (r j && (s j && (e j && (all nextFits (take (d .consumers) subs) && true)))))
 
-  pub tables-long : tablesFit d (length subs) rows events ≡ true → d .consumers ≤ length subs
+  pub tables-long : scanTables d (length subs) rows events ≡ true → d .consumers ≤ length subs
   tables-long h = let f = every-all tables h in omega (arith, leb-true 32 (length subs) (f .0), leb-true (d .consumers) 32 (f .1 .1 .0))
 
   -- as facts

@@ -3,7 +3,6 @@ pub mod Looking
 pub mod Giving
 pub mod Onward
 pub mod Visiting
-pub mod Empty
 pub mod Scanning
 pub mod Guard
 pub mod Parts

@@ -25,6 +25,7 @@ use Rattle.definition.specs.Destination.{Look, passing, losing, look}
 use Rattle.definition.specs.Words.{at}
 use Rattle.definition.specs.Layout.{Row, entryStrict}
 use Rattle.definition.proofs.Tests.{or-no-left, or-no-right}
+use Rattle.definition.proofs.Lists.{length-nil}
 use Rattle.table.specs.Table.{closeGap}
 use Rattle.table.proofs.Lists.{parts}
 use Rattle.table.proofs.Laws.{close-parts, close-length}
@@ -98,10 +99,6 @@ cons : (l : List Row) → 0 < length l → Cons l
 cons [] h = absurd (omega arith)
 cons (x ∷ l) h = record { head = x; tail = l; is = refl }
 
-pub nil : {A : Type 0} (l : List A) → length l ≡ 0 → l ≡ []
-nil [] h = refl
-nil (x ∷ l) h = absurd (omega arith)
-
 module _ (now : ℕ) (s : Sub) (from to : ℕ) (rows₀ : List Row) (f : from ≤ to) (t : to ≤ length rows₀) where
   abbrev first : List Row
   first = take from rows₀
@@ -134,7 +131,7 @@ module _ (now : ℕ) (s : Sub) (from to : ℕ) (rows₀ : List Row) (f : from �
     pub looking-none : end ≤ i → Missed now s from to rows₀ rows end cursor
     unfolding look
     looking-none h =
-        let none-left : g .rest ≡ [] = nil (g .rest) (omega (arith, g .last)) in
+        let none-left : g .rest ≡ [] = length-nil (g .rest) (omega (arith, g .last)) in
         record {
           left = g .passed;
           spare = g .spare;

@@ -1,11 +1,9 @@
 -- Turns one after the other: what the numbers may become, and what stays. Assumes nothing.
-use mathlib.Core.Path.{_≡_, refl, ap, sym, _∙_}
+use mathlib.Core.Path.{refl, _∙_}
 use mathlib.Core.List.{List}
-use Prim.Native.Nat.{ℕ, _+_, _-_, _≤_}
 use native.Mathlib.Omega.{arith}
-use lib.ListN.{drop}
-use lib.Seq.{drop-drop}
 use Rattle.definition.specs.Layout.{Row}
+use Rattle.definition.proofs.Lists.{agree-later}
 use Rattle.state.specs.declared.Head.{Head}
 use Rattle.queues.specs.Scan.{Onward}
 
@@ -33,12 +31,6 @@ onward-same d subs rows events = record {
   events-length = refl;
 }
 
--- lists that agree from a place on agree from a later one on
-rise : (m n : ℕ) (x y : List Row) → m ≤ n → drop m x ≡ drop m y → drop n x ≡ drop n y
-rise m n x y h q =
-    let e : m + (n - m) ≡ n = omega arith in
-    ap (λ (k : ℕ). drop k x) (sym e) ∙ sym (drop-drop (n - m) m x) ∙ ap (drop (n - m)) q ∙ drop-drop (n - m) m y ∙ ap (λ (k : ℕ). drop k y) e
-
 pub onward-then : (d₀ d r : Head) (subs₀ rows₀ events₀ subs rows events subs′ rows′ events′ : List Row)
     → Onward d₀ d subs₀ rows₀ events₀ subs rows events → Onward d r subs rows events subs′ rows′ events′ → Onward d₀ r subs₀ rows₀ events₀ subs′ rows′ events′
 onward-then d₀ d r subs₀ rows₀ events₀ subs rows events subs′ rows′ events′ o p = record {
@@ -56,7 +48,7 @@ onward-then d₀ d r subs₀ rows₀ events₀ subs rows events subs′ rows′ 
   expired = omega arith;
   dispatched = omega arith;
   strict = λ h. p .strict (o .strict h);
-  later = p .later ∙ rise (d .events) (r .events) events events₀ (p .more) (o .later);
+  later = p .later ∙ agree-later (d .events) (r .events) events events₀ (p .more) (o .later);
   subs-past = p .subs-past ∙ o .subs-past;
   rows-past = p .rows-past ∙ o .rows-past;
   subs-length = p .subs-length ∙ o .subs-length;

@@ -14,15 +14,14 @@ use Rattle.definition.specs.Types.{Id, Audit, Dest, Event}
 use Rattle.definition.specs.Destination.{Out, Turn, visit, scan, turns, rounds}
 use Rattle.definition.specs.Layout.{Row, subRows, eventWords}
 use Rattle.definition.proofs.Tests.{if-true}
-use Rattle.definition.proofs.Lists.{empty-nil}
+use Rattle.definition.proofs.Lists.{empty-nil, length-nil}
+use Rattle.definition.proofs.Local.{rounds-none}
 use Rattle.consumers.proofs.View.{subs-length}
 use Rattle.state.specs.declared.Head.{Head}
 use Rattle.state.specs.State.{headView, kindBy}
 use Rattle.state.specs.Leaves.{Leaves}
 use Rattle.queues.specs.Scan.{served, Scans, Onward, Visited}
-use Rattle.queues.proofs.Looking.{nil}
 use Rattle.queues.proofs.Onward.{onward-same, onward-then}
-use Rattle.queues.proofs.Empty.{rounds-none}
 
 -- ---- the definition
 
@@ -218,7 +217,7 @@ module _ (now : ℕ) (subs₀ rows₀ events₀ : List Row) (d₀ : Head) (subs 
     pub going-empty : d .waiting ≤ 0 → Leaves (served now) d₀ d subs₀ rows₀ events₀ subs rows events × Onward d₀ d subs₀ rows₀ events₀ subs rows events
     going-empty h =
         let none-left : (ps : List Id) (qs : List Audit) → headView d subs rows ps qs .pending ≡ [] =
-        λ ps qs. nil (headView d subs rows ps qs .pending) (pending-are d subs rows (length events) (g .scans) ps qs ∙ omega arith) in
+        λ ps qs. length-nil (headView d subs rows ps qs .pending) (pending-are d subs rows (length events) (g .scans) ps qs ∙ omega arith) in
         (leaves (g .scans) (g .onward) (λ ps qs. rest (take (d .events) events) (headView d subs rows ps qs) (rounds (suc (g .fuel)) now (headView d subs rows ps qs)) (rounds-none (suc (g .fuel)) now (headView d subs rows ps qs) (none-left ps qs)) ∙ g .says ps qs), g .onward)
 
 -- a scan from there on

@@ -1,11 +1,11 @@
 -- A queue in the parts of its table: the consumers' rows, reserved ones, waiting ones, and those not in use. Assumes nothing.
-use mathlib.Core.Path.{_≡_, refl, sym, ap, ap₂, _∙_}
+use mathlib.Core.Path.{_≡_, sym, ap, ap₂, _∙_}
 use mathlib.Core.Bool.{Bool, true, _&&_}
 use mathlib.Core.List.{List, [], _∷_, _++_, append-assoc, map}
 use mathlib.Core.Option.{none, some}
 use Prim.Native.Nat.{ℕ, zero, suc, _+_, _-_, _≤_, _<_}
 use native.Mathlib.Omega.{arith}
-use lib.ListN.{length, take, drop, getD, set, length-append, length-drop}
+use lib.ListN.{length, take, drop, getD, length-append, length-drop}
 use lib.Seq.{take-at, drop-at, drop-drop}
 use Rattle.words.specs.Pick.{if_then_else_}
 use Rattle.entry.specs.Entry.{entryOf}
@@ -90,11 +90,6 @@ module _ (u : ℕ) (x rows : List Row) (e : length x ≡ u) (l : u ≤ length ro
 -- ---- a test of every consumer, or of every row
 
 module _ {A : Type 0} where
-  pub all-set : (p : A → Bool) (l : List A) (i : ℕ) (x : A) → all p l ≡ true → p x ≡ true → all p (set l i x) ≡ true
-  all-set p [] i x h k = refl
-  all-set p (y ∷ l) zero x h k = and-both (p x) (all p l) k (and-right (p y) (all p l) h)
-  all-set p (y ∷ l) (suc i) x h k = and-both (p y) (all p (set l i x)) (and-left (p y) (all p l) h) (all-set p l i x (and-right (p y) (all p l) h) k)
-
   pub all-without : (p : A → Bool) (l : List A) (x : A) (m : List A) → all p (l ++ x ∷ m) ≡ true → all p (l ++ m) ≡ true
   all-without p [] x m h = and-right (p x) (all p m) h
   all-without p (y ∷ l) x m h = and-both (p y) (all p (l ++ m)) (and-left (p y) (all p (l ++ x ∷ m)) h) (all-without p l x m (and-right (p y) (all p (l ++ x ∷ m)) h))

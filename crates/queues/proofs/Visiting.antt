@@ -20,27 +20,27 @@ use Rattle.definition.specs.Consumer.{_⊕_, addExpired, addDispatched, isBrows
 use Rattle.definition.specs.Consumer as Consumer
 use Rattle.definition.specs.Destination.{Look, look, given, visitAt, visit}
 use Rattle.definition.specs.Words.{at}
-use Rattle.definition.specs.Layout.{Row, inflightAt, inflightOf, heldOf, subsAt, subRows, eventWords, entryStrict, flyingStrict, subsStrict}
+use Rattle.definition.specs.Layout.{Row, inflightAt, inflightCount, heldCount, subsAt, subRows, eventWords, entryStrict, flyingStrict, subsStrict}
 use Rattle.definition.proofs.Tests.{and-left, and-right, and-both}
-use Rattle.definition.proofs.Lists.{all-append, all-end}
+use Rattle.definition.proofs.Lists.{all-append, all-end, all-stored}
 use Rattle.table.specs.Table.{insertRow}
 use Rattle.table.proofs.Lists.{parts}
 use Rattle.table.proofs.Laws.{insert-parts}
 use Rattle.consumers.specs.declared.Sub.{Sub}
-use Rattle.consumers.specs.Consumers.{subOf, subWords, subView, creditOf}
+use Rattle.consumers.specs.Consumers.{rowSub, subWords, subView, creditOf, sentSub}
 use Rattle.consumers.specs.Seats.{flyingIn, heldIn, afterIn}
 use Rattle.consumers.proofs.View.{sub-at, sub-stored, subs-length, subs-nth, subs-put, subs-reword, rows-parts, rows-set, rows-split, rows-take, flying-length, held-length}
 use Rattle.consumers.proofs.Laws.{credit, browser-sub, accepts-sub}
 use Rattle.consumers.proofs.Strict.{all-left, all-right, all-weaker, stored-strict, strict-at, strict-put, strict-reword}
 use Rattle.state.specs.declared.Head.{Head}
-use Rattle.state.specs.State.{headView, strictTables, firstWaiting, withStats, withTurn, withWaiting, withUsed, withEvents}
+use Rattle.state.specs.State.{headView, strictTables, firstWaiting, withCounters, withTurn, withWaiting, withUsed, withEvents}
 use Rattle.state.proofs.Counts.{expired-plain, dispatched-plain}
 use Rattle.state.proofs.Events.{events-up-to, events-after}
 use Rattle.queues.specs.Look.{lone, Found, Missed}
-use Rattle.queues.specs.Give.{lookedHead, gaveHead, movedSub, sentSub, Gives, Gave}
+use Rattle.queues.specs.Give.{lookedHead, gaveHead, movedSub, Gives, Gave}
 use Rattle.queues.specs.Scan.{canTake, nextRoom, Scans, Onward, Visited}
 use Rattle.queues.proofs.Looking.{look-same}
-use Rattle.queues.proofs.Viewing.{partsView, view-parts, strict-parts, behind-length, behind-past, all-set, all-without, all-at}
+use Rattle.queues.proofs.Viewing.{partsView, view-parts, strict-parts, behind-length, behind-past, all-without, all-at}
 use Rattle.queues.proofs.Onward.{onward-same}
 
 -- ---- the definition
@@ -58,7 +58,7 @@ module _ (now i : ℕ) (t : Dest) (s : Def.Sub) (there : nth i (t .subs) ≡ som
 
 -- other counters, turn, waiting rows, events and rows in use
 abbrev turnedHead : Stats → ℕ → ℕ → ℕ → ℕ → Head → Head
-turnedHead stats turn n events used d = withStats stats (withTurn turn (withWaiting n (withEvents events (withUsed used d))))
+turnedHead stats turn n events used d = withCounters stats (withTurn turn (withWaiting n (withEvents events (withUsed used d))))
 
 -- after a look that left so many waiting rows, up to the end, and so many spare ones
 abbrev missedHead : ℕ → ℕ → ℕ → Head → Head
@@ -72,14 +72,14 @@ module _ (d : Head) (end k n : ℕ) (size : end + k ≡ d .used) (waits : n + k 
   looked-plain =
       let gone : d .used - end ≡ k = omega arith in
       let left : d .waiting - k ≡ n = omega arith in
-      ap (λ (x : ℕ). withStats (withExpiredBy (d .stats) x) (withWaiting (d .waiting - x) (withUsed end d))) gone
-      ∙ ap₂ (λ (x : Stats) (y : ℕ). withStats x (withWaiting y (withUsed end d))) (expired-plain (d .stats) k (omega arith)) left
+      ap (λ (x : ℕ). withCounters (withExpiredBy (d .stats) x) (withWaiting (d .waiting - x) (withUsed end d))) gone
+      ∙ ap₂ (λ (x : Stats) (y : ℕ). withCounters x (withWaiting y (withUsed end d))) (expired-plain (d .stats) k (omega arith)) left
 
   gave-plain : (i m : ℕ) → suc m ≡ n → d .stats .dispatched + d .waiting ≤ 2 ^ 63 → gaveHead i (lookedHead end d) ≡ foundHead i k m end d
   gave-plain i m e less =
       let one : n - 1 ≡ m = omega arith in
       ap (gaveHead i) looked-plain
-      ∙ ap₂ (λ (x : Stats) (y : ℕ). withStats x (withTurn ((i + 1) % d .consumers) (withWaiting y (withEvents (d .events + 1) (withUsed end d))))) (dispatched-plain (d .stats ⊕ addExpired k) (omega arith)) one
+      ∙ ap₂ (λ (x : Stats) (y : ℕ). withCounters x (withTurn ((i + 1) % d .consumers) (withWaiting y (withEvents (d .events + 1) (withUsed end d))))) (dispatched-plain (d .stats ⊕ addExpired k) (omega arith)) one
 
 -- ---- the tables before the turn
 
@@ -91,7 +91,7 @@ module _ (now i : ℕ) (d : Head) (subs rows events : List Row) (ok : Scans subs
   w = getD subs i []
 
   abbrev s : Sub
-  s = subOf w
+  s = rowSub w
 
   abbrev from : ℕ
   from = firstWaiting d
@@ -164,15 +164,15 @@ module _ (now i : ℕ) (d : Head) (subs rows events : List Row) (ok : Scans subs
 
   -- the consumer
   flying-is : length flying ≡ s .inflight
-  unfolding subOf
-  flying-is = flying-length ws a i in-ws (omega (arith, a-length)) ∙ ap inflightOf row-is
+  unfolding rowSub
+  flying-is = flying-length ws a i in-ws (omega (arith, a-length)) ∙ ap inflightCount row-is
 
   held-is : length held ≡ s .held
-  unfolding subOf
-  held-is = held-length ws a i in-ws (omega (arith, a-length)) ∙ ap heldOf row-is
+  unfolding rowSub
+  held-is = held-length ws a i in-ws (omega (arith, a-length)) ∙ ap heldCount row-is
 
   nth-is : nth i (subsAt queue ws a) ≡ some S
-  nth-is = subs-nth queue ws a i in-ws ∙ ap some (sub-at queue (getD ws i []) flying held ∙ ap (λ (x : Row). subView queue (subOf x) flying held) row-is)
+  nth-is = subs-nth queue ws a i in-ws ∙ ap some (sub-at queue (getD ws i []) flying held ∙ ap (λ (x : Row). subView queue (rowSub x) flying held) row-is)
 
   -- the next delivery numbers have room
   next-at : at 8 w + d .waiting ≤ 2 ^ 63
@@ -244,7 +244,7 @@ module _ (now i : ℕ) (d : Head) (subs rows events : List Row) (ok : Scans subs
 
       turned-next : all (nextRoom (length left)) (take (d .consumers) (set subs i w′)) ≡ true
       turned-next = ap (all (nextRoom (length left))) ws-now
-          ∙ all-set (nextRoom (length left)) ws i w′ (next-less (length left) (f .waits)) (le-leb (at 8 w′ + length left) (2 ^ 63) (f .numbered))
+          ∙ all-stored (nextRoom (length left)) ws i w′ (next-less (length left) (f .waits)) (le-leb (at 8 w′ + length left) (2 ^ 63) (f .numbered))
 
       turned-scans : Scans (set subs i w′) after (length rows′) (length events′)
       turned-scans = record {
@@ -336,11 +336,11 @@ module _ (now i : ℕ) (d : Head) (subs rows events : List Row) (ok : Scans subs
       left-is = let u = ok .rows-used in let x = m .last in let y = m .size in omega (arith, from-is)
 
       rows-same : subRows (set ws i (subWords t)) ≡ subRows ws
-      unfolding subWords subOf
-      rows-same = omega (arith, rows-set ws i (subWords t) in-ws, rows-split ws i in-ws, ap inflightOf row-is, ap heldOf row-is)
+      unfolding subWords rowSub
+      rows-same = omega (arith, rows-set ws i (subWords t) in-ws, rows-split ws i in-ws, ap inflightCount row-is, ap heldCount row-is)
 
       missed : Turned (subWords t) a (m .left) (m .spare) rows′ events (d .stats ⊕ addExpired (length (m .spare))) (d .turn) (d .events) end
-      unfolding subWords subOf
+      unfolding subWords rowSub
       missed = let u = ok .rows-used in record {
         rows-are = m .parts ∙ ap (λ (x : List Row). x ++ (m .left ++ (m .spare ++ z))) first-is ∙ append-assoc a b (m .left ++ (m .spare ++ z));
         own-are = a-length ∙ sym rows-same;
@@ -353,15 +353,15 @@ module _ (now i : ℕ) (d : Head) (subs rows events : List Row) (ok : Scans subs
         expired = omega (arith, left-is);
         dispatched = omega (arith, left-is);
         numbered = omega (arith, next-at, left-is);
-        own-strict = strict-reword ws a i (subWords t) in-ws (ap inflightOf (sym row-is)) (ap heldOf (sym row-is)) (stored-strict t);
+        own-strict = strict-reword ws a i (subWords t) in-ws (ap inflightCount (sym row-is)) (ap heldCount (sym row-is)) (stored-strict t);
         left-strict = m .strict;
         later = refl;
         as-long = refl;
       }
 
       mine : subsAt queue (set ws i (subWords t)) a ≡ set (subsAt queue ws a) i (withCursor cursor S)
-      unfolding subWords subOf subView
-      mine = subs-reword queue ws a i (subWords t) in-ws (ap inflightOf (sym row-is)) (ap heldOf (sym row-is)) ∙ ap (set (subsAt queue ws a) i) (sub-stored queue t flying held)
+      unfolding subWords rowSub subView
+      mine = subs-reword queue ws a i (subWords t) in-ws (ap inflightCount (sym row-is)) (ap heldCount (sym row-is)) ∙ ap (set (subsAt queue ws a) i) (sub-stored queue t flying held)
 
       abbrev r : Head
       r = missedHead (length (m .spare)) (length (m .left)) end d
@@ -429,14 +429,14 @@ module _ (now i : ℕ) (d : Head) (subs rows events : List Row) (ok : Scans subs
       pre-length = length-take-le (subRows (take i ws)) a (omega (arith, a-length, rows-take ws i)) ∙ ap subRows before-is
 
       pub found-gives : Gives subs (length rows₁) (length events) i s place (lookedHead end d)
-      unfolding subOf
+      unfolding rowSub
       found-gives = rw head-is (record {
         waits = omega arith;
         place = let y = m .last in let v = m .size in let x = fits-rows in omega (arith, looked-length);
         rows = let y = m .last in let v = m .size in omega (arith, ok .used);
         room = omega (arith, rest-is, ok .events);
         next = omega (arith, next-at, rest-is);
-        flying = let u = ok .rows-used in omega (arith, ap subRows before-is, rows-split ws i in-ws, ap inflightOf row-is, ok .used);
+        flying = let u = ok .rows-used in omega (arith, ap subRows before-is, rows-split ws i in-ws, ap inflightCount row-is, ok .used);
         consumer = here;
         consumers = ok .consumers;
       })
@@ -444,7 +444,7 @@ module _ (now i : ℕ) (d : Head) (subs rows events : List Row) (ok : Scans subs
       -- it has gone out
       module _ (x : Row) (flies : inflightAt x ≡ Consumer.inflightOf (s .«next_dseq») e) (clean : flyingStrict x ≡ true) where
         abbrev u : Sub
-        u = sentSub (e .seq) s
+        u = sentSub (movedSub (e .seq) s)
 
         abbrev given-rows : List Row
         given-rows = insertRow (subRows (take i subs) + s .inflight) place x rows₁
@@ -476,8 +476,8 @@ module _ (now i : ℕ) (d : Head) (subs rows events : List Row) (ok : Scans subs
             ∙ simp append-assoc
 
         one-more : subRows (set ws i (subWords u)) ≡ subRows ws + 1
-        unfolding subWords subOf
-        one-more = omega (arith, rows-set ws i (subWords u) in-ws, rows-split ws i in-ws, ap inflightOf row-is, ap heldOf row-is)
+        unfolding subWords rowSub
+        one-more = omega (arith, rows-set ws i (subWords u) in-ws, rows-split ws i in-ws, ap inflightCount row-is, ap heldCount row-is)
 
         given-strict : subsStrict ws a ≡ true → subsStrict (set ws i (subWords u)) own ≡ true
         unfolding subWords
@@ -490,7 +490,7 @@ module _ (now i : ℕ) (d : Head) (subs rows events : List Row) (ok : Scans subs
         found-turn = mod-lt (i + 1) (omega arith)
 
         found : Turned (subWords u) own rest (m .spare) given-rows given-events ((d .stats ⊕ addExpired (length (m .spare))) ⊕ addDispatched 1) ((i + 1) % d .consumers) (d .events + 1) end
-        unfolding subWords subOf
+        unfolding subWords rowSub
         found = let u = ok .rows-used in record {
           rows-are = given-now;
           own-are = simp length-append (omega (arith, one-more, a-parts, flying-is, held-is));
@@ -556,7 +556,7 @@ module _ (now i : ℕ) (d : Head) (subs rows events : List Row) (ok : Scans subs
           let flies : inflightAt (g .row) ≡ Consumer.inflightOf (s .«next_dseq») e = g .flies ∙ ap (λ (y : Row). Consumer.inflightOf (s .«next_dseq») (entryOf y)) picked in
           let head : r ≡ foundHead i (length (m .spare)) (length rest) end d =
           g .head ∙ gave-plain d end (length (m .spare)) (suc (length rest)) (m .size) rest-is (ok .expired) i (length rest) refl (ok .dispatched) in
-          let to-subs : subs′ ≡ set subs i (subWords (sentSub (e .seq) s)) = g .subs-is ∙ ap (λ (y : Row). set subs i (subWords (sentSub (entryOf y .seq) s))) picked in
+          let to-subs : subs′ ≡ set subs i (subWords (sentSub (movedSub (e .seq) s))) = g .subs-is ∙ ap (λ (y : Row). set subs i (subWords (sentSub (movedSub (entryOf y .seq) s)))) picked in
           let to-events : events′ ≡ set events (d .events) (eventWords (sent S e)) =
           g .events-is ∙ ap (λ (y : Row). set events (d .events) (eventWords (message (S .id) (entryOf y .seq) (entryOf y .redelivery)))) picked in
           rw (head, to-subs, g .rows-is, to-events) (found-visited (g .row) flies (g .strict))

@@ -11,7 +11,8 @@ use Rattle.definition.specs.Types.{Id, Audit, Dest, Event}
 use Rattle.definition.specs.Destination.{Out, visit, rounds}
 use Rattle.definition.specs.Words.{at}
 use Rattle.definition.specs.Layout.{Row, subRows, eventWords}
-use Rattle.consumers.specs.Consumers.{subOf, creditOf}
+use Rattle.consumers.specs.Consumers.{rowSub, creditOf}
+use Rattle.consumers.specs.Table.{nextFits}
 use Rattle.state.specs.declared.Head.{Head}
 use Rattle.state.specs.State.{headView, strictTables}
 
@@ -21,13 +22,13 @@ served now t = rounds (suc (length (t .pending))) now t
 
 -- no browser, and with credit: else a consumer's turn leaves everything as it is
 abbrev pub canTake : Row → Bool
-canTake w = not (subOf w .browser) && creditOf (subOf w)
+canTake w = not (rowSub w .browser) && creditOf (rowSub w)
 
 -- ---- when it can run
 
 -- the tables are long enough, the counts within them, and there is room for an event for each waiting entry
-abbrev pub tablesFit : Head → ℕ → ℕ → ℕ → Bool
-tablesFit d subs rows events = every (
+abbrev pub scanTables : Head → ℕ → ℕ → ℕ → Bool
+scanTables d subs rows events = every (
     leb 32 subs
     ∷ leb 512 rows
     ∷ leb (d .consumers) 32
@@ -36,24 +37,20 @@ tablesFit d subs rows events = every (
     ∷ [])
 
 -- the counters that rise have room for a full table
-abbrev pub countersFit : Stats → Bool
-countersFit s = leb (s .expired + 512) (2 ^ 63) && leb (s .dispatched + 512) (2 ^ 63)
+abbrev pub scanCounters : Stats → Bool
+scanCounters s = leb (s .expired + 512) (2 ^ 63) && leb (s .dispatched + 512) (2 ^ 63)
 
 -- the rows in use are those of the consumers, reserved and waiting ones
 abbrev pub rowsFit : List Row → Head → Bool
 rowsFit subs d = leb (d .used) 512 && eqb (subRows (take (d .consumers) subs) + (d .reserved + d .waiting)) (d .used)
-
--- a consumer's next delivery number can rise
-abbrev pub nextFits : Row → Bool
-nextFits w = leb (at 8 w) (2 ^ 62)
 
 -- of a queue, with such a clock, on a table of consumers, with so many rows and events
 unfoldable pub scans : ℕ → List Row → Head → ℕ → ℕ → Bool
 scans now subs d rows events = every (
     leb now (2 ^ 62)
     ∷ d .queue
-    ∷ tablesFit d (length subs) rows events
-    ∷ countersFit (d .stats)
+    ∷ scanTables d (length subs) rows events
+    ∷ scanCounters (d .stats)
     ∷ rowsFit subs d
     ∷ all nextFits (take (d .consumers) subs)
     ∷ [])

@@ -6,10 +6,11 @@ ghost use Prim.Native.Nat.{_-_, _%_, _≤_, _<_, _^_};
 ghost use lib.Dec.{eqb};
 ghost use lib.ListN.{length, take, getD};
 ghost use Rattle.definition.specs.Base.{all};
+ghost use Rattle.consumers.specs.Table.{nextFits};
 ghost use Rattle.state.specs.Leaves.{Leaves, LeavesIf};
 ghost use Rattle.queues.specs.Look.{Passed, Looks};
-ghost use Rattle.queues.specs.Give.{Gives, Gave, lookedHead, sentSub};
-ghost use Rattle.queues.specs.Scan.{canTake, tablesFit, countersFit, rowsFit, nextFits, scans, Scans, Onward, Visited, served};
+ghost use Rattle.queues.specs.Give.{Gives, Gave, lookedHead};
+ghost use Rattle.queues.specs.Scan.{canTake, scanTables, scanCounters, rowsFit, scans, Scans, Onward, Visited, served};
 use consumers::Sub;
 use consumers::SubRow;
 use entry::Row;
@@ -102,26 +103,13 @@ fn after_look(mut d: Head, end: usize) -> Head
     d.count_expired(gone as u64)
 }
 
-// `Sub::send`: one more in flight, no pull, and the cursor at what went out.
-fn sent(mut s: Sub, seq: u64) -> Sub
-    requires { ⌜ (s .inflight < 2 ^ 63) × (s .«next_dseq» < 2 ^ 63) ⌝ }
-    ensures { λ r. ⌜ r ≡ sentSub seq s ⌝ }
-{
-    s.next_dseq = s.next_dseq + 1;
-    s.inflight = s.inflight + 1;
-    s.cursor = seq;
-    s.pulling = false;
-    s.pull = 0;
-    s
-}
-
 // The waiting row at a place goes out to consumer i, and stands last among its rows in flight.
 fn give(
     subs: &mut [SubRow],
     rows: &mut [Row],
     events: &mut [Event],
     i: usize,
-    s: Sub,
+    mut s: Sub,
     at: usize,
     before: Head,
 ) -> Head
@@ -140,7 +128,8 @@ fn give(
     );
     let last = consumers::base_of(subs, i) + s.inflight;
     table::insert_row(rows, last, at, entry::inflight_row(e, s.next_dseq));
-    consumers::store(subs, i, sent(s, e.seq));
+    s.cursor = e.seq;
+    consumers::store(subs, i, s.sent());
     d.waiting = d.waiting - 1;
     d.turn = in_turn(i + 1, d.consumers);
     d.count_dispatched()
@@ -244,8 +233,8 @@ fn rounds(
 // ---- when the scan can run
 
 // The tables are long enough, the counts within them, and there is room for an event for each waiting entry.
-fn tables_fit(d: Head, subs: usize, rows: usize, events: usize) -> bool
-    ensures { λ r. ⌜ r ≡ tablesFit d subs rows events ⌝ }
+fn scan_tables(d: Head, subs: usize, rows: usize, events: usize) -> bool
+    ensures { λ r. ⌜ r ≡ scanTables d subs rows events ⌝ }
 {
     if subs < state::CONSUMERS {
         return false;
@@ -266,8 +255,8 @@ fn tables_fit(d: Head, subs: usize, rows: usize, events: usize) -> bool
 }
 
 // The counters that rise have room for a full table.
-fn counters_fit(s: Stats) -> bool
-    ensures { λ r. ⌜ r ≡ countersFit s ⌝ }
+fn scan_counters(s: Stats) -> bool
+    ensures { λ r. ⌜ r ≡ scanCounters s ⌝ }
 {
     if COUNTER_MOST < s.expired {
         return false;
@@ -316,11 +305,11 @@ fn can_scan(subs: &[SubRow], d: Head, rows: usize, events: usize, clock: u64) ->
     if !d.queue {
         return false;
     }
-    if !tables_fit(d, subs.len(), rows, events) {
+    if !scan_tables(d, subs.len(), rows, events) {
         return false;
     }
     let s = d.stats;
-    if !counters_fit(s) {
+    if !scan_counters(s) {
         return false;
     }
     if !rows_fit(subs, d) {

@@ -1,10 +1,9 @@
 -- Where a queue holds a number, by the rows of its tables. Assumes nothing.
 use mathlib.Core.Path.{_≡_, refl, sym, ap, ap₂, _∙_}
 use mathlib.Core.Bool.{Bool, true, false, not, _&&_, _||_}
-use mathlib.Core.List.{List, [], _∷_, _++_, map}
+use mathlib.Core.List.{List, [], _∷_, map}
 use Prim.Native.Nat.{ℕ, _+_, _≤_}
 use native.Mathlib.Omega.{arith}
-use lib.Dec.{eqb}
 use lib.ListN.{length, take, drop}
 use lib.Seq.{slice, drop-drop}
 use Rattle.entry.specs.Entry.{entryOf}
@@ -13,26 +12,20 @@ use Rattle.definition.specs.Types.{queue, Entry, Sub, Dest}
 use Rattle.definition.specs.Consumer.{isBrowser}
 use Rattle.definition.specs.Calls.{seqs, flying, taken, held}
 use Rattle.definition.specs.Words.{at, kindBy}
-use Rattle.definition.specs.Layout.{Row, flag, heldAt, subAt, subsAt, subRows}
+use Rattle.definition.specs.Layout.{Row, flag, subAt, subsAt, subRows}
 use Rattle.definition.proofs.Tests.{by-test, if-true, if-false}
+use Rattle.definition.proofs.Stored.{held-rows}
 use Rattle.table.specs.Table.{holdsSeq, hasSeqIn}
 use Rattle.table.proofs.Bounds.{has-in}
 use Rattle.state.specs.declared.Head.{Head}
 use Rattle.state.specs.State.{headView, firstWaiting, firstReserved}
 use Rattle.fates.specs.Blocks.{heldAs}
-use Rattle.report.specs.Report.{missed, Held}
+use Rattle.distinct.proofs.Laws.{member-seqs}
+use Rattle.report.specs.Report.{missed, HeldNumbers}
 use Rattle.sound.proofs.Tests.{part-of}
 use Rattle.sound.proofs.Subs.{flying-rows, seqs-rows}
 
 -- ---- numbers
-
-member-append : (s : ℕ) (l m : List Entry) → member s (seqs (l ++ m)) ≡ (member s (seqs l) || member s (seqs m))
-member-append s [] m = refl
-member-append s (e ∷ l) m = ap (λ (b : Bool). eqb s (e .seq) || b) (member-append s l m) ∙ or-assoc (eqb s (e .seq)) (member s (seqs l)) (member s (seqs m))
-  where
-    or-assoc : (a b c : Bool) → (a || (b || c)) ≡ ((a || b) || c)
-    or-assoc true b c = refl
-    or-assoc false b c = refl
 
 not-or : (a b : Bool) → not (a || b) ≡ (not a && not b)
 not-or true b = refl
@@ -46,16 +39,12 @@ pub all-missed : (s : ℕ) (l : List Sub) → all (missed s) l ≡ not (member s
 all-missed s [] = refl
 all-missed s (c ∷ l) =
     let x = if isBrowser c then [] else flying c in
-    ap₂ _&&_ (part-missed s c) (all-missed s l) ∙ sym (ap not (member-append s x (taken l)) ∙ not-or (member s (seqs x)) (member s (seqs (taken l))))
+    ap₂ _&&_ (part-missed s c) (all-missed s l) ∙ sym (ap not (member-seqs s x (taken l)) ∙ not-or (member s (seqs x)) (member s (seqs (taken l))))
 
 -- ---- rows
 
 rows-hold : (s : ℕ) (l : List Row) → member s (seqs (map entryOf l)) ≡ holdsSeq s l
 rows-hold s l = ap (member s) (sym (seqs-rows l))
-
-held-rows : (l : List Row) → map (λ h. h .entry) (map heldAt l) ≡ map entryOf l
-held-rows [] = refl
-held-rows (w ∷ l) = ap (λ (m : List Entry). entryOf w ∷ m) (held-rows l)
 
 -- a consumer with its rows where they stand
 pub sub-missed : (s : ℕ) (w : Row) (rows h : List Row) (base : ℕ) → base ≤ length rows
@@ -67,7 +56,7 @@ sub-missed s w rows h base b = by-test (flag (at 6 w))
 
 -- ---- a queue
 
-module _ (d : Head) (subs rows : List Row) (f : Held d subs rows) (s : ℕ) where
+module _ (d : Head) (subs rows : List Row) (f : HeldNumbers d subs rows) (s : ℕ) where
   abbrev t : Dest
   t = headView d subs rows [] []
 

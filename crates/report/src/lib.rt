@@ -2,7 +2,7 @@
 ghost use mathlib.Core.Path.{_≡_};
 ghost use mathlib.Core.Bool.{true, not, _||_};
 ghost use mathlib.Core.List.{[], _∷_, _++_};
-ghost use Prim.Native.Nat.{_+_, _≤_, min};
+ghost use Prim.Native.Nat.{_+_, _≤_};
 ghost use lib.Dec.{leb};
 ghost use lib.ListN.{length, take, drop};
 ghost use lib.Seq.{slice};
@@ -12,9 +12,9 @@ ghost use Rattle.definition.specs.Layout.{subsAt, subRows};
 ghost use Rattle.consumers.specs.Table.{onFirst};
 ghost use Rattle.table.specs.Table.{holdsSeq};
 ghost use Rattle.state.specs.State.{headView};
-ghost use Rattle.fates.specs.Blocks.{ackedAs, leavesAs, heldAs, moved, comes};
+ghost use Rattle.fates.specs.Blocks.{ackedAs, leavesAs, heldAs, blockMoved, comes};
 ghost use Rattle.sound.specs.Sound.{lent};
-ghost use Rattle.report.specs.Report.{isAt, coming, barred, asNoted, notedIn, missed, Held};
+ghost use Rattle.report.specs.Report.{isAtPlace, newBlocks, reportBarred, asNoted, notedIn, missed, HeldNumbers};
 use consumers::BROWSER;
 use consumers::HELD;
 use consumers::INFLIGHT;
@@ -126,7 +126,7 @@ fn all_miss(subs: &[SubRow], n: usize, rows: &[Row], seq: u64) -> bool
 
 // The place where a queue holds the number; `gone` where it does not.
 fn held_as(d: Head, subs: &[SubRow], rows: &[Row], seq: u64, gone: u64) -> u64
-    requires { ⌜ Held d (now subs) (now rows) ⌝ }
+    requires { ⌜ HeldNumbers d (now subs) (now rows) ⌝ }
     ensures { λ r. ⌜ r ≡ heldAs seq (headView d (now (subs .entry)) (now (rows .entry)) [] []) gone ⌝ }
 {
     let waiting = d.first_waiting();
@@ -147,8 +147,8 @@ fn held_as(d: Head, subs: &[SubRow], rows: &[Row], seq: u64, gone: u64) -> u64
 
 // A block after a call; one that has left stays as it is.
 fn moved(block: Block, code: u64, word: u64, d: Head, subs: &[SubRow], rows: &[Row]) -> Block
-    requires { ⌜ Held d (now subs) (now rows) ⌝ }
-    ensures { λ r. ⌜ r ≡ moved code word (headView d (now (subs .entry)) (now (rows .entry)) [] []) block ⌝ }
+    requires { ⌜ HeldNumbers d (now subs) (now rows) ⌝ }
+    ensures { λ r. ⌜ r ≡ blockMoved code word (headView d (now (subs .entry)) (now (rows .entry)) [] []) block ⌝ }
 {
     let seq = block[0];
     let place = block[1];
@@ -171,8 +171,8 @@ fn move_all(
     rows: &[Row],
 )
     requires { do ⌜ n ≤ (← ⟦blocks.len()⟧) ⌝ }
-    requires { ⌜ Held d (now subs) (now rows) ⌝ }
-    ensures { λ _. ⌜ now (blocks .exit) ≡ onFirst (moved code word (headView d (now (subs .entry)) (now (rows .entry)) [] [])) n (now (blocks .entry)) ⌝ }
+    requires { ⌜ HeldNumbers d (now subs) (now rows) ⌝ }
+    ensures { λ _. ⌜ now (blocks .exit) ≡ onFirst (blockMoved code word (headView d (now (subs .entry)) (now (rows .entry)) [] [])) n (now (blocks .entry)) ⌝ }
 {
     let mut i = 0;
     while i < n {
@@ -183,7 +183,7 @@ fn move_all(
 
 // Whether a list of so many blocks, n of them in use, has room for what a call brings.
 fn has_room(code: u64, n: usize, room: usize) -> bool
-    ensures { λ r. ⌜ r ≡ leb (n + coming code) room ⌝ }
+    ensures { λ r. ⌜ r ≡ leb (n + newBlocks code) room ⌝ }
 {
     if room < n {
         return false;
@@ -196,7 +196,7 @@ fn has_room(code: u64, n: usize, room: usize) -> bool
 
 // 1 where the list or a buffer is short, 2 where the state is not sound, else 0.
 fn barred(code: u64, n: usize, room: usize, head: &[u64], subs: &[SubRow], rows: &[Row]) -> u64
-    ensures { λ r. ⌜ r ≡ barred code n room (lent (now (head .entry)) (now (subs .entry)) (now (rows .entry))) ⌝ }
+    ensures { λ r. ⌜ r ≡ reportBarred code n room (lent (now (head .entry)) (now (subs .entry)) (now (rows .entry))) ⌝ }
 {
     if !has_room(code, n, room) {
         return 1;
@@ -212,9 +212,9 @@ fn barred(code: u64, n: usize, room: usize, head: &[u64], subs: &[SubRow], rows:
 
 // An enqueue's block goes after the n in use; how many there are then.
 fn bring(blocks: &mut [Block], n: usize, code: u64, seq: u64) -> usize
-    requires { do ⌜ n + coming code ≤ (← ⟦blocks.len()⟧) ⌝ }
-    ensures { λ r. ⌜ r ≡ n + coming code ⌝ }
-    ensures { λ r. ⌜ now (blocks .exit) ≡ take n (now (blocks .entry)) ++ (comes code (seq ∷ []) ++ drop (n + coming code) (now (blocks .entry))) ⌝ }
+    requires { do ⌜ n + newBlocks code ≤ (← ⟦blocks.len()⟧) ⌝ }
+    ensures { λ r. ⌜ r ≡ n + newBlocks code ⌝ }
+    ensures { λ r. ⌜ now (blocks .exit) ≡ take n (now (blocks .entry)) ++ (comes code (seq ∷ []) ++ drop (n + newBlocks code) (now (blocks .entry))) ⌝ }
 {
     if code != ENQUEUE {
         return n;
@@ -261,18 +261,11 @@ pub fn note(
 
 // ---- totals
 
-// The end of the first n of a list of this length.
-fn end_of(n: usize, len: usize) -> usize
-    ensures { λ r. ⌜ r ≡ min n len ⌝ }
-{
-    if n <= len { n } else { len }
-}
-
 // How many of the first n blocks are at a place.
 pub fn total(blocks: &[Block], n: usize, place: u64) -> usize
-    ensures { λ r. ⌜ r ≡ tally (isAt place) (take n (now (blocks .entry))) ⌝ }
+    ensures { λ r. ⌜ r ≡ tally (isAtPlace place) (take n (now (blocks .entry))) ⌝ }
 {
-    let end = end_of(n, blocks.len());
+    let end = consumers::end_of(n, blocks.len());
     let mut count = 0;
     let mut i = 0;
     while i < end {

@@ -1,4 +1,4 @@
--- The loops over the reserved rows, a turn at a time, and the words of a holder. Assumes nothing.
+-- The loops over the reserved rows, a turn at a time. Assumes nothing.
 use mathlib.Core.Path.{_≡_, refl, sym, ap, ap₂, _∙_}
 use mathlib.Core.Bool.{true, false, not}
 use mathlib.Core.List.{List, [], _∷_, map}
@@ -7,23 +7,19 @@ use native.Mathlib.Numerals.{add-one}
 use native.Mathlib.Omega.{arith}
 use borrow.Author.Tests.{le-leb, lt-leb}
 use lib.ListN.{length, take, drop, getD}
-use lib.Seq.{slice, slice-empty, slice-cons, getD-drop}
-use Rattle.model.specs.Model.{idOf}
+use lib.Seq.{slice, slice-empty, slice-cons}
 use Rattle.definition.specs.Base.{keep, empty}
 use Rattle.definition.specs.Types.{Id, Audit, Held}
 use Rattle.definition.specs.Destination.{heldBy, reservedOf}
-use Rattle.definition.specs.Layout.{Row, idAt, heldAt, subRows}
+use Rattle.definition.specs.Layout.{Row, heldAt, subRows}
 use Rattle.definition.proofs.Tests.{if-true, if-false}
+use Rattle.definition.proofs.Lists.{empty-map}
 use Rattle.table.proofs.Lists.{slice-take}
 use Rattle.table.proofs.Segments.{keep-map}
 use Rattle.state.specs.declared.Head.{Head}
 use Rattle.state.specs.State.{headView, firstReserved, firstWaiting}
 use Rattle.state.specs.Fits.{Fits}
 use Rattle.reserved.specs.Reserved.{anyHeld, hasReserved}
-
--- the words of a holder
-pub holder-words : (w : Row) → idAt (drop 6 w) ≡ idOf (getD w 6 0) (getD w 7 0) (getD w 8 0)
-holder-words w = rw (getD-drop 6 w 0 0, getD-drop 6 w 1 0, getD-drop 6 w 2 0)
 
 -- ---- has_reserved
 
@@ -78,10 +74,6 @@ module _ (d : Head) (id : Id) (rows : List Row) (from to : ℕ) (ef : from ≡ f
         sym (has-is ∙ ap (λ (n : ℕ). anyHeld id (slice n to rows)) e ∙ any-none id rows to)
 
 -- ---- where the numbers fit, this is the view's
-
-empty-map : {A B : Type 0} (f : A → B) (l : List A) → empty (map f l) ≡ empty l
-empty-map f [] = refl
-empty-map f (x ∷ l) = refl
 
 pub reserved-slice : (subs rows : List Row) (d : Head) (nrows events : ℕ) → Fits subs d nrows events
     → slice (firstReserved d) (firstWaiting d) rows ≡ take (d .reserved) (drop (subRows (take (d .consumers) subs)) rows)

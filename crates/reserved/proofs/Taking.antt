@@ -1,6 +1,6 @@
 -- The rows that are taken out of the reserved ones, and what that leaves of the destination. Assumes nothing.
 use mathlib.Core.Path.{_≡_, refl, sym, ap, ap₂, _∙_, subst}
-use mathlib.Core.Bool.{Bool, true, false, not, _&&_}
+use mathlib.Core.Bool.{Bool, true, false, not}
 use mathlib.Core.List.{List, [], _∷_, _++_, map, append-nil}
 use mathlib.Core.Option.{Option, none, some}
 use Prim.Native.Nat.{ℕ, _+_, _-_, _≤_}
@@ -19,9 +19,8 @@ use Rattle.definition.specs.Types.{Kind, Id, Entry, Held, Audit, Event, Dest, l
 use Rattle.definition.specs.Consumer.{_⊕_, Ack, addDequeued, addExpired, addDiscarded}
 use Rattle.definition.specs.Destination.{Out, letters, ackReserved}
 use Rattle.definition.specs.Layout.{Row, heldAt, subsAt, subRows, eventWords, entryStrict}
-use Rattle.definition.proofs.Tests.{by-test}
 use Rattle.definition.proofs.Thin.{tally-length}
-use Rattle.definition.proofs.Lists.{all-append, all-keep}
+use Rattle.definition.proofs.Lists.{all-append, all-keep, keep-count, tally-keep}
 use Rattle.definition.proofs.Local.{⊕-zero}
 use Rattle.table.specs.Table.{removeRows}
 use Rattle.table.proofs.Laws.{remove-length, remove-after, remove-parts}
@@ -29,26 +28,17 @@ use Rattle.table.proofs.Segments.{tally-map, keep-map, kept-length}
 use Rattle.consumers.proofs.View.{subs-agree}
 use Rattle.consumers.proofs.Strict.{all-left, all-right, strict-agree, tables-strict, strict-tables}
 use Rattle.state.specs.declared.Head.{Head}
-use Rattle.state.specs.State.{headView, strictTables, kindBy, withStats, withUsed, withEvents, withReserved, firstReserved, firstWaiting}
+use Rattle.state.specs.State.{headView, strictTables, kindBy, withCounters, withUsed, withEvents, withReservedCount, firstReserved, firstWaiting}
 use Rattle.state.specs.Fits.{Fits}
-use Rattle.state.specs.Leaves.{Leaves}
+use Rattle.state.specs.Leaves.{Leaves, Room}
 use Rattle.state.proofs.Counts.{dequeued-plain, expired-plain}
 use Rattle.acks.specs.declared.Span.{Span}
-use Rattle.acks.specs.Parts.{Told, Kept, rowLetters, rowDiscards}
+use Rattle.acks.specs.Parts.{Told, rowLetters, rowDiscards}
 use Rattle.reserved.specs.Reserved.{wants, wantsRow, wantedOf, takenCounts, takenEvents, taking, toldCounts, toldEvents, countedHead, Holding}
 use Rattle.reserved.proofs.Loops.{reserved-slice}
 use Rattle.reserved.proofs.Types.{takes-reserved}
 
 -- ---- lists
-
-module _ {A : Type 0} (p q : A → Bool) where
-  tally-keep : (l : List A) → tally p (keep q l) ≡ tally (λ x. q x && p x) l
-  tally-keep [] = refl
-  tally-keep (x ∷ l) = by-test (q x) (λ t. rw t (ap (λ (n : ℕ). (if p x then 1 else 0) + n) (tally-keep l))) (λ t. rw t (omega (arith, tally-keep l)))
-
-length-keep : {A : Type 0} (q : A → Bool) (l : List A) → length (keep q l) ≡ tally q l
-length-keep q [] = refl
-length-keep q (x ∷ l) = by-test (q x) (λ t. rw t (omega (arith, length-keep q l))) (λ t. rw t (omega (arith, length-keep q l)))
 
 letters-rows : (l : List Row) → letters (map (λ (h : Held). h .entry) (map heldAt l)) ≡ rowLetters false l
 letters-rows [] = refl
@@ -69,14 +59,14 @@ module _ (id : Id) (p : Span) (l : List Row) where
       ap length taken-rows
       ∙ length-map (map heldAt (keep (wantsRow id p) l)) (λ (h : Held). h .entry)
       ∙ length-map (keep (wantsRow id p) l) heldAt
-      ∙ length-keep (wantsRow id p) l
+      ∙ keep-count (wantsRow id p) l
 
   taken-discards : tally (λ e. not (e .persistent)) taken ≡ rowDiscards (wantsRow id p) l
   taken-discards =
       ap (tally (λ e. not (e .persistent))) taken-rows
       ∙ tally-map (λ (h : Held). h .entry) (λ e. not (e .persistent)) (map heldAt (keep (wantsRow id p) l))
       ∙ tally-map heldAt (λ (h : Held). not (h .entry .persistent)) (keep (wantsRow id p) l)
-      ∙ tally-keep (λ r. not (entryOf r .persistent)) (wantsRow id p) l
+      ∙ tally-keep (wantsRow id p) (λ r. not (entryOf r .persistent)) l
 
   events-are : (c : AckCount) → toldEvents c (keep (wantsRow id p) l) ≡ takenEvents c taken
   events-are Uncounted = refl
@@ -107,7 +97,7 @@ pub gone-few : (q : Row → Bool) (d : Head) (rows : List Row) (events from to :
 gone-few q d rows events from to h ef et = omega (arith, tally-length q (slice from to rows), length-slice from to rows (omega (arith, h .used, h .room)), h .rows)
 
 -- counting changes the counters alone
-counted-only : (c : AckCount) (n : ℕ) (d : Head) → countedHead c n d ≡ withStats (countedHead c n d .stats) d
+counted-only : (c : AckCount) (n : ℕ) (d : Head) → countedHead c n d ≡ withCounters (countedHead c n d .stats) d
 counted-only Uncounted n d = refl
 counted-only Dequeue n d = refl
 counted-only Expiry n d = refl
@@ -119,7 +109,7 @@ module _ (id : Id) (counts : AckCount) (p : Span) (d t r : Head) (gone : ℕ) (r
     (told : Told (toldCounts counts (wantsRow id p) (slice (firstReserved d) (firstWaiting d) rows)) (toldEvents counts (keep (wantsRow id p) (slice (firstReserved d) (firstWaiting d) rows))) (tally (wantsRow id p) (slice (firstReserved d) (firstWaiting d) rows)) d t events events′)
     (count : gone ≡ tally (wantsRow id p) (slice (firstReserved d) (firstWaiting d) rows))
     (out : rows′ ≡ removeRows (wantsRow id p) (firstReserved d) (firstWaiting d) (d .used) rows)
-    (end : r ≡ countedHead counts gone (withReserved (t .reserved - gone) (withUsed (t .used - gone) t)))
+    (end : r ≡ countedHead counts gone (withReservedCount (t .reserved - gone) (withUsed (t .used - gone) t)))
     (subs : List Row)
     (fits : Fits subs d (length rows) (length events))
   where
@@ -212,16 +202,16 @@ module _ (id : Id) (counts : AckCount) (p : Span) (d t r : Head) (gone : ℕ) (r
     abbrev x : Stats
     x = d .stats ⊕ takenCounts counts (taken id p s)
 
-    head-is : r ≡ withReserved (d .reserved - gone) (withUsed (d .used - gone) (withEvents (t .events) (withStats x d)))
+    head-is : r ≡ withReservedCount (d .reserved - gone) (withUsed (d .used - gone) (withEvents (t .events) (withCounters x d)))
     head-is =
-        let m : Head = withReserved (t .reserved - gone) (withUsed (t .used - gone) t) in
+        let m : Head = withReservedCount (t .reserved - gone) (withUsed (t .used - gone) t) in
         let st : t .stats ≡ d .stats ⊕ toldCounts counts q s = ap (λ (y : Head). y .stats) (told .head) ∙ ap (λ (l : List Row). d .stats ⊕ toldCounts counts q l) s-is in
         let counted : countedHead counts gone m .stats ≡ x =
         stats-are id p s counts (d .stats) m gone gone-is (omega (arith, few, holding .rows, holding .used)) st (holding .dequeued) (holding .expired) in
         end
         ∙ counted-only counts gone m
-        ∙ ap (λ (y : Stats). withStats y m) counted
-        ∙ ap (λ (y : Head). withStats x (withReserved (y .reserved - gone) (withUsed (y .used - gone) y))) (told .head)
+        ∙ ap (λ (y : Stats). withCounters y m) counted
+        ∙ ap (λ (y : Head). withCounters x (withReservedCount (y .reserved - gone) (withUsed (y .used - gone) y))) (told .head)
 
     view : (ps : List Id) (qs : List Audit) → headView r subs rows′ ps qs ≡ taking id counts p (headView d subs rows ps qs) .dest
     unfolding headView taking wantsRow
@@ -270,7 +260,7 @@ module _ (id : Id) (counts : AckCount) (p : Span) (d t r : Head) (gone : ℕ) (r
         ∙ ap (λ (l : List Row). take (d .events) events ++ map eventWords (toldEvents counts (keep q l))) s-is
         ∙ ap (λ (l : List Event). take (d .events) events ++ map eventWords l) (events-are id p s counts)
 
-    pub takes-out : Leaves (taking id counts p) d r subs rows events subs rows′ events′ × Kept d r
+    pub takes-out : Leaves (taking id counts p) d r subs rows events subs rows′ events′ × Room d r
     takes-out =
         let nc : r .consumers ≡ d .consumers = ap (λ (y : Head). y .consumers) head-is in
         let nr : r .reserved ≡ d .reserved - gone = ap (λ (y : Head). y .reserved) head-is in
@@ -301,7 +291,7 @@ module _ (id : Id) (counts : AckCount) (p : Span) (d t r : Head) (gone : ℕ) (r
             rows-length = ap length out ∙ remove-length q (firstReserved d) (firstWaiting d) (d .used) rows;
             events-length = told .size;
           },
-          record { events = omega (arith, fits .sent); consumers = nc },
+          record { room = omega (arith, fits .sent); as-many = nc },
         )
 
 -- for a segment as it was read
@@ -310,8 +300,8 @@ pub takes-at : (id : Id) (counts : AckCount) (p : Span) (d t r : Head) (gone : �
     → Told (toldCounts counts (wantsRow id p) (slice from to rows)) (toldEvents counts (keep (wantsRow id p) (slice from to rows))) (tally (wantsRow id p) (slice from to rows)) d t events events′
     → gone ≡ tally (wantsRow id p) (slice from to rows)
     → rows′ ≡ removeRows (wantsRow id p) from to (d .used) rows
-    → r ≡ countedHead counts gone (withReserved (t .reserved - gone) (withUsed (t .used - gone) t))
-    → (subs : List Row) → Fits subs d (length rows) (length events) → Leaves (taking id counts p) d r subs rows events subs rows′ events′ × Kept d r
+    → r ≡ countedHead counts gone (withReservedCount (t .reserved - gone) (withUsed (t .used - gone) t))
+    → (subs : List Row) → Fits subs d (length rows) (length events) → Leaves (taking id counts p) d r subs rows events subs rows′ events′ × Room d r
 takes-at id counts p d t r gone rows events rows′ events′ holding from to ef et told count out end subs fits =
     takes-out id counts p d t r gone rows events rows′ events′ holding (rw (ef, et) at told) (rw (ef, et) at count) (rw (ef, et) at out) end subs fits
 
@@ -332,14 +322,14 @@ module _ (id : Id) (a : Ack) (subs rows events : List Row) (d : Head) (fits : Fi
 
   -- with a last number, what its rule takes
   pub acks-reserved : (r : Head) (rows′ events′ : List Row) (rule : AckRule) (p : Span) (last : ℕ) (o : Option ℕ) → rule ≡ ackRule (a .type) → p ≡ wantedOf (rule .reserved) (a .first) last → o ≡ some last
-      → Leaves (taking id (rule .counts) p) d r subs rows events subs rows′ events′ × Kept d r
-      → Leaves (λ t. ackReserved id a t o) d r subs rows events subs rows′ events′ × Kept d r
+      → Leaves (taking id (rule .counts) p) d r subs rows events subs rows′ events′ × Room d r
+      → Leaves (λ t. ackReserved id a t o) d r subs rows events subs rows′ events′ × Room d r
   acks-reserved r rows′ events′ rule p last o er ep eo x =
       let f : taking id (rule .counts) p ≡ (λ t. ackReserved id a t (some last)) = ap (taking id (rule .counts)) ep ∙ (λ j t. takes-reserved id a t last rule er j) in
-      rw eo (subst (λ (g : Dest → Out). Leaves g d r subs rows events subs rows′ events′ × Kept d r) f x)
+      rw eo (subst (λ (g : Dest → Out). Leaves g d r subs rows events subs rows′ events′ × Room d r) f x)
 
   -- without one, nothing
-  pub acks-nothing : (o : Option ℕ) → o ≡ none → Leaves (λ t. ackReserved id a t o) d d subs rows events subs rows events × Kept d d
+  pub acks-nothing : (o : Option ℕ) → o ≡ none → Leaves (λ t. ackReserved id a t o) d d subs rows events subs rows events × Room d d
   unfolding ackReserved
   acks-nothing o eo = rw eo (
     record {
@@ -362,5 +352,5 @@ module _ (id : Id) (a : Ack) (subs rows events : List Row) (d : Head) (fits : Fi
       rows-length = refl;
       events-length = refl;
     },
-    record { events = fits .sent; consumers = refl },
+    record { room = fits .sent; as-many = refl },
   )

@@ -18,7 +18,7 @@ use Rattle.definition.specs.Consumer.{zeroStats, addDequeued, addExpired, addDi
 use Rattle.definition.specs.Destination.{Out, count, heldBy, letters}
 use Rattle.definition.specs.Layout.{Row, heldAt}
 use Rattle.state.specs.declared.Head.{Head}
-use Rattle.state.specs.State.{withStats, firstReserved, firstWaiting}
+use Rattle.state.specs.State.{withCounters, firstReserved, firstWaiting}
 use Rattle.acks.specs.declared.Span.{Span}
 use Rattle.acks.specs.Rules.{noSpan, inNumbers}
 use Rattle.acks.specs.Parts.{rowLetters, rowDiscards}
@@ -83,8 +83,8 @@ toldEvents DeadLetter l = rowLetters false l
 
 abbrev pub countedHead : AckCount → ℕ → Head → Head
 countedHead Uncounted n d = d
-countedHead Dequeue n d = withStats (withDequeuedBy (d .stats) n) d
-countedHead Expiry n d = withStats (withExpiredBy (d .stats) n) d
+countedHead Dequeue n d = withCounters (withDequeuedBy (d .stats) n) d
+countedHead Expiry n d = withCounters (withExpiredBy (d .stats) n) d
 countedHead DeadLetter n d = d
 
 -- the counts lie within the tables, and no number runs out

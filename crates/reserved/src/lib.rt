@@ -7,13 +7,13 @@ ghost use lib.ListN.{length};
 ghost use lib.Seq.{slice};
 ghost use Rattle.definition.specs.Base.{keep, tally};
 ghost use Rattle.definition.specs.Consumer.{or0, addDiscarded};
-ghost use Rattle.definition.specs.Destination.{heldBy, ackReserved};
-ghost use Rattle.definition.specs.Layout.{Row, heldAt};
+ghost use Rattle.definition.specs.Destination.{ackReserved};
+ghost use Rattle.definition.specs.Layout.{Row};
 ghost use Rattle.table.specs.Table.{compacted, removeRows};
 ghost use Rattle.state.specs.Fits.{fits, Fits};
-ghost use Rattle.state.specs.Leaves.{Leaves, LeavesIf};
+ghost use Rattle.state.specs.Leaves.{Leaves, LeavesIf, Room};
 ghost use Rattle.acks.specs.Acks.{ackOf};
-ghost use Rattle.acks.specs.Parts.{Dying, Told, Kept, rowLetters, rowDiscards};
+ghost use Rattle.acks.specs.Parts.{Dying, Told, rowLetters, rowDiscards};
 ghost use Rattle.reserved.specs.Reserved.{hasReserved, wantsRow, wantedOf, toldCounts, toldEvents, countedHead, taking, Holding};
 use acks::Ack;
 use acks::Span;
@@ -26,18 +26,11 @@ use model::Id;
 use state::Event;
 use state::Head;
 
-// Whether a row is reserved for that consumer.
-fn held_by(row: Row, id: Id) -> bool
-    ensures { λ r. ⌜ r ≡ heldBy id (heldAt row) ⌝ }
-{
-    Id::of_words(row[6], row[7], row[8]).same(id)
-}
-
-// And has a number of the span.
+// Whether a row is reserved for that consumer, and has a number of the span.
 fn wanted(row: Row, id: Id, p: Span) -> bool
     ensures { λ r. ⌜ r ≡ wantsRow id p row ⌝ }
 {
-    if !held_by(row, id) {
+    if !consumers::is_for(row, id) {
         return false;
     }
     p.has(row[0])
@@ -53,7 +46,7 @@ pub fn has_reserved(rows: &[Row], d: Head, id: Id) -> bool
     }
     let mut i = d.first_reserved();
     while i < to {
-        if held_by(rows[i], id) {
+        if consumers::is_for(rows[i], id) {
             return true;
         }
         i += 1;
@@ -188,7 +181,7 @@ fn take_out(
     counts: AckCount,
 ) -> Head
     requires { ⌜ Holding (length (now rows)) (length (now events)) d ⌝ }
-    ensures { λ r. ⌜ ((subs : List Row) → Fits subs d (length (now (rows .entry))) (length (now (events .entry))) → Leaves (taking id counts p) d r subs (now (rows .entry)) (now (events .entry)) subs (now (rows .exit)) (now (events .exit)) × Kept d r) ⌝ }
+    ensures { λ r. ⌜ ((subs : List Row) → Fits subs d (length (now (rows .entry))) (length (now (events .entry))) → Leaves (taking id counts p) d r subs (now (rows .entry)) (now (events .entry)) subs (now (rows .exit)) (now (events .exit)) × Room d r) ⌝ }
 {
     let from = d.first_reserved();
     let to = d.first_waiting();
@@ -208,7 +201,7 @@ pub fn ack_reserved(
     id: Id,
     a: Ack,
 ) -> Head
-    ensures { λ r. ⌜ LeavesIf (fits (now (subs .entry)) d (length (now (rows .entry))) (length (now (events .entry)))) (Kept d r) (λ t. ackReserved id (ackOf a) t (ackOf a .last)) d r (now (subs .entry)) (now (rows .entry)) (now (events .entry)) (now (subs .entry)) (now (rows .exit)) (now (events .exit)) ⌝ }
+    ensures { λ r. ⌜ LeavesIf (fits (now (subs .entry)) d (length (now (rows .entry))) (length (now (events .entry)))) (Room d r) (λ t. ackReserved id (ackOf a) t (ackOf a .last)) d r (now (subs .entry)) (now (rows .entry)) (now (events .entry)) (now (subs .entry)) (now (rows .exit)) (now (events .exit)) ⌝ }
 {
     if !state::fits(subs, d, rows.len(), events.len()) {
         return d;

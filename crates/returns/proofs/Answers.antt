@@ -14,7 +14,7 @@ use Rattle.definition.specs.Types as Def
 use Rattle.definition.specs.Destination.{subOf}
 use Rattle.definition.specs.Words.{kindBy}
 use Rattle.definition.specs.Layout.{Row}
-use Rattle.consumers.specs.declared.Found.the-variants.{At, Nothing}
+use Rattle.entry.specs.declared.Found.the-variants.{At, Nothing}
 use Rattle.consumers.specs.Table.{positionFrom}
 use Rattle.consumers.proofs.Seek.{found-at, found-none}
 use Rattle.state.specs.declared.Head.{Head}
@@ -22,7 +22,7 @@ use Rattle.state.specs.State.{headView}
 use Rattle.state.specs.Fits.{fits, Fits}
 use Rattle.state.specs.Leaves.{silent, Leaves}
 use Rattle.state.proofs.Leaves.{leaves-as, leaves-rest}
-use Rattle.returns.specs.Returns.{leftAt, left, inBounds}
+use Rattle.returns.specs.Returns.{departedAt, departed, inBounds}
 
 module _ (now : ℕ) (subs : List Row) (d : Head) (rows events : ℕ) where
   pub bounds-late : 2 ^ 62 < now → inBounds now subs d rows events ≡ false
@@ -72,9 +72,9 @@ module _ (id : Id) (d : Head) (subs : List Row) where
 
   -- one that is not there does not leave
   pub leaves-absent : (now : ℕ) (last : ℤ) (rows events : List Row) → Fits subs d (length rows) (length events) → positionFrom 0 id (take (d .consumers) subs) ≡ Nothing
-      → Leaves (silent (left now id last)) d d subs rows events subs rows events
+      → Leaves (silent (departed now id last)) d d subs rows events subs rows events
   unfolding headView
   leaves-absent now last rows events f e =
-      leaves-as (silent (λ t. t)) (silent (left now id last)) d d subs rows events subs rows events
-      (λ p u _. ap (λ (o : Option Def.Sub). record { dest = leftAt now id last (headView d subs rows p u) o; events = [] }) (sym (found-none id (take (d .consumers) subs) e (kindBy (d .queue)) rows)))
+      leaves-as (silent (λ t. t)) (silent (departed now id last)) d d subs rows events subs rows events
+      (λ p u _. ap (λ (o : Option Def.Sub). record { dest = departedAt now id last (headView d subs rows p u) o; events = [] }) (sym (found-none id (take (d .consumers) subs) e (kindBy (d .queue)) rows)))
       (leaves-rest d subs rows events (record { consumers = f .consumers; used = f .used; rows-used = f .rows-used }))

@@ -2,7 +2,7 @@
 use mathlib.Core.Path.{_≡_, refl, sym, ap, ap₂, _∙_, subst}
 use mathlib.Core.Bool.{Bool, true, false, not, false≢true}
 use mathlib.Core.List.{List, [], _∷_, _++_, append-assoc, append-nil, map, map-append}
-use Prim.Native.Nat.{ℕ, zero, suc, _+_, _-_, _≤_, _<_}
+use Prim.Native.Nat.{ℕ, suc, _+_, _-_, _≤_, _<_}
 use native.Mathlib.Omega.{arith}
 use lib.ListN.{length, take, drop, getD, length-map, drop-of-length-le}
 use lib.Seq.{slice, slice-cons, length-slice, length-take-le, take-add, take-all, drop-drop, take-at, drop-at, drop-append-le, take-append-le, take-take}
@@ -14,7 +14,7 @@ use Rattle.definition.specs.Consumer.{redelivered}
 use Rattle.definition.specs.Destination.{reinsert, heldBy, reservedOf}
 use Rattle.definition.specs.Words.{kindBy}
 use Rattle.definition.specs.Layout.{Row, heldAt, subsAt, subRows, entryStrict}
-use Rattle.definition.proofs.Lists.{all-append}
+use Rattle.definition.proofs.Lists.{all-append, map-take, map-drop}
 use Rattle.consumers.proofs.View.{subs-agree}
 use Rattle.consumers.proofs.Strict.{strict-agree, all-first, all-rest}
 use Rattle.state.specs.declared.Head.{Head}
@@ -23,7 +23,7 @@ use Rattle.state.specs.State.{headView, strictTables, firstWaiting, firstReserv
 use Rattle.state.specs.Fits.{Fits}
 use Rattle.state.specs.Leaves.{silent, Leaves}
 use Rattle.returns.specs.Returns.{freed}
-use Rattle.returns.specs.Gaps.{destOf, cut, waitingIn, around, Strict, StrictAround, Open, Moves, Same, Gap}
+use Rattle.returns.specs.Gaps.{gapDest, cut, waitingIn, around, GapStrict, StrictAround, Open, Moves, Same, Gap}
 use Rattle.returns.proofs.Rows.{slice-front, slice-drop}
 use Rattle.returns.proofs.Reinsert.{reinsert-none, reinsert-more}
 use Rattle.returns.proofs.Moving.{strict-as}
@@ -98,16 +98,6 @@ freed-none now i t e =
 
 -- ---- the reserved rows
 
-map-drop : (m : ℕ) (l : List Row) → drop m (map heldAt l) ≡ map heldAt (drop m l)
-map-drop zero l = refl
-map-drop (suc m) [] = refl
-map-drop (suc m) (x ∷ l) = map-drop m l
-
-map-take : (m : ℕ) (l : List Row) → take m (map heldAt l) ≡ map heldAt (take m l)
-map-take zero l = refl
-map-take (suc m) [] = refl
-map-take (suc m) (x ∷ l) = ap (λ (r : List Held). heldAt x ∷ r) (map-take m l)
-
 module _ (d : Head) (subs rows : List Row) (base m : ℕ) (own : subRows (take (d .consumers) subs) ≡ base) (g : Gap (base + m) 0 d subs rows) where
   abbrev first : ℕ
   first = firstWaiting d
@@ -142,7 +132,7 @@ module _ (d : Head) (subs rows : List Row) (base m : ℕ) (own : subRows (take (
         ∙ drop-append-le base (take (base + m) rows) later-rows (omega (arith, low-length))
         ∙ ap (λ (x : List Row). x ++ later-rows) (sym (slice-front m base first rows (omega (arith, ends))))
 
-    reserved-strict : Strict (d .consumers) subs (take first rows) (waitingIn d rows) → StrictAround (base + m) 1 (State.withReserved (d .reserved - 1) d) subs rows
+    reserved-strict : GapStrict (d .consumers) subs (take first rows) (waitingIn d rows) → StrictAround (base + m) 1 (State.withReservedCount (d .reserved - 1) d) subs rows
     reserved-strict s =
         let l : List Row = slice base first rows in
         let z : all entryStrict l ≡ true = ap (λ (n : ℕ). all entryStrict (slice n first rows)) (sym own) ∙ s .reserved in
@@ -160,14 +150,14 @@ module _ (d : Head) (subs rows : List Row) (base m : ℕ) (own : subRows (take (
 
     -- they stand from base on
     reserved-are : t .reserved ≡ map heldAt (slice base first rows)
-    unfolding destOf
+    unfolding gapDest
     reserved-are = ap (λ (x : Dest). x .reserved) (head-dest d subs rows sum fits p u) ∙ ap (λ (n : ℕ). map heldAt (slice n first rows)) own
 
     reserved-length : length (t .reserved) ≡ d .reserved
     reserved-length = ap length reserved-are ∙ length-map (slice base first rows) heldAt ∙ length-slice base first rows (omega arith) ∙ omega (arith, ends)
 
     reserved-from : drop m (t .reserved) ≡ map heldAt (slice (base + m) first rows)
-    reserved-from = ap (drop m) reserved-are ∙ map-drop m (slice base first rows) ∙ ap (map heldAt) (slice-drop m base first rows)
+    reserved-from = ap (drop m) reserved-are ∙ map-drop heldAt m (slice base first rows) ∙ ap (map heldAt) (slice-drop m base first rows)
 
     reserved-here : m < d .reserved → drop m (t .reserved) ≡ heldAt (getD rows (base + m) []) ∷ map heldAt (slice (base + m + 1) first rows)
     reserved-here h =
@@ -175,8 +165,8 @@ module _ (d : Head) (subs rows : List Row) (base m : ℕ) (own : subRows (take (
         reserved-from ∙ ap (map heldAt) (slice-cons (base + m) first rows [] (omega (arith, ends)) (omega arith) ∙ ap (λ (n : ℕ). getD rows (base + m) [] ∷ slice n first rows) e)
 
     -- the destination around one of them
-    reserved-around : (h : m < d .reserved) → around (base + m) 1 (State.withReserved (d .reserved - 1) d) subs rows p u ≡ withReserved (take m (t .reserved) ++ map heldAt later-rows) t
-    unfolding destOf
+    reserved-around : (h : m < d .reserved) → around (base + m) 1 (State.withReservedCount (d .reserved - 1) d) subs rows p u ≡ withReserved (take m (t .reserved) ++ map heldAt later-rows) t
+    unfolding gapDest
     reserved-around h =
         let w : List Row = waitingIn d rows in
         let same : subsAt (kindBy (d .queue)) (take (d .consumers) subs) low ≡ subsAt (kindBy (d .queue)) (take (d .consumers) subs) (take first rows) =
@@ -184,8 +174,8 @@ module _ (d : Head) (subs rows : List Row) (base m : ℕ) (own : subRows (take (
         let left : map heldAt (drop (subRows (take (d .consumers) subs)) low) ≡ take m (t .reserved) ++ map heldAt later-rows =
         ap (map heldAt) (low-rest h)
         ∙ map-append heldAt (take m (slice base first rows)) later-rows
-        ∙ ap (λ (x : List Held). x ++ map heldAt later-rows) (sym (ap (take m) reserved-are ∙ map-take m (slice base first rows))) in
-        (λ j. Def.withSubs (same j) (withReserved (left j) (destOf d subs (take first rows) w p u)))
+        ∙ ap (λ (x : List Held). x ++ map heldAt later-rows) (sym (ap (take m) reserved-are ∙ map-take heldAt m (slice base first rows))) in
+        (λ j. Def.withSubs (same j) (withReserved (left j) (gapDest d subs (take first rows) w p u)))
         ∙ ap (λ (x : Dest). withReserved (take m (t .reserved) ++ map heldAt later-rows) x) (sym (head-dest d subs rows sum fits p u))
 
 -- ---- the loop
@@ -271,11 +261,11 @@ module _ (now : ℕ) (id : Id) (d₀ : Head) (subs₀ rows₀ : List Row) where
 
       -- one of the consumer's
       pub freeing-turn : (r : Head) (subs′ rows′ : List Row) → heldBy id (heldAt (getD rows i [])) ≡ true
-          → Moves i (reinsert now (redelivered (entryOf (getD rows i [])) ∷ [])) (State.withReserved (d .reserved - 1) d) r subs rows subs′ rows′ → r .reserved ≡ d .reserved - 1
+          → Moves i (reinsert now (redelivered (entryOf (getD rows i [])) ∷ [])) (State.withReservedCount (d .reserved - 1) d) r subs rows subs′ rows′ → r .reserved ≡ d .reserved - 1
           → Freeing i (left - 1) r subs′ rows′
       freeing-turn r subs′ rows′ x m c =
           let a = g .gap in
-          let b : Head = State.withReserved (d .reserved - 1) d in
+          let b : Head = State.withReservedCount (d .reserved - 1) d in
           let own′ : subRows (take (r .consumers) subs′) ≡ subRows (take (d .consumers) subs) = same-own (m .same) in
           let one : Same d r subs rows subs′ rows′ = record { head = m .same .head; used = m .same .used; own = m .same .own; subs-past = m .same .subs-past; subs-length = m .same .subs-length; rows-past = m .same .rows-past; rows-length = m .same .rows-length } in
           let next : Gap i 0 r subs′ rows′ = record {

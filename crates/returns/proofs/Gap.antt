@@ -22,7 +22,7 @@ use Rattle.consumers.proofs.Strict.{strict-front, tables-strict, strict-tables,
 use Rattle.state.specs.declared.Head.{Head}
 use Rattle.state.specs.State.{headView, strictTables, withUsed, firstWaiting}
 use Rattle.state.specs.Leaves.{silent, Leaves}
-use Rattle.returns.specs.Gaps.{destOf, cut, waitingIn, around, Strict, StrictAround, settled, Open, Moves, Same, Gap}
+use Rattle.returns.specs.Gaps.{gapDest, cut, waitingIn, around, GapStrict, StrictAround, settled, Open, Moves, Same, Gap}
 use Rattle.returns.proofs.Rows.{cut-less, closed-low, closed-high}
 use Rattle.returns.proofs.Moving.{dest-counts, strict-as}
 
@@ -90,7 +90,7 @@ module _ (from j k g : ℕ) (d : Head) (subs rows : List Row) (a : Gap from g d 
 
   pub forgets : (p : List Id) (u : List Audit) → around from (g - k) r subs rows′ p u ≡ around from g d subs rows p u
   forgets p u =
-      ap₂ (λ (x y : List Row). destOf r subs x y p u) (forgets-rows .0) (forgets-rows .1)
+      ap₂ (λ (x y : List Row). gapDest r subs x y p u) (forgets-rows .0) (forgets-rows .1)
       ∙ dest-counts d subs (cut from g (firstWaiting d) rows) (waitingIn d rows) p u (d .reserved) (d .waiting) (d .used - k)
 
   pub forgets-strict : StrictAround from g d subs rows → StrictAround from (g - k) r subs rows′
@@ -147,7 +147,7 @@ module _ (d : Head) (subs rows : List Row) (sum : subRows (take (d .consumers) s
   parts : all entryStrict (take (d .reserved + d .waiting) others) ≡ all entryStrict (drop (subRows ws) (take (firstWaiting d) rows) ++ waitingIn d rows)
   parts = ap (all entryStrict) (take-add (d .reserved) (d .waiting) others ∙ ap₂ (λ (x y : List Row). x ++ y) reserved-rows waiting-rows)
 
-  pub head-strict : strictTables d subs rows ≡ true → Strict (d .consumers) subs (take (firstWaiting d) rows) (waitingIn d rows)
+  pub head-strict : strictTables d subs rows ≡ true → GapStrict (d .consumers) subs (take (firstWaiting d) rows) (waitingIn d rows)
   head-strict h =
       let t = tables-strict (d .reserved + d .waiting) ws rows h in
       let l : List Row = drop (subRows ws) (take (firstWaiting d) rows) in
@@ -157,20 +157,20 @@ module _ (d : Head) (subs rows : List Row) (sum : subRows (take (d .consumers) s
         waits = all-right entryStrict l (waitingIn d rows) (sym parts ∙ t .others);
       }
 
-  pub strict-head : Strict (d .consumers) subs (take (firstWaiting d) rows) (waitingIn d rows) → strictTables d subs rows ≡ true
+  pub strict-head : GapStrict (d .consumers) subs (take (firstWaiting d) rows) (waitingIn d rows) → strictTables d subs rows ≡ true
   strict-head s = strict-tables (d .reserved + d .waiting) ws rows (record {
     subs = sym (strict-front ws (firstWaiting d) rows (omega arith)) ∙ s .subs;
     others = parts ∙ all-append entryStrict (drop (subRows ws) (take (firstWaiting d) rows)) (waitingIn d rows) (s .reserved) (s .waits);
   })
 
   module _ (p : List Id) (u : List Audit) where
-    pub head-dest : headView d subs rows p u ≡ destOf d subs (take (firstWaiting d) rows) (waitingIn d rows) p u
-    unfolding headView destOf
+    pub head-dest : headView d subs rows p u ≡ gapDest d subs (take (firstWaiting d) rows) (waitingIn d rows) p u
+    unfolding headView gapDest
     head-dest =
         λ i. Def.withPending (map entryOf (waiting-rows i)) (Def.withReserved (map heldAt (reserved-rows i)) (Def.withSubs (sym (subs-front (kindBy (d .queue)) ws (firstWaiting d) rows (omega arith)) i) (headView d subs rows p u)))
 
     pub no-gap : (from : ℕ) → from ≤ firstWaiting d → around from 0 d subs rows p u ≡ headView d subs rows p u
-    no-gap from h = ap (λ (x : List Row). destOf d subs x (waitingIn d rows) p u) (cut-none from (firstWaiting d) rows h) ∙ sym head-dest
+    no-gap from h = ap (λ (x : List Row). gapDest d subs x (waitingIn d rows) p u) (cut-none from (firstWaiting d) rows h) ∙ sym head-dest
 
 -- a gap that has closed is a part of a call done
 pub gap-leaves : (f : Dest → Dest) (from : ℕ) (d b r : Head) (subs rows events subs₁ rows₁ subs′ rows′ : List Row) → Gap from 0 r subs′ rows′ → Same b r subs₁ rows₁ subs′ rows′

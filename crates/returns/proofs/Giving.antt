@@ -16,8 +16,8 @@ use Rattle.definition.specs.Layout.{Row, flag, inflightAt}
 use Rattle.definition.proofs.Tests.{if-true, if-false}
 use Rattle.state.specs.declared.Head.{Head}
 use Rattle.state.specs.State.{firstWaiting}
-use Rattle.returns.specs.Returns.{held, reserves, givenBack, gives, givesAll}
-use Rattle.returns.specs.Gaps.{cut, around, StrictAround, Moves, Same, Gap, Gave}
+use Rattle.returns.specs.Returns.{heldFor, reserves, givenBack, gives, givesAll}
+use Rattle.returns.specs.Gaps.{cut, around, StrictAround, Moves, Same, Gap, GaveBack}
 use Rattle.returns.proofs.Rows.{take-of, cut-front}
 use Rattle.returns.proofs.Reinsert.{gives-none, gives-more}
 use Rattle.returns.proofs.Moving.{moves-as}
@@ -67,7 +67,7 @@ module _ (now : ℕ) (last : ℤ) (j : Id) (from : ℕ) (d₀ : Head) (subs₀ r
         strict = λ s. m .strict k some (omega (arith, a .sum, a .low)) (a .sum) (g .strict s);
       }
 
-  pub giving-end : (k₀ k : ℕ) (d : Head) (subs rows : List Row) → Giving k₀ k d subs rows → k ≤ 0 → Gave now last j from k₀ d₀ d subs₀ rows₀ subs rows
+  pub giving-end : (k₀ k : ℕ) (d : Head) (subs rows : List Row) → Giving k₀ k d subs rows → k ≤ 0 → GaveBack now last j from k₀ d₀ d subs₀ rows₀ subs rows
   giving-end k₀ k d subs rows g h =
       let z : k ≡ 0 = omega arith in
       let none : slice from (from + 0) rows ≡ [] = ap (λ (n : ℕ). slice from n rows) (add-zero from) ∙ slice-empty from rows in
@@ -84,12 +84,12 @@ module _ (now : ℕ) (last : ℤ) (j : Id) (from : ℕ) (d₀ : Head) (subs₀ r
 
 -- what one row does, by its transaction mark
 module _ (now : ℕ) (last : ℤ) (j : Id) (from : ℕ) (d r : Head) (subs rows subs′ rows′ : List Row) (row : Row) (e : Entry) where
-  pub moves-tx : e ≡ entryOf row → flag (at 8 row) ≡ true → Moves from (reserves (held j e)) d r subs rows subs′ rows′ → Moves from (gives now last j (inflightAt row)) d r subs rows subs′ rows′
+  pub moves-tx : e ≡ entryOf row → flag (at 8 row) ≡ true → Moves from (reserves (heldFor j e)) d r subs rows subs′ rows′ → Moves from (gives now last j (inflightAt row)) d r subs rows subs′ rows′
   moves-tx is x m =
-      moves-as from (reserves (held j e)) (gives now last j (inflightAt row)) d r subs rows subs′ rows′
-      (λ t. ap (λ (y : Entry). reserves (held j y) t) is ∙ sym (if-true (reserves (held j (entryOf row)) t) (reinsert now (givenBack last (entryOf row) ∷ []) t) x)) m
+      moves-as from (reserves (heldFor j e)) (gives now last j (inflightAt row)) d r subs rows subs′ rows′
+      (λ t. ap (λ (y : Entry). reserves (heldFor j y) t) is ∙ sym (if-true (reserves (heldFor j (entryOf row)) t) (reinsert now (givenBack last (entryOf row) ∷ []) t) x)) m
 
   pub moves-no-tx : e ≡ givenBack last (entryOf row) → flag (at 8 row) ≡ false → Moves from (reinsert now (e ∷ [])) d r subs rows subs′ rows′ → Moves from (gives now last j (inflightAt row)) d r subs rows subs′ rows′
   moves-no-tx is x m =
       moves-as from (reinsert now (e ∷ [])) (gives now last j (inflightAt row)) d r subs rows subs′ rows′
-      (λ t. ap (λ (y : Entry). reinsert now (y ∷ []) t) is ∙ sym (if-false (reserves (held j (entryOf row)) t) (reinsert now (givenBack last (entryOf row) ∷ []) t) x)) m
+      (λ t. ap (λ (y : Entry). reinsert now (y ∷ []) t) is ∙ sym (if-false (reserves (heldFor j (entryOf row)) t) (reinsert now (givenBack last (entryOf row) ∷ []) t) x)) m

@@ -8,12 +8,13 @@ use native.Mathlib.Omega.{arith}
 use borrow.Author.Tests.{eqb-true, eqb-false, leb-true, leb-false, lt-ltb, le-ltb, eq-eqb, ne-eqb}
 use lib.Dec.{leb, eqb}
 use lib.ListN.{length, take, drop, getD, set}
+use Rattle.definition.specs.Layout.{Row}
 use Rattle.words.proofs.Tests.{by-test}
 use Rattle.entry.specs.Entry.{entryOf}
 use Rattle.definition.specs.Base.{if_then_else_}
 use Rattle.definition.specs.Types.{Entry}
 use Rattle.definition.specs.Destination.{insert}
-use Rattle.table.specs.Table.{Row, placeFrom}
+use Rattle.table.specs.Table.{placeFrom}
 use Rattle.table.proofs.Search.{place-from-within}
 
 module _ (e f : Entry) (fs : List Entry) where

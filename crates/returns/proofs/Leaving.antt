@@ -17,16 +17,16 @@ use Rattle.definition.specs.Types as Def
 use Rattle.definition.specs.Consumer.{isBrowser}
 use Rattle.definition.specs.Destination.{isId, without, dropSub, returning}
 use Rattle.definition.specs.Words.{kindBy, at}
-use Rattle.definition.specs.Layout.{Row, heldAt, inflightAt, inflightOf, heldOf, subAt, subsAt, subRows, entryStrict, subsStrict}
+use Rattle.definition.specs.Layout.{Row, heldAt, inflightAt, inflightCount, heldCount, subAt, subsAt, subRows, entryStrict, subsStrict}
 use Rattle.definition.proofs.Tests.{if-true, if-false}
 use Rattle.table.specs.Table.{closeGap}
 use Rattle.table.proofs.Lists.{slice-take, written, written-length, written-drop}
 use Rattle.table.proofs.Laws.{close-before}
 use Rattle.consumers.specs.declared.Sub.{Sub}
-use Rattle.consumers.specs.declared.Found.the-variants.{At}
-use Rattle.consumers.specs.Consumers.{subOf}
+use Rattle.entry.specs.declared.Found.the-variants.{At}
+use Rattle.consumers.specs.Consumers.{rowSub}
 use Rattle.consumers.specs.Seats.{flyingIn, afterIn, subIn}
-use Rattle.consumers.specs.Table.{positionFrom, takenOut, removed}
+use Rattle.consumers.specs.Table.{positionFrom, takenOut, subRemoved}
 use Rattle.consumers.proofs.View.{rows-append, rows-take, rows-split, rows-gone, subs-length, subs-gone, after-all, after-gone, sub-at}
 use Rattle.consumers.proofs.Strict.{strict-at, strict-gone}
 use Rattle.consumers.proofs.Laws.{removed-first, browser-sub}
@@ -35,25 +35,25 @@ use Rattle.state.specs.declared.Head.{Head}
 use Rattle.state.specs.State.{headView, strictTables, withUsed, firstWaiting}
 use Rattle.state.specs.Fits.{Fits}
 use Rattle.state.specs.Leaves.{silent, Leaves}
-use Rattle.returns.specs.Returns.{leftAt, left, givesAll, droppedHead}
-use Rattle.returns.specs.Gaps.{destOf, waitingIn, around, Strict, StrictAround, Gap, Gave}
+use Rattle.returns.specs.Returns.{departedAt, departed, givesAll, droppedHead}
+use Rattle.returns.specs.Gaps.{gapDest, waitingIn, around, GapStrict, StrictAround, Gap, GaveBack}
 use Rattle.returns.proofs.Moving.{strict-as}
 use Rattle.returns.proofs.Gap.{head-dest, head-strict, gap-leaves, same-both, forgets, forgets-strict, forgets-same, forgets-gap}
 
 -- ---- the words
 
 module _ (i n : ℕ) (ws : List Row) (h : i < n) (g : n ≤ length ws) where
-  removed-is : removed i n ws ≡ written i (slice (suc i) n ws) (n - 1) ws
-  unfolding removed takenOut written
+  removed-is : subRemoved i n ws ≡ written i (slice (suc i) n ws) (n - 1) ws
+  unfolding subRemoved takenOut written
   removed-is = rw (le-leb n (length ws) g, lt-ltb i n h)
 
   shorter : i + length (slice (suc i) n ws) ≡ n - 1
   shorter = omega (arith, length-slice (suc i) n ws g)
 
-  removed-length : length (removed i n ws) ≡ length ws
+  removed-length : length (subRemoved i n ws) ≡ length ws
   removed-length = ap length removed-is ∙ written-length i (n - 1) (slice (suc i) n ws) ws shorter (omega arith)
 
-  removed-past : (m : ℕ) → n ≤ m → drop m (removed i n ws) ≡ drop m ws
+  removed-past : (m : ℕ) → n ≤ m → drop m (subRemoved i n ws) ≡ drop m ws
   removed-past m k = ap (drop m) removed-is ∙ written-drop i (n - 1) (slice (suc i) n ws) ws shorter m (omega arith) (omega arith)
 
 -- ---- what the definition says
@@ -83,10 +83,10 @@ module _ (i : ℕ) (d : Head) (subs rows : List Row) (f : Fits subs d (length ro
   base = subRows (take i ws)
 
   abbrev own : ℕ
-  own = inflightOf w + heldOf w
+  own = inflightCount w + heldCount w
 
   abbrev subs′ : List Row
-  subs′ = removed i (d .consumers) subs
+  subs′ = subRemoved i (d .consumers) subs
 
   abbrev kind : Kind
   kind = kindBy (d .queue)
@@ -125,8 +125,8 @@ module _ (i : ℕ) (d : Head) (subs rows : List Row) (f : Fits subs d (length ro
     expired = omega (arith, f .expired, f .used);
   }
 
-  browses : isBrowser sub ≡ subOf w .browser
-  browses = ap isBrowser (sub-at kind w _ _) ∙ browser-sub kind (subOf w) _ _
+  browses : isBrowser sub ≡ rowSub w .browser
+  browses = ap isBrowser (sub-at kind w _ _) ∙ browser-sub kind (rowSub w) _ _
 
   -- what the code reads
   pub seat-base : min 513 (subRows (take i subs)) ≡ base
@@ -138,7 +138,7 @@ module _ (i : ℕ) (d : Head) (subs rows : List Row) (f : Fits subs d (length ro
   pub seat-words : getD subs i [] ≡ w
   seat-words = sym (getD-take (d .consumers) subs i [] low)
 
-  pub seat-rows : base + (inflightOf w + heldOf w) ≤ d .used
+  pub seat-rows : base + (inflightCount w + heldCount w) ≤ d .used
   seat-rows = omega (arith, rows-split ws i within, f .rows-used)
 
   -- ---- its rows cut out of others
@@ -154,13 +154,13 @@ module _ (i : ℕ) (d : Head) (subs rows : List Row) (f : Fits subs d (length ro
     short = omega (arith, rows-take ws i)
 
     after-is : afterIn ws l i ≡ after
-    after-is = drop-drop (heldOf w) (inflightOf w) (drop base l) ∙ drop-drop own base l
+    after-is = drop-drop (heldCount w) (inflightCount w) (drop base l) ∙ drop-drop own base l
 
     rest-is : drop (subRows (take (d .consumers - 1) subs′)) around-it ≡ drop (subRows ws) l
     rest-is =
         ap (λ (x : List Row). drop (subRows x) around-it) others ∙ after-gone ws l i after short ∙ ap (drop (subRows (drop (suc i) ws))) (sym after-is) ∙ sym (after-all ws l i within)
 
-    leaving-words : (waits : List Row) → Strict (d .consumers) subs l waits → Strict (d .consumers - 1) subs′ around-it waits
+    leaving-words : (waits : List Row) → GapStrict (d .consumers) subs l waits → GapStrict (d .consumers - 1) subs′ around-it waits
     leaving-words waits s =
         let a = strict-at ws l i within (s .subs) in
         record {
@@ -180,8 +180,8 @@ module _ (i : ℕ) (d : Head) (subs rows : List Row) (f : Fits subs d (length ro
 
   module _ (now : ℕ) (last : ℤ) (id : Id) (here : positionFrom 0 id ws ≡ At i) where
     leaving-dest : (l waits : List Row) (p : List Id) (u : List Audit) (h : subRows ws ≤ length l)
-        → destOf (droppedHead d) subs′ (around-it l h) waits p u ≡ dropSub id (destOf d subs l waits p u)
-    unfolding destOf
+        → gapDest (droppedHead d) subs′ (around-it l h) waits p u ≡ dropSub id (gapDest d subs l waits p u)
+    unfolding gapDest
     leaving-dest l waits p u h =
         let m : List Row = around-it l h in
         let all : subsAt kind (take (d .consumers - 1) subs′) m ≡ without (isId id) (subsAt kind ws l) =
@@ -193,28 +193,28 @@ module _ (i : ℕ) (d : Head) (subs rows : List Row) (f : Fits subs d (length ro
         ∙ length-take-le (d .consumers - 1) subs′ (omega (arith, many, removed-length i (d .consumers) subs low many))) in
         let turn : (if leb (d .consumers - 1) (d .turn) then 0 else d .turn) ≡ (if leb (length (without (isId id) (subsAt kind ws l))) (d .turn) then 0 else d .turn) =
         ap (λ (n : ℕ). if_then_else_ {A = ℕ} (leb n (d .turn)) 0 (d .turn)) count in
-        λ j. Def.withRr (turn j) (Def.withSubs (all j) (Def.withReserved (map heldAt (rest-is l h j)) (destOf d subs l waits p u)))
+        λ j. Def.withRr (turn j) (Def.withSubs (all j) (Def.withReserved (map heldAt (rest-is l h j)) (gapDest d subs l waits p u)))
 
     -- around its rows the destination is without it
     leaving-around : (p : List Id) (u : List Audit) → around base own (droppedHead d) subs′ rows p u ≡ dropSub id (headView d subs rows p u)
     leaving-around p u =
         let n : ℕ = firstWaiting d in
-        ap (λ (x : List Row). destOf (droppedHead d) subs′ (x ++ slice (base + own) n rows) (waitingIn d rows) p u) (sym before)
+        ap (λ (x : List Row). gapDest (droppedHead d) subs′ (x ++ slice (base + own) n rows) (waitingIn d rows) p u) (sym before)
         ∙ leaving-dest (take n rows) (waitingIn d rows) p u first-long
         ∙ ap (dropSub id) (sym (head-dest d subs rows (f .rows-used) fits p u))
 
     -- the definition of this consumer
-    left-is : (p : List Id) (u : List Audit) → left now id last (headView d subs rows p u) ≡ returning now sub last (dropSub id (headView d subs rows p u)) kind
+    left-is : (p : List Id) (u : List Audit) → departed now id last (headView d subs rows p u) ≡ returning now sub last (dropSub id (headView d subs rows p u)) kind
     unfolding headView
-    left-is p u = ap (leftAt now id last (headView d subs rows p u)) (found-at id ws i here kind rows)
+    left-is p u = ap (departedAt now id last (headView d subs rows p u)) (found-at id ws i here kind rows)
 
     gives-sub : (t : Dest) → givesAll now last (idOf (at 0 w) (at 1 w) (at 2 w)) (map inflightAt (flyingIn ws rows i)) t ≡ givesAll now last (sub .id) (sub .inflight) t
     unfolding subAt
     gives-sub t = refl
 
     -- the rows go, and nothing else
-    pub leaves-dropped : (r : Head) (rows′ events : List Row) → (d .queue && not (subOf w .browser)) ≡ false → r ≡ withUsed (d .used - own) (droppedHead d) → rows′ ≡ closeGap base own (d .used) rows
-        → Leaves (silent (left now id last)) d r subs rows events subs′ rows′ events
+    pub leaves-dropped : (r : Head) (rows′ events : List Row) → (d .queue && not (rowSub w .browser)) ≡ false → r ≡ withUsed (d .used - own) (droppedHead d) → rows′ ≡ closeGap base own (d .used) rows
+        → Leaves (silent (departed now id last)) d r subs rows events subs′ rows′ events
     leaves-dropped r rows′ events x p q =
         let b : Head = droppedHead d in
         let e : own - own ≡ 0 = omega arith in
@@ -222,7 +222,7 @@ module _ (i : ℕ) (d : Head) (subs rows : List Row) (f : Fits subs d (length ro
         let less : 0 + own ≤ own = omega arith in
         let no : (d .queue && not (isBrowser sub)) ≡ false = ap (λ (y : Bool). d .queue && not y) browses ∙ x in
         rw (p, at0)
-        (gap-leaves (left now id last) base d b (withUsed (d .used - own) b) subs rows events subs′ rows subs′ (closeGap (base + 0) own (d .used) rows)
+        (gap-leaves (departed now id last) base d b (withUsed (d .used - own) b) subs rows events subs′ rows subs′ (closeGap (base + 0) own (d .used) rows)
         (rw e at (forgets-gap base 0 own own b subs′ rows leaving-gap less)) (forgets-same base 0 own own b subs′ rows leaving-gap less)
         refl refl refl refl refl refl (removed-past i (d .consumers) subs low many 32 (f .consumers)) (removed-length i (d .consumers) subs low many) refl refl
         (λ u v _.
@@ -233,24 +233,24 @@ module _ (i : ℕ) (d : Head) (subs rows : List Row) (f : Fits subs d (length ro
         (λ z. subst (λ (n : ℕ). StrictAround base n (withUsed (d .used - own) b) subs′ (closeGap (base + 0) own (d .used) rows)) e (forgets-strict base 0 own own b subs′ rows leaving-gap less (leaving-strict z))))
 
     -- what is held goes, and what was in flight returns
-    pub leaves-gave : (g r : Head) (rows₁ subs″ rows′ events : List Row) → (d .queue && not (subOf w .browser)) ≡ true → g ≡ withUsed (d .used - heldOf w) (droppedHead d)
-        → rows₁ ≡ closeGap (base + inflightOf w) (heldOf w) (d .used) rows
-        → Gave now last (idOf (at 0 w) (at 1 w) (at 2 w)) base (inflightOf w) g r subs′ rows₁ subs″ rows′
-        → Leaves (silent (left now id last)) d r subs rows events subs″ rows′ events
+    pub leaves-gave : (g r : Head) (rows₁ subs″ rows′ events : List Row) → (d .queue && not (rowSub w .browser)) ≡ true → g ≡ withUsed (d .used - heldCount w) (droppedHead d)
+        → rows₁ ≡ closeGap (base + inflightCount w) (heldCount w) (d .used) rows
+        → GaveBack now last (idOf (at 0 w) (at 1 w) (at 2 w)) base (inflightCount w) g r subs′ rows₁ subs″ rows′
+        → Leaves (silent (departed now id last)) d r subs rows events subs″ rows′ events
     leaves-gave g r rows₁ subs″ rows′ events x p q a =
         let b : Head = droppedHead d in
-        let m : ℕ = inflightOf w in
-        let k : ℕ = heldOf w in
+        let m : ℕ = inflightCount w in
+        let k : ℕ = heldCount w in
         let c : List Row = closeGap (base + m) k (d .used) rows in
         let h : Head = withUsed (d .used - k) b in
-        let o : Gave now last (idOf (at 0 w) (at 1 w) (at 2 w)) base m h r subs′ c subs″ rows′ = rw (p, q) at a in
+        let o : GaveBack now last (idOf (at 0 w) (at 1 w) (at 2 w)) base m h r subs′ c subs″ rows′ = rw (p, q) at a in
         let e : own - k ≡ m = omega arith in
         let less : m + k ≤ own = omega arith in
         let yes : (d .queue && not (isBrowser sub)) ≡ true = ap (λ (y : Bool). d .queue && not y) browses ∙ x in
         let n : base + m - base ≡ m = omega arith in
         let flew : slice base (base + m) c ≡ flyingIn ws rows i =
         ap (drop base) (close-before (base + m) k (d .used) rows (base + m) (omega arith)) ∙ slice-take base (base + m) rows (omega arith) ∙ ap (λ (y : ℕ). take y (drop base rows)) n in
-        gap-leaves (left now id last) base d b r subs rows events subs′ rows subs″ rows′ (o .gap) (same-both (forgets-same base m k own b subs′ rows leaving-gap less) (o .same))
+        gap-leaves (departed now id last) base d b r subs rows events subs′ rows subs″ rows′ (o .gap) (same-both (forgets-same base m k own b subs′ rows leaving-gap less) (o .same))
         refl refl refl refl refl refl (removed-past i (d .consumers) subs low many 32 (f .consumers)) (removed-length i (d .consumers) subs low many) refl refl
         (λ u v _.
         o .view u v
@@ -261,10 +261,10 @@ module _ (i : ℕ) (d : Head) (subs rows : List Row) (f : Fits subs d (length ro
         (λ z. o .strict (subst (λ (y : ℕ). StrictAround base y h subs′ c) e (forgets-strict base m k own b subs′ rows leaving-gap less (leaving-strict z))))
 
     -- by what the code has read
-    module _ (b : ℕ) (s : Sub) (g : Head) (subs₁ : List Row) (is-base : b ≡ base) (is-sub : s ≡ subOf w) (is-head : g ≡ droppedHead d) (is-subs : subs₁ ≡ subs′) where
+    module _ (b : ℕ) (s : Sub) (g : Head) (subs₁ : List Row) (is-base : b ≡ base) (is-sub : s ≡ rowSub w) (is-head : g ≡ droppedHead d) (is-subs : subs₁ ≡ subs′) where
       pub leaves-dropped-by : (r : Head) (rows′ events : List Row) → (g .queue && not (s .browser)) ≡ false → r ≡ withUsed (g .used - (s .inflight + s .held)) g
-          → rows′ ≡ closeGap b (s .inflight + s .held) (g .used) rows → Leaves (silent (left now id last)) d r subs rows events subs₁ rows′ events
-      unfolding subOf
+          → rows′ ≡ closeGap b (s .inflight + s .held) (g .used) rows → Leaves (silent (departed now id last)) d r subs rows events subs₁ rows′ events
+      unfolding rowSub
       leaves-dropped-by r rows′ events x p q =
           rw is-subs
           (leaves-dropped r rows′ events
@@ -273,24 +273,24 @@ module _ (i : ℕ) (d : Head) (subs rows : List Row) (f : Fits subs d (length ro
           (q ∙ (λ j. closeGap (is-base j) (is-sub j .inflight + is-sub j .held) (is-head j .used) rows)))
 
       pub leaves-gave-by : (h r : Head) (rows₁ subs″ rows′ events : List Row) → (g .queue && not (s .browser)) ≡ true → h ≡ withUsed (g .used - s .held) g
-          → rows₁ ≡ closeGap (b + s .inflight) (s .held) (g .used) rows → Gave now last (idOf (s .conn) (s .session) (s .value)) b (s .inflight) h r subs₁ rows₁ subs″ rows′
-          → Leaves (silent (left now id last)) d r subs rows events subs″ rows′ events
-      unfolding subOf
+          → rows₁ ≡ closeGap (b + s .inflight) (s .held) (g .used) rows → GaveBack now last (idOf (s .conn) (s .session) (s .value)) b (s .inflight) h r subs₁ rows₁ subs″ rows′
+          → Leaves (silent (departed now id last)) d r subs rows events subs″ rows′ events
+      unfolding rowSub
       leaves-gave-by h r rows₁ subs″ rows′ events x p q a =
           leaves-gave h r rows₁ subs″ rows′ events
           (ap₂ (λ (y : Head) (z : Sub). y .queue && not (z .browser)) (sym is-head) (sym is-sub) ∙ x)
           (p ∙ ap₂ (λ (y : Head) (z : Sub). withUsed (y .used - z .held) y) is-head is-sub)
           (q ∙ (λ j. closeGap (is-base j + is-sub j .inflight) (is-sub j .held) (is-head j .used) rows))
-          (transport (λ j. Gave now last (idOf (is-sub j .conn) (is-sub j .session) (is-sub j .value)) (is-base j) (is-sub j .inflight) h r (is-subs j) rows₁ subs″ rows′) a)
+          (transport (λ j. GaveBack now last (idOf (is-sub j .conn) (is-sub j .session) (is-sub j .value)) (is-base j) (is-sub j .inflight) h r (is-subs j) rows₁ subs″ rows′) a)
 
   -- the gap that is left for what was in flight
-  pub flying-gap : (b : ℕ) (s : Sub) (g h : Head) (subs₁ rows₁ : List Row) → b ≡ base → s ≡ subOf w → g ≡ droppedHead d → subs₁ ≡ subs′ → h ≡ withUsed (g .used - s .held) g
+  pub flying-gap : (b : ℕ) (s : Sub) (g h : Head) (subs₁ rows₁ : List Row) → b ≡ base → s ≡ rowSub w → g ≡ droppedHead d → subs₁ ≡ subs′ → h ≡ withUsed (g .used - s .held) g
       → rows₁ ≡ closeGap (b + s .inflight) (s .held) (g .used) rows → Gap b (s .inflight) h subs₁ rows₁
-  unfolding subOf
+  unfolding rowSub
   flying-gap b s g h subs₁ rows₁ is-base is-sub is-head is-subs p q =
-      let e : own - heldOf w ≡ inflightOf w = omega arith in
-      let x : Gap base (inflightOf w) (withUsed (d .used - heldOf w) (droppedHead d)) subs′ (closeGap (base + inflightOf w) (heldOf w) (d .used) rows) =
-      rw e at (forgets-gap base (inflightOf w) (heldOf w) own (droppedHead d) subs′ rows leaving-gap (omega arith)) in
-      let p′ : h ≡ withUsed (d .used - heldOf w) (droppedHead d) = p ∙ ap₂ (λ (y : Head) (z : Sub). withUsed (y .used - z .held) y) is-head is-sub in
-      let q′ : rows₁ ≡ closeGap (base + inflightOf w) (heldOf w) (d .used) rows = q ∙ (λ j. closeGap (is-base j + is-sub j .inflight) (is-sub j .held) (is-head j .used) rows) in
+      let e : own - heldCount w ≡ inflightCount w = omega arith in
+      let x : Gap base (inflightCount w) (withUsed (d .used - heldCount w) (droppedHead d)) subs′ (closeGap (base + inflightCount w) (heldCount w) (d .used) rows) =
+      rw e at (forgets-gap base (inflightCount w) (heldCount w) own (droppedHead d) subs′ rows leaving-gap (omega arith)) in
+      let p′ : h ≡ withUsed (d .used - heldCount w) (droppedHead d) = p ∙ ap₂ (λ (y : Head) (z : Sub). withUsed (y .used - z .held) y) is-head is-sub in
+      let q′ : rows₁ ≡ closeGap (base + inflightCount w) (heldCount w) (d .used) rows = q ∙ (λ j. closeGap (is-base j + is-sub j .inflight) (is-sub j .held) (is-head j .used) rows) in
       transport (λ j. Gap (sym is-base j) (sym is-sub j .inflight) (sym p′ j) (sym is-subs j) (sym q′ j)) x

@@ -2,7 +2,7 @@
 use mathlib.Core.Path.{_≡_, refl, sym, ap, ap₂, _∙_, transport}
 use mathlib.Core.Bool.{true, false}
 use mathlib.Core.List.{List, [], _∷_, _++_, map, map-append}
-use Prim.Native.Nat.{ℕ, zero, suc, _+_, _-_, _≤_, _<_}
+use Prim.Native.Nat.{ℕ, _+_, _-_, _≤_, _<_}
 use native.Mathlib.Nat.{add-zero}
 use native.Mathlib.Omega.{arith}
 use lib.IntN.{pos}
@@ -28,11 +28,12 @@ use Rattle.consumers.specs.Table.{onFirst, heldBackRow}
 use Rattle.consumers.proofs.Laws.{on-first, on-length, hold-back-rows, hold-back-first}
 use Rattle.consumers.proofs.View.{subs-before}
 use Rattle.consumers.proofs.Strict.{strict-before, strict-held-back}
+use Rattle.consumers.proofs.Lists.{on-past}
 use Rattle.state.specs.declared.Head.{Head}
-use Rattle.state.specs.State.{withReserved, withWaiting, withUsed, withStats, firstWaiting, dueBy}
+use Rattle.state.specs.State.{withReservedCount, withWaiting, withUsed, withCounters, firstWaiting, dueBy}
 use Rattle.state.proofs.Counts.{expired-plain}
-use Rattle.returns.specs.Returns.{held, reserves}
-use Rattle.returns.specs.Gaps.{destOf, cut, waitingIn, around, Strict, settled, Open, Placed, Moves}
+use Rattle.returns.specs.Returns.{heldFor, reserves}
+use Rattle.returns.specs.Gaps.{gapDest, cut, waitingIn, around, GapStrict, settled, Open, Placed, Moves}
 use Rattle.returns.proofs.Rows.{cut-less, cut-join, cut-length, closed-low, closed-high, turned-length, turned-after, turned-low, turned-high}
 use Rattle.returns.proofs.Reinsert.{reinsert-late, reinsert-live}
 
@@ -40,28 +41,28 @@ use Rattle.returns.proofs.Reinsert.{reinsert-late, reinsert-live}
 
 module _ (d : Head) (subs low waits : List Row) (p : List Id) (u : List Audit) where
   abbrev t : Dest
-  t = destOf d subs low waits p u
+  t = gapDest d subs low waits p u
 
   -- the counts of rows are not in it
-  pub dest-counts : (reserved waiting used : ℕ) → destOf (withReserved reserved (withWaiting waiting (withUsed used d))) subs low waits p u ≡ t
-  unfolding destOf
+  pub dest-counts : (reserved waiting used : ℕ) → gapDest (withReservedCount reserved (withWaiting waiting (withUsed used d))) subs low waits p u ≡ t
+  unfolding gapDest
   dest-counts reserved waiting used = refl
 
-  pub dest-expired : d .stats .expired + 1 ≤ top → destOf (withStats (withExpiredBy (d .stats) 1) d) subs low waits p u ≡ count (addExpired 1) t
-  unfolding destOf
+  pub dest-expired : d .stats .expired + 1 ≤ top → gapDest (withCounters (withExpiredBy (d .stats) 1) d) subs low waits p u ≡ count (addExpired 1) t
+  unfolding gapDest
   dest-expired h = ap (λ (s : Stats). Def.withStats s t) (expired-plain (d .stats) 1 h)
 
   pub dest-reserved : (x : Row) → subRows (take (d .consumers) subs) ≤ length low
-      → destOf d subs (low ++ x ∷ []) waits p u ≡ Def.withReserved (t .reserved ++ heldAt x ∷ []) t
-  unfolding destOf
+      → gapDest d subs (low ++ x ∷ []) waits p u ≡ Def.withReserved (t .reserved ++ heldAt x ∷ []) t
+  unfolding gapDest
   dest-reserved x h =
       let n : ℕ = subRows (take (d .consumers) subs) in
       ap₂ (λ (y : List Def.Sub) (z : List Held). Def.withSubs y (Def.withReserved z t)) (subs-before (kindBy (d .queue)) (take (d .consumers) subs) low (x ∷ []) h)
       (ap (map heldAt) (drop-append-le n low (x ∷ []) h) ∙ map-append heldAt (drop n low) (x ∷ []))
 
   pub dest-stored : (e : Entry) (waits′ : List Row) → map entryOf waits′ ≡ insert e (map entryOf waits)
-      → destOf d (onFirst (heldBackRow (e .seq)) (d .consumers) subs) low waits′ p u ≡ Def.withPending (insert e (t .pending)) (Def.withSubs (map (holdBack (e .seq)) (t .subs)) t)
-  unfolding destOf
+      → gapDest d (onFirst (heldBackRow (e .seq)) (d .consumers) subs) low waits′ p u ≡ Def.withPending (insert e (t .pending)) (Def.withSubs (map (holdBack (e .seq)) (t .subs)) t)
+  unfolding gapDest
   dest-stored e waits′ h =
       let n : ℕ = d .consumers in
       let own : subRows (take n (onFirst (heldBackRow (e .seq)) n subs)) ≡ subRows (take n subs) = ap subRows (on-first (heldBackRow (e .seq)) n subs) ∙ hold-back-rows (e .seq) (take n subs) in
@@ -70,17 +71,17 @@ module _ (d : Head) (subs low waits : List Row) (p : List Id) (u : List Audit) w
 
 -- ---- strict words of rows
 
-pub strict-as : {n n′ : ℕ} {subs low low′ waits waits′ : List Row} → n′ ≡ n → low′ ≡ low → waits′ ≡ waits → Strict n subs low waits → Strict n′ subs low′ waits′
-strict-as {n} {n′} {subs} {low} {low′} {waits} {waits′} e p q s = transport (λ j. Strict (sym e j) subs (sym p j) (sym q j)) s
+pub strict-as : {n n′ : ℕ} {subs low low′ waits waits′ : List Row} → n′ ≡ n → low′ ≡ low → waits′ ≡ waits → GapStrict n subs low waits → GapStrict n′ subs low′ waits′
+strict-as {n} {n′} {subs} {low} {low′} {waits} {waits′} e p q s = transport (λ j. GapStrict (sym e j) subs (sym p j) (sym q j)) s
 
-strict-reserved : (n : ℕ) (subs low waits : List Row) (x : Row) → subRows (take n subs) ≤ length low → entryStrict x ≡ true → Strict n subs low waits → Strict n subs (low ++ x ∷ []) waits
+strict-reserved : (n : ℕ) (subs low waits : List Row) (x : Row) → subRows (take n subs) ≤ length low → entryStrict x ≡ true → GapStrict n subs low waits → GapStrict n subs (low ++ x ∷ []) waits
 strict-reserved n subs low waits x h w s = record {
   subs = strict-before (take n subs) low (x ∷ []) h ∙ s .subs;
   reserved = ap (all entryStrict) (drop-append-le (subRows (take n subs)) low (x ∷ []) h) ∙ all-end entryStrict (drop (subRows (take n subs)) low) x (s .reserved) w;
   waits = s .waits;
 }
 
-strict-stored : (seq n : ℕ) (subs low waits waits′ : List Row) → all entryStrict waits′ ≡ true → Strict n subs low waits → Strict n (onFirst (heldBackRow seq) n subs) low waits′
+strict-stored : (seq n : ℕ) (subs low waits waits′ : List Row) → all entryStrict waits′ ≡ true → GapStrict n subs low waits → GapStrict n (onFirst (heldBackRow seq) n subs) low waits′
 strict-stored seq n subs low waits waits′ h s =
     let first : take n (onFirst (heldBackRow seq) n subs) ≡ map (heldBackRow seq) (take n subs) = on-first (heldBackRow seq) n subs in
     record {
@@ -88,14 +89,6 @@ strict-stored seq n subs low waits waits′ h s =
       reserved = ap (λ (m : ℕ). all entryStrict (drop m low)) (ap subRows first ∙ hold-back-rows seq (take n subs)) ∙ s .reserved;
       waits = h;
     }
-
--- past the first n
-on-past : (f : Row → Row) (n m : ℕ) (ws : List Row) → n ≤ m → drop m (onFirst f n ws) ≡ drop m ws
-unfolding onFirst
-on-past f zero m ws h = refl
-on-past f (suc n) m [] h = refl
-on-past f (suc n) zero (w ∷ ws) h = absurd (omega arith)
-on-past f (suc n) (suc m) (w ∷ ws) h = on-past f n m ws (omega arith)
 
 -- ---- one row of a gap
 
@@ -105,15 +98,15 @@ cut-one from k n l m p h b e = cut-less from 0 1 k n l m (omega arith) h b (e �
 
 -- entries expire by the head's allowance
 expires-by : (now : ℕ) (e : Entry) (d : Head) (subs low waits : List Row) (producers : List Id) (audits : List Audit)
-    → expired (pos (due now (destOf d subs low waits producers audits))) e ≡ expired (pos (dueBy now d)) e
-unfolding destOf
+    → expired (pos (due now (gapDest d subs low waits producers audits))) e ≡ expired (pos (dueBy now d)) e
+unfolding gapDest
 expires-by now e d subs low waits producers audits = refl
 
 module _ (now from : ℕ) (e : Entry) (d : Head) (subs rows : List Row) (o : Open from d (length rows)) where
   abbrev first : ℕ
   first = firstWaiting d
 
-  pub moves-late : (r : Head) (rows′ : List Row) → expired (pos (dueBy now d)) e ≡ true → r ≡ withStats (withExpiredBy (d .stats) 1) (withUsed (d .used - 1) d) → rows′ ≡ closeGap from 1 (d .used) rows
+  pub moves-late : (r : Head) (rows′ : List Row) → expired (pos (dueBy now d)) e ≡ true → r ≡ withCounters (withExpiredBy (d .stats) 1) (withUsed (d .used - 1) d) → rows′ ≡ closeGap from 1 (d .used) rows
       → Moves from (reinsert now (e ∷ [])) d r subs rows subs rows′
   moves-late r rows′ x p q =
       let c : List Row = closeGap from 1 (d .used) rows in
@@ -125,8 +118,8 @@ module _ (now from : ℕ) (e : Entry) (d : Head) (subs rows : List Row) (o : Ope
       let high : slice (first - 1) (d .used - 1) c ≡ waitingIn d rows = closed-high from 1 first (d .used) rows one (omega arith) fits in
       rw (p, q) (record {
         view = λ k producers audits some within sum.
-            ap (λ (n : ℕ). destOf (withStats (withExpiredBy (d .stats) 1) a) subs (cut from (k - 1) n c) (slice n (d .used - 1) c) producers audits) less
-            ∙ ap₂ (λ (y z : List Row). destOf (withStats (withExpiredBy (d .stats) 1) a) subs y z producers audits) (cut-one from k first rows c some (omega arith) (omega arith) low) high
+            ap (λ (n : ℕ). gapDest (withCounters (withExpiredBy (d .stats) 1) a) subs (cut from (k - 1) n c) (slice n (d .used - 1) c) producers audits) less
+            ∙ ap₂ (λ (y z : List Row). gapDest (withCounters (withExpiredBy (d .stats) 1) a) subs y z producers audits) (cut-one from k first rows c some (omega arith) (omega arith) low) high
             ∙ dest-expired a subs (cut from k first rows) (waitingIn d rows) producers audits (omega (arith, o .expired, o .used))
             ∙ ap (count (addExpired 1)) (dest-counts d subs (cut from k first rows) (waitingIn d rows) producers audits (d .reserved) (d .waiting) (d .used - 1))
             ∙ sym (reinsert-late now e (around from k d subs rows producers audits) (expires-by now e d subs (cut from k first rows) (waitingIn d rows) producers audits ∙ x));
@@ -151,14 +144,14 @@ module _ (now from : ℕ) (e : Entry) (d : Head) (subs rows : List Row) (o : Ope
   pub moves-back : (r : Head) (subs′ rows′ : List Row) → expired (pos (dueBy now d)) e ≡ false → subs′ ≡ onFirst (heldBackRow (e .seq)) (d .consumers) subs → Placed from e d r rows rows′
       → Moves from (reinsert now (e ∷ [])) d r subs rows subs′ rows′
   moves-back r subs′ rows′ x q s =
-      let held : List Row = onFirst (heldBackRow (e .seq)) (d .consumers) subs in
+      let heldFor : List Row = onFirst (heldBackRow (e .seq)) (d .consumers) subs in
       let less : firstWaiting r ≡ first - 1 = omega (arith, s .counts, s .waiting, o .before) in
       let fits : d .used ≤ length rows = omega (arith, o .used, o .long) in
       rw q (record {
         view = λ k producers audits some within sum.
-            ap (λ (n : ℕ). destOf r held (cut from (k - 1) n rows′) (slice n (r .used) rows′) producers audits) less
-            ∙ ap₂ (λ (a : Head) (y : List Row). destOf a held y (slice (first - 1) (r .used) rows′) producers audits) (s .head) (cut-one from k first rows rows′ some (omega arith) (omega arith) (s .low))
-            ∙ dest-counts d held (cut from k first rows) (slice (first - 1) (r .used) rows′) producers audits (d .reserved) (r .waiting) (r .used)
+            ap (λ (n : ℕ). gapDest r heldFor (cut from (k - 1) n rows′) (slice n (r .used) rows′) producers audits) less
+            ∙ ap₂ (λ (a : Head) (y : List Row). gapDest a heldFor y (slice (first - 1) (r .used) rows′) producers audits) (s .head) (cut-one from k first rows rows′ some (omega arith) (omega arith) (s .low))
+            ∙ dest-counts d heldFor (cut from k first rows) (slice (first - 1) (r .used) rows′) producers audits (d .reserved) (r .waiting) (r .used)
             ∙ dest-stored d subs (cut from k first rows) (waitingIn d rows) producers audits e (slice (first - 1) (r .used) rows′) (s .waits)
             ∙ sym (reinsert-live now e (around from k d subs rows producers audits) (expires-by now e d subs (cut from k first rows) (waitingIn d rows) producers audits ∙ x));
         strict = λ k some within sum t.
@@ -166,7 +159,7 @@ module _ (now from : ℕ) (e : Entry) (d : Head) (subs rows : List Row) (o : Ope
             (strict-stored (e .seq) (d .consumers) subs (cut from k first rows) (waitingIn d rows) (slice (first - 1) (r .used) rows′) (s .strict (t .waits)) t);
         low = s .low;
         same = record {
-          head = s .head ∙ ap₂ (λ (y : Stats) (n : ℕ). settled d (withStats y (withReserved n r))) (sym (ap (λ (a : Head). a .stats) (s .head))) (sym (ap (λ (a : Head). a .reserved) (s .head)));
+          head = s .head ∙ ap₂ (λ (y : Stats) (n : ℕ). settled d (withCounters y (withReservedCount n r))) (sym (ap (λ (a : Head). a .stats) (s .head))) (sym (ap (λ (a : Head). a .reserved) (s .head)));
           used = s .used;
           own = ap subRows (on-first (heldBackRow (e .seq)) (d .consumers) subs) ∙ hold-back-rows (e .seq) (take (d .consumers) subs);
           subs-past = on-past (heldBackRow (e .seq)) (d .consumers) 32 subs (o .consumers);
@@ -182,7 +175,7 @@ module _ (now from : ℕ) (e : Entry) (d : Head) (subs rows : List Row) (o : Ope
 
 -- the row goes to the end of the reserved ones
 module _ (from : ℕ) (d : Head) (subs rows : List Row) (o : Open from d (length rows)) where
-  pub moves-reserved : (r : Head) (rows′ : List Row) (x : Row) (h : Held) → heldAt x ≡ h → entryStrict x ≡ true → r ≡ withReserved (d .reserved + 1) d
+  pub moves-reserved : (r : Head) (rows′ : List Row) (x : Row) (h : Held) → heldAt x ≡ h → entryStrict x ≡ true → r ≡ withReservedCount (d .reserved + 1) d
       → rows′ ≡ set (closeGap from 1 (firstWaiting d) rows) (firstWaiting d - 1) x
       → Moves from (reserves h) d r subs rows subs rows′
   moves-reserved r rows′ x h is well p q =
@@ -204,10 +197,10 @@ module _ (from : ℕ) (d : Head) (subs rows : List Row) (o : Open from d (length
         view = λ k producers audits more within sum.
             let l : List Row = cut from k n rows in
             let size : length l ≡ n - k = cut-length from k n rows (omega arith) some in
-            ap₂ (λ (y z : List Row). destOf (withReserved (d .reserved + 1) d) subs y z producers audits) (longer k more within) high
+            ap₂ (λ (y z : List Row). gapDest (withReservedCount (d .reserved + 1) d) subs y z producers audits) (longer k more within) high
             ∙ dest-counts d subs (l ++ x ∷ []) w producers audits (d .reserved + 1) (d .waiting) (d .used)
             ∙ dest-reserved d subs l w producers audits x (omega (arith, size))
-            ∙ ap (λ (y : Held). Def.withReserved (destOf d subs l w producers audits .reserved ++ y ∷ []) (destOf d subs l w producers audits)) is;
+            ∙ ap (λ (y : Held). Def.withReserved (gapDest d subs l w producers audits .reserved ++ y ∷ []) (gapDest d subs l w producers audits)) is;
         strict = λ k more within sum s.
             strict-as refl (longer k more within) high (strict-reserved (d .consumers) subs (cut from k n rows) w x (omega (arith, cut-length from k n rows (omega arith) some)) well s);
         low = low;
@@ -240,6 +233,6 @@ moves-as from f g d r subs rows subs′ rows′ h m = record {
 }
 
 -- a reserved row is read as it was written
-pub held-row-at : (e : Entry) (a b c : ℕ) → EntryFits e → heldAt (rowOf e a b c) ≡ held (idOf a b c) e
+pub held-row-at : (e : Entry) (a b c : ℕ) → EntryFits e → heldAt (rowOf e a b c) ≡ heldFor (idOf a b c) e
 unfolding rowOf
-held-row-at e a b c f = ap (held (idOf a b c)) (entry-of-row e a b c f)
+held-row-at e a b c f = ap (heldFor (idOf a b c)) (entry-of-row e a b c f)

@@ -11,10 +11,10 @@ use lib.Seq.{slice, length-slice, getD-take, getD-drop, drop-set-lt, take-set-le
 use Rattle.entry.specs.Entry.{entryOf}
 use Rattle.definition.specs.Base.{all}
 use Rattle.definition.specs.Types.{Entry}
-use Rattle.definition.specs.Layout.{entryStrict}
+use Rattle.definition.specs.Layout.{entryStrict, Row}
 use Rattle.definition.proofs.Tests.{and-left, and-right, and-both}
 use Rattle.definition.proofs.Lists.{all-append}
-use Rattle.table.specs.Table.{Row, placeFrom, placeOf, closeGap}
+use Rattle.table.specs.Table.{placeFrom, placeOf, closeGap}
 use Rattle.table.proofs.Bounds.{place-in}
 use Rattle.table.proofs.Search.{place-within}
 use Rattle.table.proofs.Laws.{close-length, close-after}

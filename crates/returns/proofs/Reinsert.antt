@@ -13,7 +13,7 @@ use Rattle.definition.specs.Types.{Id, Entry, Inflight, Sub, Held, Dest, withPe
 use Rattle.definition.specs.Consumer.{_⊕_, addExpired}
 use Rattle.definition.specs.Destination.{count, due, insert, holdBack, holdBackAll, insertAll, reinsert, returnedFrom, reservedFrom}
 use Rattle.definition.proofs.Local.{⊕-zero, ⊕-assoc}
-use Rattle.returns.specs.Returns.{held, givenBack, gives, givesAll}
+use Rattle.returns.specs.Returns.{heldFor, givenBack, gives, givesAll}
 
 abbrev stores : Entry → Dest → Dest
 stores e t = withPending (insert e (t .pending)) (withSubs (map (holdBack (e .seq)) (t .subs)) t)
@@ -80,7 +80,7 @@ pub gives-more : (now : ℕ) (last : ℤ) (j : Id) (i : Inflight) (is : List Inf
 gives-more now last j i is t = by-test (i .tx) reserves returns
   where
     reserves : i .tx ≡ true → givesAll now last j (i ∷ is) t ≡ givesAll now last j is (gives now last j i t)
-    reserves x = rw x (ap (λ (l : List Held). reinsert now (returnedFrom last is) (withReserved l t)) (sym (append-assoc (t .reserved) (held j (i .entry) ∷ []) (reservedFrom j is))))
+    reserves x = rw x (ap (λ (l : List Held). reinsert now (returnedFrom last is) (withReserved l t)) (sym (append-assoc (t .reserved) (heldFor j (i .entry) ∷ []) (reservedFrom j is))))
 
     returns : i .tx ≡ false → givesAll now last j (i ∷ is) t ≡ givesAll now last j is (gives now last j i t)
     returns x =

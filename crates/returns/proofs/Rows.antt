@@ -5,7 +5,8 @@ use Prim.Native.Nat.{ℕ, suc, _+_, _-_, _≤_, _<_}
 use native.Mathlib.Omega.{arith}
 use lib.ListN.{length, take, drop, set, length-append, length-set, take-append-drop}
 use lib.Seq.{slice, length-slice, length-take-le, take-take, take-add, drop-drop, take-at, drop-at, take-suc-set, drop-set-lt, take-set-le, take-set-lt, drop-set-add, drop-append-le, take-append-le}
-use Rattle.table.specs.Table.{Row, closeGap}
+use Rattle.definition.specs.Layout.{Row}
+use Rattle.table.specs.Table.{closeGap}
 use Rattle.table.proofs.Laws.{close-length, close-used, close-after}
 use Rattle.table.proofs.Lists.{slice-take, drop-parts}
 use Rattle.returns.specs.Gaps.{cut}

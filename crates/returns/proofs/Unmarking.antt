@@ -7,7 +7,7 @@ use native.Mathlib.Omega.{arith}
 use borrow.Author.Tests.{ltb-true, ltb-false}
 use lib.Dec.{ltb}
 use lib.ListN.{length, take, drop, getD}
-use lib.Seq.{slice, take-suc, take-take, drop-drop, drop-at, getD-drop, getD-take, getD-set-same, length-take-le, set-out}
+use lib.Seq.{slice, take-suc, take-take, drop-drop, drop-at, getD-take, getD-set-same, length-take-le, set-out}
 use Rattle.words.proofs.Tests.{by-test}
 use Rattle.model.specs.Model.{idOf, sameId}
 use Rattle.entry.specs.Entry.{entryOf}
@@ -17,15 +17,16 @@ use Rattle.definition.specs.Types.{Kind, Id, Inflight}
 use Rattle.definition.specs.Types as Def
 use Rattle.definition.specs.Destination.{isId, noTx, unmarked}
 use Rattle.definition.specs.Words.{kindBy}
-use Rattle.definition.specs.Layout.{Row, flag, idAt, heldAt, inflightAt, inflightOf, heldOf, subAt, eachSub, subsAt, subRows, entryStrict, flyingStrict, subStrict, subsStrict}
+use Rattle.definition.specs.Layout.{Row, flag, heldAt, inflightAt, inflightCount, heldCount, subAt, eachSub, subsAt, subRows, entryStrict, flyingStrict, subStrict, subsStrict}
 use Rattle.definition.proofs.Tests.{if-true, if-false, and-both}
+use Rattle.definition.proofs.Lists.{agree-later}
 use Rattle.table.specs.Table.{mapRows, unmarkRow}
-use Rattle.table.proofs.Lists.{slice-take, agree-later}
-use Rattle.table.proofs.Rows.{word-kept, unmark-entry}
+use Rattle.table.proofs.Lists.{slice-take}
+use Rattle.table.proofs.Rows.{word-kept, unmark-entry, below}
 use Rattle.table.proofs.Laws.{map-length, map-before, map-after, map-used}
 use Rattle.table.proofs.Strict.{unmark-strict}
 use Rattle.consumers.specs.declared.Sub.{Sub}
-use Rattle.consumers.specs.Consumers.{subOf}
+use Rattle.consumers.specs.Consumers.{rowSub}
 use Rattle.consumers.proofs.View.{rows-next, rows-take, subs-append, subs-agree}
 use Rattle.consumers.proofs.Strict.{strict-sub, sub-strict, strict-append, strict-agree, strict-at, tables-strict, strict-tables, all-map}
 use Rattle.state.specs.declared.Head.{Head}
@@ -33,17 +34,10 @@ use Rattle.state.specs.State.{headView}
 use Rattle.state.specs.Fits.{Fits}
 use Rattle.state.specs.Leaves.{silent, Leaves}
 
--- the identifier in a reserved row
-pub held-id : (row : Row) → idAt (drop 6 row) ≡ idOf (getD row 6 0) (getD row 7 0) (getD row 8 0)
-held-id row = λ j. idOf (getD-drop 6 row 0 0 j) (getD-drop 6 row 1 0 j) (getD-drop 6 row 2 0 j)
-
 -- ---- one row, one consumer
 
 abbrev quiet : Inflight → Inflight
 quiet i = record { dseq = i .dseq; entry = i .entry; freed = i .freed; tx = false }
-
-apart : {j k : ℕ} → j < k → j ≡ k → ⊥
-apart h e = omega arith
 
 no-mark : (r : Row) → getD (unmarkRow r) 8 0 ≡ 0
 no-mark r = by-test (ltb 8 (length r))
@@ -59,8 +53,8 @@ no-mark r = by-test (ltb 8 (length r))
 
 quiet-row : (r : Row) → inflightAt (unmarkRow r) ≡ quiet (inflightAt r)
 quiet-row r =
-    let six : getD (unmarkRow r) 6 0 ≡ getD r 6 0 = word-kept r 8 0 6 (apart (omega arith)) in
-    let seven : getD (unmarkRow r) 7 0 ≡ getD r 7 0 = word-kept r 8 0 7 (apart (omega arith)) in
+    let six : getD (unmarkRow r) 6 0 ≡ getD r 6 0 = word-kept r 8 0 6 (below (omega arith)) in
+    let seven : getD (unmarkRow r) 7 0 ≡ getD r 7 0 = word-kept r 8 0 7 (below (omega arith)) in
     λ j. record { dseq = six j; entry = unmark-entry r j; freed = flag (seven j); tx = flag (no-mark r j) }
 
 quiet-rows : (l : List Row) → map inflightAt (map unmarkRow l) ≡ map quiet (map inflightAt l)
@@ -107,19 +101,19 @@ module _ (id : Id) (d : Head) (subs rows₀ : List Row) (a : Fits subs d (length
   many : length us ≡ d .consumers
   many = length-take-le (d .consumers) subs (omega (arith, a .consumers, a .subs-long))
 
-  module _ (i base : ℕ) (rows : List Row) (g : Unmarking id n subs rows₀ i base rows) (low : i < d .consumers) (s : Sub) (is : s ≡ subOf (getD subs i [])) where
+  module _ (i base : ℕ) (rows : List Row) (g : Unmarking id n subs rows₀ i base rows) (low : i < d .consumers) (s : Sub) (is : s ≡ rowSub (getD subs i [])) where
     abbrev w : Row
     w = getD us i []
 
-    words : s ≡ subOf w
-    words = is ∙ ap subOf (sym (getD-take (d .consumers) subs i [] low))
+    words : s ≡ rowSub w
+    words = is ∙ ap rowSub (sym (getD-take (d .consumers) subs i [] low))
 
-    in-flight : s .inflight ≡ inflightOf w
-    unfolding subOf
+    in-flight : s .inflight ≡ inflightCount w
+    unfolding rowSub
     in-flight = ap (λ (x : Sub). x .inflight) words
 
-    holds : s .held ≡ heldOf w
-    unfolding subOf
+    holds : s .held ≡ heldCount w
+    unfolding rowSub
     holds = ap (λ (x : Sub). x .held) words
 
     next : subRows (take (suc i) us) ≡ base + (s .inflight + s .held)
@@ -187,7 +181,7 @@ module _ (id : Id) (d : Head) (subs rows₀ : List Row) (a : Fits subs d (length
               }
 
           same-id : isId id seen ≡ sameId (idOf (s .conn) (s .session) (s .value)) id
-          unfolding subAt subOf
+          unfolding subAt rowSub
           same-id = ap (λ (y : Sub). sameId (idOf (y .conn) (y .session) (y .value)) id) (sym words)
 
           part : Part rows′ (one id seen)

@@ -19,8 +19,8 @@ use Rattle.state.specs.State.{withWaiting, withUsed, firstWaiting}
 use Rattle.returns.specs.Returns.{givesAll}
 
 -- the destination of these rows before the waiting ones, and of these waiting ones
-unfoldable pub destOf : Head → List Row → List Row → List Row → List Id → List Audit → Dest
-destOf d subs low waits producers audits = record {
+unfoldable pub gapDest : Head → List Row → List Row → List Row → List Id → List Audit → Dest
+gapDest d subs low waits producers audits = record {
   kind = kindBy (d .queue);
   topicLimit = d .«topic_limit»;
   callLimit = d .«call_limit»;
@@ -47,17 +47,17 @@ waitingIn d rows = slice (firstWaiting d) (d .used) rows
 
 -- the destination around a gap of k rows
 abbrev pub around : ℕ → ℕ → Head → List Row → List Row → List Id → List Audit → Dest
-around from k d subs rows producers audits = destOf d subs (cut from k (firstWaiting d) rows) (waitingIn d rows) producers audits
+around from k d subs rows producers audits = gapDest d subs (cut from k (firstWaiting d) rows) (waitingIn d rows) producers audits
 
 -- of n consumers, these rows before the waiting ones and these waiting ones, the words in use are strict
-pub record Strict (n : ℕ) (ws low high : List Row) : Type 0 where
+pub record GapStrict (n : ℕ) (ws low high : List Row) : Type 0 where
   pub subs : subsStrict (take n ws) low ≡ true
   pub reserved : all entryStrict (drop (subRows (take n ws)) low) ≡ true
   pub waits : all entryStrict high ≡ true
 
 -- and around a gap of k rows
 abbrev pub StrictAround : ℕ → ℕ → Head → List Row → List Row → Type 0
-StrictAround from k d subs rows = Strict (d .consumers) subs (cut from k (firstWaiting d) rows) (waitingIn d rows)
+StrictAround from k d subs rows = GapStrict (d .consumers) subs (cut from k (firstWaiting d) rows) (waitingIn d rows)
 
 -- a row before the waiting ones, and numbers that do not run out
 pub record Open (from : ℕ) (d : Head) (rows : ℕ) : Type 0 where
@@ -135,7 +135,7 @@ pub record Gap (from k : ℕ) (d : Head) (subs rows : List Row) : Type 0 where
   pub expired : d .stats .expired + d .used ≤ 2 ^ 62 + 512
 
 -- all rows of a gap have gone as a leaving consumer's do
-pub record Gave (now : ℕ) (last : ℤ) (j : Id) (from k : ℕ) (d r : Head) (subs rows subs′ rows′ : List Row) : Type 0 where
+pub record GaveBack (now : ℕ) (last : ℤ) (j : Id) (from k : ℕ) (d r : Head) (subs rows subs′ rows′ : List Row) : Type 0 where
   pub view : (producers : List Id) (audits : List Audit)
       → around from 0 r subs′ rows′ producers audits ≡ givesAll now last j (map inflightAt (slice from (from + k) rows)) (around from k d subs rows producers audits)
   pub strict : StrictAround from k d subs rows → StrictAround from 0 r subs′ rows′

@@ -15,12 +15,12 @@ use Rattle.state.specs.State.{withTurn, withConsumers}
 use Rattle.state.specs.Fits.{fits}
 
 -- Dest::remove_sub before `touch_idle` and the dispatch: the consumer, if it is there
-abbrev pub leftAt : ℕ → Id → ℤ → Dest → Option Sub → Dest
-leftAt now i last t none = t
-leftAt now i last t (some s) = returning now s last (dropSub i t) (t .kind)
+abbrev pub departedAt : ℕ → Id → ℤ → Dest → Option Sub → Dest
+departedAt now i last t none = t
+departedAt now i last t (some s) = returning now s last (dropSub i t) (t .kind)
 
-abbrev pub left : ℕ → Id → ℤ → Dest → Dest
-left now i last t = leftAt now i last t (subOf i t)
+abbrev pub departed : ℕ → Id → ℤ → Dest → Dest
+departed now i last t = departedAt now i last t (subOf i t)
 
 -- what was reserved for the consumer i returns: `release_reserved` without its marks, before the dispatch
 abbrev pub freed : ℕ → Id → Dest → Dest
@@ -31,8 +31,8 @@ abbrev pub givenBack : ℤ → Entry → Entry
 givenBack last e = if wasDelivered last e then redelivered e else e
 
 -- one more is reserved
-abbrev pub held : Id → Entry → Held
-held i e = record { holder = i; entry = e }
+abbrev pub heldFor : Id → Entry → Held
+heldFor i e = record { holder = i; entry = e }
 
 abbrev pub reserves : Held → Dest → Dest
 reserves h t = withReserved (t .reserved ++ h ∷ []) t
@@ -40,7 +40,7 @@ reserves h t = withReserved (t .reserved ++ h ∷ []) t
 -- what one of the leaving consumer's entries in flight does: it is reserved for j, or it returns
 abbrev pub gives : ℕ → ℤ → Id → Inflight → Dest → Dest
 gives now last j i t =
-    if i .tx then reserves (held j (i .entry)) t
+    if i .tx then reserves (heldFor j (i .entry)) t
     else reinsert now (givenBack last (i .entry) ∷ []) t
 
 -- and all of them

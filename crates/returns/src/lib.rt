@@ -10,20 +10,21 @@ ghost use Rattle.model.specs.declared.Id as Model;
 ghost use Rattle.entry.specs.Entry.{entryOf, redelivered};
 ghost use Rattle.definition.specs.Base.{if_then_else_, is-some};
 ghost use Rattle.definition.specs.Types.{Audit};
-ghost use Rattle.definition.specs.Destination.{subOf, wasDelivered, reinsert, heldBy, unmarked};
+ghost use Rattle.definition.specs.Destination.{subOf, wasDelivered, reinsert, unmarked};
 ghost use Rattle.definition.specs.Layout.{heldAt, inflightAt, entryStrict};
 ghost use Rattle.definition.specs.Layout as Layout;
 ghost use Rattle.table.specs.Table.{closeGap, mapRows, unmarkRow};
 ghost use Rattle.consumers.specs.Table.{positionFrom};
-ghost use Rattle.consumers.specs.declared.Found.the-variants.{At};
-ghost use Rattle.state.specs.State.{headView, withReserved, withUsed};
+ghost use Rattle.entry.specs.declared.Found.the-variants.{At};
+ghost use Rattle.state.specs.State.{headView, withReservedCount, withUsed};
 ghost use Rattle.state.specs.Fits.{fits, Fits};
 ghost use Rattle.state.specs.Leaves.{silent, Leaves, LeavesIf};
-ghost use Rattle.returns.specs.Returns.{held, givenBack, reserves, gives, left, droppedHead, freed, inBounds};
-ghost use Rattle.returns.specs.Gaps.{Open, Placed, Moves, Gap, Gave};
+ghost use Rattle.returns.specs.Returns.{heldFor, givenBack, reserves, gives, departed, droppedHead, freed, inBounds};
+ghost use Rattle.returns.specs.Gaps.{Open, Placed, Moves, Gap, GaveBack};
 use consumers::Sub;
 use consumers::SubRow;
 use entry::Entry;
+use entry::Found;
 use entry::Row;
 use model::Id;
 use state::Event;
@@ -40,7 +41,7 @@ fn waiting_row(e: Entry) -> Row
 
 // The row of an entry that is reserved for a consumer.
 fn reserved_row(e: Entry, s: Sub) -> Row
-    ensures { λ r. ⌜ (heldAt r ≡ held (idOf (s .conn) (s .session) (s .value)) e) × (entryStrict r ≡ true) ⌝ }
+    ensures { λ r. ⌜ (heldAt r ≡ heldFor (idOf (s .conn) (s .session) (s .value)) e) × (entryStrict r ≡ true) ⌝ }
 {
     entry::reserved_row(e, s.conn, s.session, s.value)
 }
@@ -101,7 +102,7 @@ fn put_back(
 // The row at a place goes to the end of the reserved ones.
 fn reserve(rows: &mut [Row], from: usize, mut d: Head, e: Entry, s: Sub) -> Head
     requires { ⌜ Open from d (length (now rows)) × (d .reserved < 2 ^ 63) ⌝ }
-    ensures { λ r. ⌜ ((subs : List Layout.Row) → Moves from (reserves (held (idOf (s .conn) (s .session) (s .value)) e)) d r subs (now (rows .entry)) subs (now (rows .exit))) ⌝ }
+    ensures { λ r. ⌜ ((subs : List Layout.Row) → Moves from (reserves (heldFor (idOf (s .conn) (s .session) (s .value)) e)) d r subs (now (rows .entry)) subs (now (rows .exit))) ⌝ }
 {
     let end = d.first_waiting();
     table::close_gap(rows, from, 1, end);
@@ -165,7 +166,7 @@ fn give_back(
     clock: u64,
 ) -> Head
     requires { ⌜ Gap base (s .inflight) before (now subs) (now rows) × (clock ≤ 2 ^ 62) ⌝ }
-    ensures { λ r. ⌜ Gave clock last (idOf (s .conn) (s .session) (s .value)) base (s .inflight) before r (now (subs .entry)) (now (rows .entry)) (now (subs .exit)) (now (rows .exit)) ⌝ }
+    ensures { λ r. ⌜ GaveBack clock last (idOf (s .conn) (s .session) (s .value)) base (s .inflight) before r (now (subs .entry)) (now (rows .entry)) (now (subs .exit)) (now (rows .exit)) ⌝ }
 {
     let mut d = before;
     let mut left = s.inflight;
@@ -217,7 +218,7 @@ fn leave_at(
     clock: u64,
 ) -> Head
     requires { ⌜ Fits (now subs) before (length (now rows)) 545 × (i < before .consumers) × (clock ≤ 2 ^ 62) ⌝ }
-    ensures { λ r. ⌜ ((id : Model.Id) (events : List Layout.Row) → positionFrom 0 id (take (before .consumers) (now (subs .entry))) ≡ At i → Leaves (silent (left clock id last)) before r (now (subs .entry)) (now (rows .entry)) events (now (subs .exit)) (now (rows .exit)) events) × (r .events + r .used ≤ 512) ⌝ }
+    ensures { λ r. ⌜ ((id : Model.Id) (events : List Layout.Row) → positionFrom 0 id (take (before .consumers) (now (subs .entry))) ≡ At i → Leaves (silent (departed clock id last)) before r (now (subs .entry)) (now (rows .entry)) events (now (subs .exit)) (now (rows .exit)) events) × (r .events + r .used ≤ 512) ⌝ }
 {
     let base = consumers::base_of(subs, i);
     let s = consumers::load(subs, i);
@@ -236,8 +237,8 @@ pub fn is_present(subs: &[SubRow], d: Head, id: Id) -> bool
 {
     let found = consumers::position(subs, d.consumers, id);
     match found {
-        consumers::Found::At(_) => true,
-        consumers::Found::Nothing => false,
+        Found::At(_) => true,
+        Found::Nothing => false,
     }
 }
 
@@ -252,7 +253,7 @@ pub fn leave(
     last: i64,
     clock: u64,
 ) -> Head
-    ensures { λ r. ⌜ LeavesIf (inBounds clock (now (subs .entry)) d (length (now (rows .entry))) (length (now (events .entry)))) (r .events + r .used ≤ 512) (silent (left clock id last)) d r (now (subs .entry)) (now (rows .entry)) (now (events .entry)) (now (subs .exit)) (now (rows .exit)) (now (events .entry)) ⌝ }
+    ensures { λ r. ⌜ LeavesIf (inBounds clock (now (subs .entry)) d (length (now (rows .entry))) (length (now (events .entry)))) (r .events + r .used ≤ 512) (silent (departed clock id last)) d r (now (subs .entry)) (now (rows .entry)) (now (events .entry)) (now (subs .exit)) (now (rows .exit)) (now (events .entry)) ⌝ }
 {
     if entry::CLOCK_MOST < clock {
         return d;
@@ -262,8 +263,8 @@ pub fn leave(
     }
     let found = consumers::position(subs, d.consumers, id);
     match found {
-        consumers::Found::At(i) => leave_at(subs, rows, d, i, last, clock),
-        consumers::Found::Nothing => d,
+        Found::At(i) => leave_at(subs, rows, d, i, last, clock),
+        Found::Nothing => d,
     }
 }
 
@@ -308,17 +309,10 @@ pub fn unmark(subs: &[SubRow], rows: &mut [Row], events: &[Event], d: Head, id: 
 
 // ---- what was reserved is released
 
-// Whether a row is reserved for a consumer.
-fn is_for(row: Row, id: Id) -> bool
-    ensures { λ r. ⌜ r ≡ heldBy id (heldAt row) ⌝ }
-{
-    Id::of_words(row[6], row[7], row[8]).same(id)
-}
-
 // A reserved row returns to the queue.
 fn release_row(subs: &mut [SubRow], rows: &mut [Row], at: usize, mut d: Head, clock: u64) -> Head
     requires { ⌜ Open at d (length (now rows)) × (0 < d .reserved) × (clock ≤ 2 ^ 62) ⌝ }
-    ensures { λ r. ⌜ Moves at (reinsert clock (redelivered (entryOf (getD (now (rows .entry)) at [])) ∷ [])) (withReserved (d .reserved - 1) d) r (now (subs .entry)) (now (rows .entry)) (now (subs .exit)) (now (rows .exit)) ⌝ }
+    ensures { λ r. ⌜ Moves at (reinsert clock (redelivered (entryOf (getD (now (rows .entry)) at [])) ∷ [])) (withReservedCount (d .reserved - 1) d) r (now (subs .entry)) (now (rows .entry)) (now (subs .exit)) (now (rows .exit)) ⌝ }
     ensures { λ r. ⌜ r .reserved ≡ d .reserved - 1 ⌝ }
 {
     let e = entry::entry_of(rows[at]).redelivered();
@@ -335,7 +329,7 @@ fn release_rows(subs: &mut [SubRow], rows: &mut [Row], before: Head, id: Id, clo
     let mut i = before.first_reserved();
     let mut left = before.reserved;
     while 0 < left {
-        if is_for(rows[i], id) {
+        if consumers::is_for(rows[i], id) {
             d = release_row(subs, rows, i, d, clock);
             left -= 1;
         } else {

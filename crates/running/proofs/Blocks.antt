@@ -2,7 +2,7 @@
 use Prim.Native.Nat.{ℕ, suc, _+_, _*_, _-_, _≤_, _<_}
 use native.Mathlib.Omega.{arith}
 use mathlib.Core.Path.{_≡_, refl, sym, ap, ap₂, _∙_, subst, subst⁻¹}
-use mathlib.Core.Bool.{Bool, true, false, _&&_, _||_, true≢false}
+use mathlib.Core.Bool.{Bool, true, false, _&&_, _||_, true≢false, or-false, or-assoc}
 use mathlib.Core.List.{List, [], _++_, append-assoc, append-nil}
 use borrow.Author.Tests.{eqb-true, eqb-false, eq-eqb, ne-eqb, lt-ltb, le-ltb, leb-true}
 use lib.Dec.{eqb, leb}
@@ -15,39 +15,31 @@ use Rattle.calls.specs.declared.Call.{Call}
 use Rattle.engine.specs.Called.{Past, Called}
 use Rattle.callfile.specs.Blocks.{numberAt, check, good, callsIn, callAt}
 use Rattle.callfile.specs.Lines.{badLine}
-use Rattle.callfile.specs.Placed.{Puts, Line}
-use Rattle.callfile.proofs.Parts.{then}
+use Rattle.callfile.specs.Placed.{Puts, PutLine}
+use Rattle.callfile.proofs.Parts.{then, line-puts}
 use Rattle.running.specs.declared.Ran.{Ran}
-use Rattle.running.specs.Running.{callText, Lent, lentBy, accepted, stepOn, leftBy, outcomeOf, Run, followed, runCalls, blockCalls, ends, runBlock, Runs}
-use Rattle.running.proofs.Texts.{bad-length, line-puts, first-next, first-text, none-put}
+use Rattle.running.specs.Running.{callLines, LentState, lentBy, accepted, stepOn, leftBy, outcomeOf, Run, followedRun, runCalls, blockCalls, ends, runBlock, Runs}
+use Rattle.running.proofs.Texts.{bad-length, first-next, first-text, none-put}
 use Rattle.running.proofs.Called.{step-by, sends, text-length, left}
 
 -- ---- the definition, a call at a time
 
-abbrev stopped : List ℕ → ℕ → Bool → Lent → Run
+abbrev stopped : List ℕ → ℕ → Bool → LentState → Run
 stopped text index changed s = record { text = text; index = index; goesOn = true; changed = changed; lent = s }
 
-run-next : (l : Lengths) (block : List ℕ) (k n m index : ℕ) (s : Lent) → m ≡ suc n
-    → runCalls l (blockCalls k m block) index s ≡ followed (callText index (stepOn l (callAt k block) s)) (accepted (stepOn l (callAt k block) s)) (runCalls l (blockCalls (k + 1) n block) (more index) (leftBy (stepOn l (callAt k block) s) s))
+run-next : (l : Lengths) (block : List ℕ) (k n m index : ℕ) (s : LentState) → m ≡ suc n
+    → runCalls l (blockCalls k m block) index s ≡ followedRun (callLines index (stepOn l (callAt k block) s)) (accepted (stepOn l (callAt k block) s)) (runCalls l (blockCalls (k + 1) n block) (more index) (leftBy (stepOn l (callAt k block) s) s))
 unfolding runCalls blockCalls
 run-next l block k n m index s e = ap (λ (x : ℕ). runCalls l (blockCalls k x block) index s) e
 
-run-over : (l : Lengths) (block : List ℕ) (k m index : ℕ) (s : Lent) → m ≡ 0 → runCalls l (blockCalls k m block) index s ≡ stopped [] index false s
+run-over : (l : Lengths) (block : List ℕ) (k m index : ℕ) (s : LentState) → m ≡ 0 → runCalls l (blockCalls k m block) index s ≡ stopped [] index false s
 unfolding runCalls blockCalls
 run-over l block k m index s e = ap (λ (x : ℕ). runCalls l (blockCalls k x block) index s) e
-
-or-assoc : (a b c : Bool) → ((a || b) || c) ≡ (a || (b || c))
-or-assoc true b c = refl
-or-assoc false b c = refl
-
-or-false : (a : Bool) → (a || false) ≡ a
-or-false true = refl
-or-false false = refl
 
 or-other : (a b : Bool) → b ≡ false → (a || b) ≡ true → a ≡ true
 or-other a b e h = sym (or-false a) ∙ sym (ap (λ (x : Bool). a || x) e) ∙ h
 
-twice : (t u : List ℕ) (a b : Bool) (q : Run) → followed t a (followed u b q) ≡ followed (t ++ u) (a || b) q
+twice : (t u : List ℕ) (a b : Bool) (q : Run) → followedRun t a (followedRun u b q) ≡ followedRun (t ++ u) (a || b) q
 twice t u a b q = sym (λ j. record { text = append-assoc t u (q .text) j; index = q .index; goesOn = q .goesOn; changed = or-assoc a b (q .changed) j; lent = q .lent })
 
 -- ---- so far
@@ -59,7 +51,7 @@ pub record Sofar (block : List ℕ) (count from : ℕ) (b₀ : Buffers) (events�
   pub passed : k ≤ count
   pub put : Puts text 0 out₀ at out
   pub small : at ≤ 69888 * k
-  pub rest : runCalls (lengthsOf b₀ (length events₀)) (blockCalls 0 count block) from (lentBy b₀ events₀) ≡ followed text changed (runCalls (lengthsOf b₀ (length events₀)) (blockCalls k (count - k) block) index (lentBy b events))
+  pub rest : runCalls (lengthsOf b₀ (length events₀)) (blockCalls 0 count block) from (lentBy b₀ events₀) ≡ followedRun text changed (runCalls (lengthsOf b₀ (length events₀)) (blockCalls k (count - k) block) index (lentBy b events))
   pub leaves-sound : changed ≡ true → soundBuffers b ≡ true
   pub kept : changed ≡ false → b ≡ b₀
   pub past : Past b₀ b events₀ events
@@ -93,7 +85,7 @@ module _ (block : List ℕ) (count from : ℕ) (b₀ : Buffers) (events₀ : Lis
 
     module _ (more-left : k < count) (x : Call) (named : x ≡ callAt k block) (b′ : Buffers) (events′ : List Row) (out′ : List ℕ) (at′ : ℕ)
         (called : Called (bufferStep b (length events) (x .code) (x .words)) b b′ events events′ (outcomeOf (bufferStep b (length events) (x .code) (x .words))))
-        (puts : Puts (callText index (bufferStep b (length events) (x .code) (x .words))) at out at′ out′)
+        (puts : Puts (callLines index (bufferStep b (length events) (x .code) (x .words))) at out at′ out′)
       where
         abbrev q : Result
         q = bufferStep b (length events) (x .code) (x .words)
@@ -104,12 +96,12 @@ module _ (block : List ℕ) (count from : ℕ) (b₀ : Buffers) (events₀ : Lis
         by : stepOn l (callAt k block) (lentBy b events) ≡ q
         by = sym (step-by b events x ∙ ap₂ (λ (m : Lengths) (y : Call). stepOn m y (lentBy b events)) same-lengths named)
 
-        next : runCalls l (blockCalls k (count - k) block) index (lentBy b events) ≡ followed (callText index q) (accepted q) (runCalls l (blockCalls (k + 1) (count - (k + 1)) block) (more index) (lentBy b′ events′))
+        next : runCalls l (blockCalls k (count - k) block) index (lentBy b events) ≡ followedRun (callLines index q) (accepted q) (runCalls l (blockCalls (k + 1) (count - (k + 1)) block) (more index) (lentBy b′ events′))
         next =
             let e : count - k ≡ suc (count - (k + 1)) = omega arith in
             run-next l block k (count - (k + 1)) (count - k) index (lentBy b events) e
-            ∙ ap (λ (r : Result). followed (callText index r) (accepted r) (runCalls l (blockCalls (k + 1) (count - (k + 1)) block) (more index) (leftBy r (lentBy b events)))) by
-            ∙ ap (λ (t : Lent). followed (callText index q) (accepted q) (runCalls l (blockCalls (k + 1) (count - (k + 1)) block) (more index) t)) (sym (left called))
+            ∙ ap (λ (r : Result). followedRun (callLines index r) (accepted r) (runCalls l (blockCalls (k + 1) (count - (k + 1)) block) (more index) (leftBy r (lentBy b events)))) by
+            ∙ ap (λ (t : LentState). followedRun (callLines index q) (accepted q) (runCalls l (blockCalls (k + 1) (count - (k + 1)) block) (more index) t)) (sym (left called))
 
         sound-so : (s .changed || accepted q) ≡ true → soundBuffers b′ ≡ true
         sound-so h = by-test (accepted q)
@@ -121,12 +113,12 @@ module _ (block : List ℕ) (count from : ℕ) (b₀ : Buffers) (events₀ : Lis
 
         pub one-more : Sofar block count from b₀ events₀ out₀ b′ events′ out′ (more index) at′ (k + 1)
         one-more = record {
-          text = s .text ++ callText index q;
+          text = s .text ++ callLines index q;
           changed = s .changed || accepted q;
           passed = omega arith;
           put = then (s .put) puts;
           small = omega (arith, s .small, puts .next, text-length index q (sends b (length events) (x .code) (x .words)));
-          rest = s .rest ∙ ap (followed (s .text) (s .changed)) next ∙ twice (s .text) (callText index q) (s .changed) (accepted q) (runCalls l (blockCalls (k + 1) (count - (k + 1)) block) (more index) (lentBy b′ events′));
+          rest = s .rest ∙ ap (followedRun (s .text) (s .changed)) next ∙ twice (s .text) (callLines index q) (s .changed) (accepted q) (runCalls l (blockCalls (k + 1) (count - (k + 1)) block) (more index) (lentBy b′ events′));
           leaves-sound = sound-so;
           kept = kept-so;
           past = record {
@@ -161,7 +153,7 @@ module _ (block : List ℕ) (count from : ℕ) (b₀ : Buffers) (events₀ : Lis
         whole : runCalls l (blockCalls 0 count block) from (lentBy b₀ events₀) ≡ stopped (s .text) index (s .changed) (lentBy b events)
         whole =
             s .rest
-            ∙ ap (followed (s .text) (s .changed)) (run-over l block k (count - k) index (lentBy b events) none-left)
+            ∙ ap (followedRun (s .text) (s .changed)) (run-over l block k (count - k) index (lentBy b events) none-left)
             ∙ (λ j. stopped (append-nil (s .text) j) index (or-false (s .changed) j) (lentBy b events))
 
 -- ---- a block, from its tests on
@@ -201,11 +193,11 @@ module _ (l : Lengths) (block : List ℕ) (got index number : ℕ) (b : Buffers)
   no-room h = ended [] out 0 (if-true _ _ (lt-ltb (length out) 489216 h)) (none-put out 0) (omega arith)
 
   module _ (room : 489216 ≤ length out) (count : ℕ) (counted : count ≡ callsIn block got) where
-    pub bad-block : count ≡ 0 → {out′ : List ℕ} {r : ℕ} → Line (badLine number) 0 out r out′ → Runs run b b events events out out′ (record { index = index; written = r; «goes_on» = false })
+    pub bad-block : count ≡ 0 → {out′ : List ℕ} {r : ℕ} → PutLine 128 (badLine number) 0 out r out′ → Runs run b b events events out out′ (record { index = index; written = r; «goes_on» = false })
     unfolding runBlock
     bad-block z {out′} {r} p = ended (badLine number) out′ r
         (if-false _ _ (le-ltb (length out) 489216 room) ∙ if-true _ _ (eq-eqb (callsIn block got) 0 (sym counted ∙ z)))
-        (line-puts (bad-length number) (omega (arith, room)) p)
+        (line-puts (omega (arith, room)) (bad-length number) p)
         (omega (arith, room, bad-length number))
 
     pub good-block : (count ≡ 0 → ⊥) → {b′ : Buffers} {events′ : List Row} {out′ : List ℕ} {r : Ran}

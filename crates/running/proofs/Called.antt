@@ -16,11 +16,11 @@ use Rattle.calls.specs.declared.Call.{Call}
 use Rattle.engine.specs.declared.Outcome.{Outcome}
 use Rattle.engine.specs.Called.{Called}
 use Rattle.callfile.specs.Lines.{callLine}
-use Rattle.callfile.specs.Placed.{Puts, Line}
-use Rattle.callfile.proofs.Parts.{then}
-use Rattle.running.specs.Running.{rowsText, callText, lentBy, accepted, stepOn, leftBy, outcomeOf}
+use Rattle.callfile.specs.Placed.{Puts, PutLine}
+use Rattle.callfile.proofs.Parts.{then, line-puts}
+use Rattle.running.specs.Running.{eventRowsText, callLines, lentBy, accepted, stepOn, leftBy, outcomeOf}
 use Rattle.running.proofs.Ranges.{Fits}
-use Rattle.running.proofs.Texts.{call-length, events-length, events-text, line-puts}
+use Rattle.running.proofs.Texts.{call-length, events-length, events-text}
 
 -- a call on lent buffers is a call on what they hold
 pub step-by : (b : Buffers) (events : List Row) (c : Call) → bufferStep b (length events) (c .code) (c .words) ≡ stepOn (lengthsOf b (length events)) c (lentBy b events)
@@ -35,8 +35,8 @@ sends b n code ws = by-if (λ (r : Result). length (r .events) ≤ 545) (not (sh
     (λ _. omega arith)
     (λ _. step-sends (lengthsOf b n) code ws (view b))
 
-pub text-length : (index : ℕ) (q : Result) → length (q .events) ≤ 545 → length (callText index q) ≤ 69888
-unfolding callText
+pub text-length : (index : ℕ) (q : Result) → length (q .events) ≤ 545 → length (callLines index q) ≤ 69888
+unfolding callLines
 text-length index q few = simp length-append (omega (arith, call-length index (q .refusal) (q .answer), events-length (q .events)))
 
 module _ {q : Result} {b b′ : Buffers} {events events′ : List Row} {r : Outcome} (called : Called q b b′ events events′ r) where
@@ -46,17 +46,17 @@ module _ {q : Result} {b b′ : Buffers} {events events′ : List Row} {r : Outc
   pub as-told : Called q b b′ events events′ (outcomeOf q)
   as-told = subst (λ (x : Outcome). Called q b b′ events events′ x) (λ j. record { refusal = called .refusal j; answer = called .answer j; events = called .count j }) called
 
-  module _ (index : ℕ) {at next : ℕ} {out out₁ : List ℕ} (few : length (q .events) ≤ 545) (room : at + 69888 ≤ length out) (line : Line (callLine index (r .refusal) (r .answer)) at out next out₁) where
+  module _ (index : ℕ) {at next : ℕ} {out out₁ : List ℕ} (few : length (q .events) ≤ 545) (room : at + 69888 ≤ length out) (line : PutLine 128 (callLine index (r .refusal) (r .answer)) at out next out₁) where
     first-line : Puts (callLine index (r .refusal) (r .answer)) at out next out₁
-    first-line = line-puts (call-length index (r .refusal) (r .answer)) (omega (arith, room)) line
+    first-line = line-puts (omega (arith, room)) (call-length index (r .refusal) (r .answer)) line
 
     pub room-left : next + 128 * r .events ≤ length out₁
     room-left = omega (arith, room, few, called .count, first-line .next, first-line .same, call-length index (r .refusal) (r .answer))
 
-    pub printed : Fits (q .events) → {m : ℕ} {out₂ : List ℕ} → Puts (rowsText (take (r .events) events′)) next out₁ m out₂ → Puts (callText index q) at out m out₂
-    unfolding callText
+    pub printed : Fits (q .events) → {m : ℕ} {out₂ : List ℕ} → Puts (eventRowsText (take (r .events) events′)) next out₁ m out₂ → Puts (callLines index q) at out m out₂
+    unfolding callLines
     printed f {m} {out₂} p = subst (λ (t : List ℕ). Puts t at out m out₂)
-        ((λ j. callLine index (called .refusal j) (called .answer j) ++ rowsText (called .sent j)) ∙ ap (λ (t : List ℕ). callLine index (q .refusal) (q .answer) ++ t) (events-text (q .events) f))
+        ((λ j. callLine index (called .refusal j) (called .answer j) ++ eventRowsText (called .sent j)) ∙ ap (λ (t : List ℕ). callLine index (q .refusal) (q .answer) ++ t) (events-text (q .events) f))
         (then first-line p)
 
 -- ---- what it leaves

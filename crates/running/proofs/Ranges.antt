@@ -15,28 +15,27 @@ use Rattle.definition.specs.Base.{if_then_else_, all, nth, empty}
 use Rattle.definition.specs.Types.{Kind, queue, topic, Id, Entry, Sub, Dest, Event, null, withPending, withSubs, withCursor}
 use Rattle.definition.specs.Consumer.{expired, accepts, isBrowser, snapshot, hasCredit, send, sent, Step, meetTopic, drainTopic, serveTopic, atRest, Browse, meetBrowser, closeBrowser, drainBrowser, dispatchBrowser}
 use Rattle.definition.specs.Destination.{count, Out, Look, look, Turn, given, visitAt, visit, scan, turns, rounds, Browsed, browsers, dispatchQueue, serveAll, dispatchTopic, dispatchBy}
-use Rattle.definition.specs.Calls.{word, within, idOk, entryOk}
+use Rattle.definition.specs.Calls.{word, signedWithin, idOk, entryOk}
 use Rattle.definition.proofs.Tests.{by-if, by-test, and-left, and-right, and-both}
-use Rattle.definition.proofs.Lists.{none-some, some-inj, All, all-keep}
+use Rattle.definition.proofs.Lists.{none-some, some-inj, All, all-keep, all-stored}
 use Rattle.definition.proofs.Thin.{every-all}
 use Rattle.definition.proofs.Local.{alone}
-use Rattle.queues.proofs.Viewing.{all-set}
 use Rattle.callfile.proofs.Events.{EventFits}
 
 -- ---- numbers
 
-within-fits : (half : ℕ) (z : ℤ) → half ≤ 2 ^ 63 → within half z ≡ true → SFits w64 z
+within-fits : (half : ℕ) (z : ℤ) → half ≤ 2 ^ 63 → signedWithin half z ≡ true → SFits w64 z
 within-fits half (pos n) h e = let l : n < 2 ^ 63 = omega (arith, h, ltb-true n half e) in record { sfits = l }
 within-fits half (negsuc n) h e = let l : n < 2 ^ 63 = omega (arith, h, ltb-true n half e) in record { sfits = l }
 
 pub id-fits : (i : Id) → idOk i ≡ true → SFits w64 (i .session) × SFits w64 (i .value)
 id-fits i e =
     let f = and-right (word (i .conn)) _ e in
-    (within-fits (2 ^ 63) (i .session) (omega arith) (and-left (within (2 ^ 63) (i .session)) _ f), within-fits (2 ^ 63) (i .value) (omega arith) (and-right (within (2 ^ 63) (i .session)) _ f))
+    (within-fits (2 ^ 63) (i .session) (omega arith) (and-left (signedWithin (2 ^ 63) (i .session)) _ f), within-fits (2 ^ 63) (i .value) (omega arith) (and-right (signedWithin (2 ^ 63) (i .session)) _ f))
 
 pub redelivery-fits : (e : Entry) → entryOk e ≡ true → SFits w64 (e .redelivery)
 redelivery-fits e h =
-    let f = every-all (leb 1 (e .seq) ∷ ltb (e .seq) (2 ^ 63) ∷ within (2 ^ 63) (e .expiration) ∷ word (e .producer) ∷ word (e .«match_word») ∷ within (2 ^ 31) (e .redelivery) ∷ ltb (e .size) (2 ^ 32) ∷ []) h in
+    let f = every-all (leb 1 (e .seq) ∷ ltb (e .seq) (2 ^ 63) ∷ signedWithin (2 ^ 63) (e .expiration) ∷ word (e .producer) ∷ word (e .«match_word») ∷ signedWithin (2 ^ 31) (e .redelivery) ∷ ltb (e .size) (2 ^ 32) ∷ []) h in
     within-fits (2 ^ 31) (e .redelivery) (omega arith) (f .1 .1 .1 .1 .1 .0)
 
 -- ---- events
@@ -176,8 +175,8 @@ Went r = Left (r .dest) (r .events)
 
 gives : (i : ℕ) (s : Sub) (l : Look) (t : Dest) (o : Option Entry) → named s ≡ true → all named (t .subs) ≡ true → all entryOk (l .pending) ≡ true → chosenOk o → Turned (given i s l t o)
 unfolding given
-gives i s l t none n a w h = record { ids = all-set named (t .subs) i (withCursor (l .cursor) s) a n; waits = w; sends = tt }
-gives i s l t (some e) n a w h = record { ids = all-set named (t .subs) i (send e (withCursor (l .cursor) s)) a n; waits = w; sends = one-sent s e n h }
+gives i s l t none n a w h = record { ids = all-stored named (t .subs) i (withCursor (l .cursor) s) a n; waits = w; sends = tt }
+gives i s l t (some e) n a w h = record { ids = all-stored named (t .subs) i (send e (withCursor (l .cursor) s)) a n; waits = w; sends = one-sent s e n h }
 
 nth-named : (i : ℕ) (l : List Sub) (s : Sub) → nth i l ≡ some s → all named l ≡ true → named s ≡ true
 nth-named i [] s e a = absurd (none-some e)

@@ -14,7 +14,7 @@ use Rattle.definition.specs.Base.{all, keep, empty}
 use Rattle.definition.specs.Types.{Kind, queue, topic, Id, Entry, Inflight, Sub, Audit, Dest}
 use Rattle.definition.specs.Consumer.{Ack, AckType, Delivered, Poison, Standard, Redelivered, Individual, Unmatched, Expired, Other, ackType, ackRange, isBrowser, snapshot, deadLetters, Step, ackPlain, ackSub}
 use Rattle.definition.specs.Destination.{Out, Answer, count, due, isId, subOf, putSub, dispatchBy, dispatch, touchIdle, stored, fannedOut, enqueueBy, addSub, setPrefetch, heldBy, reservedOf, reservedHit, letters, reservedEvents, ackReserved, ackAt, ack, pulled, resumed, pullAt, pull, fired, timeoutAt, pullTimeout, returning, dropSub, removeAt, removeSub, returnReserved, sweepList, sweepSubs, sweepExpired, clear, testAt, isDuplicate}
-use Rattle.definition.specs.Calls.{Lengths, short, bound, within, idOk, entryOk, clockOk, ackOk, flying, rowsOf, held, Request, acknowledge, pulling, timedOut, prefetching, requestOk, ask, Call, enqueuing, joining, leaving, asking, unmarking, releasing, sweeping, clearing, adding, removing, testing, forgetting, discarding, missing, argumentsOk, ownRefusal, perform, refusal, Result, refused, call}
+use Rattle.definition.specs.Calls.{Lengths, short, bound, signedWithin, idOk, entryOk, clockOk, ackOk, flying, rowsOf, held, Request, acknowledge, pulling, timedOut, prefetching, requestOk, ask, Call, enqueuing, joining, leaving, asking, unmarking, releasing, sweeping, clearing, adding, removing, testing, forgetting, discarding, missing, argumentsOk, ownRefusal, perform, refusal, Result, refused, call}
 use Rattle.definition.specs.Words.{decode, openWords, openStep, callStep, step}
 use Rattle.definition.specs.Layout.{Buffers, view, formed, lengthsOf, bufferStep}
 use Rattle.definition.proofs.Tests.{by-if, and-left, and-right}
@@ -151,7 +151,7 @@ module _ (L U : ℕ) (k : Kind) where
   asks N i (acknowledge a now) t h g = acks N now i a t (subOf i t) refl (and-right (ackOk a) _ h) g
   asks N i (pulling timeout now) t h g = pulls N now i timeout t (subOf i t) refl g
   asks N i (timedOut generation) t h g = times-out N i generation t (subOf i t) refl g
-  asks N i (prefetching p now) t h g = fine-fits (N + 1) _ _ _ (prefetch-fine L U k N i p t (subOf i t) (and-left (within (2 ^ 31) p) _ h) refl g)
+  asks N i (prefetching p now) t h g = fine-fits (N + 1) _ _ _ (prefetch-fine L U k N i p t (subOf i t) (and-left (signedWithin (2 ^ 31) p) _ h) refl g)
 
   -- ---- the other calls
 
@@ -185,7 +185,7 @@ performs : (L U : ℕ) (k : Kind) (N : ℕ) (c : Call) (t : Dest) → 1 ≤ N �
 unfolding perform addSub removeSub clear isDuplicate argumentsOk
 performs L U k N (enqueuing e now) t n g a o = subst⁻¹ (λ (j : Kind). Fits (enqueueBy now e t j .events)) (g .kind) (enqueues L U k N now e t g (stores L U k N e now t g a o))
 performs L U k N (joining p now) t n g a o = fine-fits L U k (N + 513) _ _ _ (joins L U k N p now t n g a o)
-performs L U k N (leaving i last now) t n g a o = leaves L U k N now i last t (subOf i t) refl (and-right (within (2 ^ 63) last) _ (and-right (idOk i) _ a)) g
+performs L U k N (leaving i last now) t n g a o = leaves L U k N now i last t (subOf i t) refl (and-right (signedWithin (2 ^ 63) last) _ (and-right (idOk i) _ a)) g
 performs L U k N (asking i q) t n g a o = asks L U k N i q t (and-right (idOk i) _ a) g
 performs L U k N (unmarking i) t n g a o = tt
 performs L U k N (releasing i now) t n g a o = releases L U k N now i t g

@@ -26,36 +26,36 @@ eventsText [] = []
 eventsText (e ∷ es) = eventLine e ++ eventsText es
 
 -- and of events in their six words
-unfoldable pub rowsText : List Row → List ℕ
-rowsText [] = []
-rowsText (w ∷ ws) = wordsLine w ++ rowsText ws
+unfoldable pub eventRowsText : List Row → List ℕ
+eventRowsText [] = []
+eventRowsText (w ∷ ws) = wordsLine w ++ eventRowsText ws
 
 -- a call's line and those of its events
-unfoldable pub callText : ℕ → Result → List ℕ
-callText index r = callLine index (r .refusal) (r .answer) ++ eventsText (r .events)
+unfoldable pub callLines : ℕ → Result → List ℕ
+callLines index r = callLine index (r .refusal) (r .answer) ++ eventsText (r .events)
 
 -- ---- a call
 
 -- what a call finds: whether the state's counts fit its tables, what it holds, and the event list
-pub record Lent : Type 0 where
+pub record LentState : Type 0 where
   pub formed : Bool
   pub dest : Dest
   pub events : List Row
 
-abbrev pub lentBy : Buffers → List Row → Lent
+abbrev pub lentBy : Buffers → List Row → LentState
 lentBy b events = record { formed = formed b; dest = view b; events = events }
 
 abbrev pub accepted : Result → Bool
 accepted r = eqb (r .refusal) 0
 
 -- what it gets: `bufferStep`, by what it finds
-unfoldable pub stepOn : Lengths → Call → Lent → Result
+unfoldable pub stepOn : Lengths → Call → LentState → Result
 stepOn l c s =
     if not (short l) && (not (eqb (c .code) 0) && not (s .formed)) then refused 2 (s .dest)
     else step l (c .code) (c .words) (s .dest)
 
 -- what it leaves: an accepted call leaves a state whose counts fit, and its events stand first in the list
-abbrev pub leftBy : Result → Lent → Lent
+abbrev pub leftBy : Result → LentState → LentState
 leftBy r s = record { formed = accepted r || s .formed; dest = r .dest; events = map eventWords (r .events) ++ drop (length (r .events)) (s .events) }
 
 abbrev pub outcomeOf : Result → Outcome
@@ -69,16 +69,16 @@ pub record Run : Type 0 where
   pub index : ℕ
   pub goesOn : Bool
   pub changed : Bool
-  pub lent : Lent
+  pub lent : LentState
 
 -- what was printed, and whether a call was accepted, before the rest
-abbrev pub followed : List ℕ → Bool → Run → Run
-followed text changed q = record { text = text ++ q .text; index = q .index; goesOn = q .goesOn; changed = changed || q .changed; lent = q .lent }
+abbrev pub followedRun : List ℕ → Bool → Run → Run
+followedRun text changed q = record { text = text ++ q .text; index = q .index; goesOn = q .goesOn; changed = changed || q .changed; lent = q .lent }
 
 -- the calls of a list, from an index on, which counts up to the largest word and stays there
-unfoldable pub runCalls : Lengths → List Call → ℕ → Lent → Run
+unfoldable pub runCalls : Lengths → List Call → ℕ → LentState → Run
 runCalls l [] index s = record { text = []; index = index; goesOn = true; changed = false; lent = s }
-runCalls l (c ∷ cs) index s = let r = stepOn l c s in followed (callText index r) (accepted r) (runCalls l cs (more index) (leftBy r s))
+runCalls l (c ∷ cs) index s = let r = stepOn l c s in followedRun (callLines index r) (accepted r) (runCalls l cs (more index) (leftBy r s))
 
 -- ---- a block
 
@@ -88,12 +88,12 @@ blockCalls k zero block = []
 blockCalls k (suc n) block = callAt k block ∷ blockCalls (k + 1) n block
 
 -- reading ends, and no call was run
-abbrev pub ends : List ℕ → ℕ → Lent → Run
+abbrev pub ends : List ℕ → ℕ → LentState → Run
 ends text index s = record { text = text; index = index; goesOn = false; changed = false; lent = s }
 
 -- of which so many bytes were read, into a text with so many places: where a block's lines may lack room, nothing happens; a bad block has
 -- its line, and ends the reading
-unfoldable pub runBlock : Lengths → ℕ → List ℕ → ℕ → ℕ → ℕ → Lent → Run
+unfoldable pub runBlock : Lengths → ℕ → List ℕ → ℕ → ℕ → ℕ → LentState → Run
 runBlock l places block got index number s =
     if ltb places 489216 then ends [] index s
     else if eqb (callsIn block got) 0 then ends (badLine number) index s

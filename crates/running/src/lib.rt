@@ -7,8 +7,8 @@ ghost use Rattle.definition.specs.Layout.{statsAt, lengthsOf, bufferStep};
 ghost use Rattle.sound.specs.Sound.{lent};
 ghost use Rattle.engine.specs.Called.{Called};
 ghost use Rattle.callfile.specs.Lines.{countersLine};
-ghost use Rattle.callfile.specs.Placed.{Puts, Line};
-ghost use Rattle.running.specs.Running.{rowsText, callText, outcomeOf, lentBy, blockCalls, runCalls, runBlock, Runs};
+ghost use Rattle.callfile.specs.Placed.{Puts, PutLine};
+ghost use Rattle.running.specs.Running.{eventRowsText, callLines, outcomeOf, lentBy, blockCalls, runCalls, runBlock, Runs};
 use calls::Call;
 use consumers::SubRow;
 use entry::Row;
@@ -28,7 +28,7 @@ pub struct Ran {
 // The lines of the first n events.
 fn put_events(out: &mut [u8], from: usize, events: &[Event], n: usize) -> usize
     requires { ⌜ (n ≤ length (now events)) × (from + 128 * n ≤ length (now out)) ⌝ }
-    ensures { λ r. ⌜ Puts (rowsText (take n (now (events .entry)))) from (now (out .entry)) r (now (out .exit)) ⌝ }
+    ensures { λ r. ⌜ Puts (eventRowsText (take n (now (events .entry)))) from (now (out .entry)) r (now (out .exit)) ⌝ }
 {
     let mut at = from;
     let mut i = 0;
@@ -52,7 +52,7 @@ fn run_call(
 ) -> usize
     requires { ⌜ at + 69888 ≤ length (now out) ⌝ }
     ensures { λ _. ⌜ Called (bufferStep (lent (now (head .entry)) (now (subs .entry)) (now (rows .entry))) (length (now (events .entry))) (c .code) (c .words)) (lent (now (head .entry)) (now (subs .entry)) (now (rows .entry))) (lent (now (head .exit)) (now (subs .exit)) (now (rows .exit))) (now (events .entry)) (now (events .exit)) (outcomeOf (bufferStep (lent (now (head .entry)) (now (subs .entry)) (now (rows .entry))) (length (now (events .entry))) (c .code) (c .words))) ⌝ }
-    ensures { λ r. ⌜ Puts (callText index (bufferStep (lent (now (head .entry)) (now (subs .entry)) (now (rows .entry))) (length (now (events .entry))) (c .code) (c .words))) at (now (out .entry)) r (now (out .exit)) ⌝ }
+    ensures { λ r. ⌜ Puts (callLines index (bufferStep (lent (now (head .entry)) (now (subs .entry)) (now (rows .entry))) (length (now (events .entry))) (c .code) (c .words))) at (now (out .entry)) r (now (out .exit)) ⌝ }
 {
     let r = engine::call(head, subs, rows, events, c);
     let next = callfile::put_call(out, at, index, r.refusal, r.answer);
@@ -152,7 +152,7 @@ fn counters(head: &[u64]) -> Stats
 
 // The last line: the state's counters. In a text shorter than a line nothing is written.
 pub fn last_line(head: &[u64], out: &mut [u8]) -> usize
-    ensures { λ r. ⌜ Line (countersLine (statsAt (now (head .entry)))) 0 (now (out .entry)) r (now (out .exit)) ⌝ }
+    ensures { λ r. ⌜ PutLine 128 (countersLine (statsAt (now (head .entry)))) 0 (now (out .entry)) r (now (out .exit)) ⌝ }
 {
     let s = counters(head);
     callfile::put_counters(out, 0, s)

@@ -1,12 +1,12 @@
 -- Laws of a share: of two lists one after the other, of entries by their connections, and the turns of the loops. Assumes nothing.
 use mathlib.Core.Path.{_≡_, refl, sym, ap, ap₂, _∙_}
-use mathlib.Core.Bool.{Bool, true, false, _&&_, and-true, and-false, and-assoc}
-use mathlib.Core.List.{List, [], _∷_, _++_, map}
+use mathlib.Core.Bool.{Bool, true, false, _&&_, and-false, and-assoc, and-comm}
+use mathlib.Core.List.{List, [], _∷_, _++_}
 use Prim.Native.Nat.{ℕ, suc, _+_, _%_, _≤_, _<_}
 use native.Mathlib.Nat.{add-comm}
 use native.Mathlib.Numerals.{add-one}
 use native.Mathlib.Omega.{arith}
-use borrow.Author.Tests.{eqb-true, eq-eqb, ne-eqb, eqb-false, le-leb}
+use borrow.Author.Tests.{eqb-true, eq-eqb, eqb-false, le-leb}
 use lib.Dec.{leb, eqb}
 use lib.ListN.{length, take, take-append-drop, getD, set, replicate, getD-replicate, length-replicate, length-set}
 use lib.Seq.{slice, slice-cons, take-suc, getD-set-same, getD-set-other, length-take-le}
@@ -14,22 +14,10 @@ use Rattle.words.proofs.Tests.{by-test}
 use Rattle.definition.specs.Base.{if_then_else_, all, tally}
 use Rattle.definition.specs.Types.{Entry}
 use Rattle.definition.specs.Calls.{rowsFrom, withinShare}
-use Rattle.definition.proofs.Thin.{tally-append}
+use Rattle.definition.proofs.Thin.{tally-append, tally-length, tally-less}
 use Rattle.shares.specs.Shares.{withinEach, conns}
 
 -- ---- counts
-
-pub tally-least : (p : ℕ → Bool) (l : List ℕ) → tally p l ≤ length l
-tally-least p [] = omega arith
-tally-least p (x ∷ l) = by-test (p x) (λ t. rw t (omega (arith, tally-least p l))) (λ t. rw t (omega (arith, tally-least p l)))
-
--- what passes one test passes another
-tally-under : (p q : ℕ → Bool) (l : List ℕ) → ((x : ℕ) → p x ≡ true → q x ≡ true) → tally p l ≤ tally q l
-tally-under p q [] h = omega arith
-tally-under p q (x ∷ l) h =
-    by-test (p x)
-    (λ t. rw (t, h x t) (omega (arith, tally-under p q l h)))
-    (λ t. by-test (q x) (λ u. rw (t, u) (omega (arith, tally-under p q l h))) (λ u. rw (t, u) (omega (arith, tally-under p q l h))))
 
 all-of : (p : ℕ → Bool) (l : List ℕ) → ((x : ℕ) → p x ≡ true) → all p l ≡ true
 all-of p [] h = refl
@@ -39,15 +27,11 @@ all-append : (p : ℕ → Bool) (l m : List ℕ) → all p (l ++ m) ≡ (all p l
 all-append p [] m = refl
 all-append p (x ∷ l) m = ap (λ (b : Bool). p x && b) (all-append p l m) ∙ sym (and-assoc (p x) (all p l) (all p m))
 
-and-comm : (a b : Bool) → (a && b) ≡ (b && a)
-and-comm true b = sym (and-true b)
-and-comm false b = sym (and-false b)
-
 -- ---- a share
 
 -- as many as there are
 pub within-full : (share : ℕ) (l : List ℕ) → length l ≤ share → withinEach share l ≡ true
-within-full share l h = all-of (λ x. leb (tally (eqb x) l) share) l (λ x. le-leb (tally (eqb x) l) share (omega (arith, tally-least (eqb x) l, h)))
+within-full share l h = all-of (λ x. leb (tally (eqb x) l) share) l (λ x. le-leb (tally (eqb x) l) share (omega (arith, tally-length (eqb x) l, h)))
 
 -- the order of two blocks does not matter
 pub within-turned : (share : ℕ) (l m : List ℕ) → withinEach share (l ++ m) ≡ withinEach share (m ++ l)
@@ -143,7 +127,7 @@ module _ (share : ℕ) (counts xs : List ℕ) (i : ℕ) (c : Counted share count
 
   -- one more fits a small word
   pub counted-few : getD counts slot 0 ≤ i
-  counted-few = omega (arith, c .exact slot (omega arith), tally-least (leaves slot) (take i xs), length-take-le i xs (omega (arith, h)))
+  counted-few = omega (arith, c .exact slot (omega arith), tally-length (leaves slot) (take i xs), length-take-le i xs (omega (arith, h)))
 
   module _ (n : ℕ) (e : n ≡ getD counts slot 0 + 1) (l : n ≤ share) where
     here : (s : ℕ) → s ≡ slot → getD (set counts slot n) s 0 ≡ n
@@ -166,5 +150,5 @@ counted-within share counts l c =
     (λ x.
     let s : ℕ = x % 256 in
     let h : s < 256 = omega arith in
-    let u = tally-under (eqb x) (leaves s) l (λ y t. eq-eqb s (y % 256) (ap (λ (z : ℕ). z % 256) (eqb-true x y t))) in
+    let u = tally-less (eqb x) (leaves s) l (λ y t. eq-eqb s (y % 256) (ap (λ (z : ℕ). z % 256) (eqb-true x y t))) in
     le-leb (tally (eqb x) l) share (omega (arith, u, c .exact s h, c .low s h)))

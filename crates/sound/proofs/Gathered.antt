@@ -1,7 +1,7 @@
 -- Sequence numbers: what is gathered of rows, of one consumer's and of a queue's, and the turns of the loops that gather. Assumes nothing.
 use mathlib.Core.Path.{_≡_, refl, sym, ap, ap₂, _∙_}
 use mathlib.Core.Bool.{Bool, true, false, not, _||_}
-use mathlib.Core.List.{List, [], _∷_, _++_, map, append-assoc}
+use mathlib.Core.List.{List, [], _∷_, _++_, map, append-assoc, append-nil}
 use Prim.Native.Nat.{ℕ, suc, _+_, _≤_, _<_}
 use native.Mathlib.Numerals.{add-one}
 use native.Mathlib.Omega.{arith}
@@ -16,7 +16,6 @@ use Rattle.definition.specs.Calls.{seqs, flying, rowsOf, taken}
 use Rattle.definition.specs.Words.{at}
 use Rattle.definition.specs.Layout.{Row, flag, browserAt, subAt, eachSub, subsAt}
 use Rattle.definition.proofs.Thin.{map-append}
-use mathlib.Core.List.{append-nil}
 use Rattle.sound.specs.Sound.{kindBy, seqsAt, apartBy}
 use Rattle.sound.proofs.Tests.{part-turn, part-end}
 use Rattle.sound.proofs.Subs.{flying-rows, seqs-rows, rows-of-sub}

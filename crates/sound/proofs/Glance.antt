@@ -14,44 +14,44 @@ use Rattle.definition.specs.Words.{at}
 use Rattle.definition.specs.Layout.{Row}
 use Rattle.definition.proofs.Tests.{and-left, and-right, and-both}
 use Rattle.distinct.proofs.Laws.{apart, distinct-snoc, mark-kept}
-use Rattle.sound.specs.Sound.{seqsAt, marked, markedApart, Met}
+use Rattle.sound.specs.Sound.{seqsAt, slotsMarked, markedApart, Met}
 use Rattle.sound.proofs.Subs.{all-append}
 use Rattle.sound.proofs.Rising.{waiting-apart}
 use Rattle.sound.proofs.Gathered.{seqs-more}
 
 module _ (slots : List Bool) (w : List ℕ) where
   -- a number whose remainder is not marked was not met
-  new-number : (x : ℕ) (l : List ℕ) → all (marked slots w) l ≡ true → getD slots (x % 256) false ≡ false → member x l ≡ false
+  new-number : (x : ℕ) (l : List ℕ) → all (slotsMarked slots w) l ≡ true → getD slots (x % 256) false ≡ false → member x l ≡ false
   new-number x [] e f = refl
   new-number x (y ∷ l) e f = by-test (eqb x y)
       (λ t.
-      let m = and-left (getD slots (y % 256) false) (not (member y w)) (and-left (marked slots w y) (all (marked slots w) l) e) in
+      let m = and-left (getD slots (y % 256) false) (not (member y w)) (and-left (slotsMarked slots w y) (all (slotsMarked slots w) l) e) in
       absurd (true≢false (sym m ∙ sym (ap (λ (z : ℕ). getD slots (z % 256) false) (eqb-true x y t)) ∙ f)))
-      (λ t. ap (λ (b : Bool). b || member x l) t ∙ new-number x l (and-right (marked slots w y) (all (marked slots w) l) e) f)
+      (λ t. ap (λ (b : Bool). b || member x l) t ∙ new-number x l (and-right (slotsMarked slots w y) (all (slotsMarked slots w) l) e) f)
 
-  still-marked : (j : ℕ) (l : List ℕ) → all (marked slots w) l ≡ true → all (marked (set slots j true) w) l ≡ true
+  still-marked : (j : ℕ) (l : List ℕ) → all (slotsMarked slots w) l ≡ true → all (slotsMarked (set slots j true) w) l ≡ true
   still-marked j [] e = refl
   still-marked j (y ∷ l) e =
-      let m = and-left (marked slots w y) (all (marked slots w) l) e in
-      and-both (marked (set slots j true) w y) (all (marked (set slots j true) w) l)
+      let m = and-left (slotsMarked slots w y) (all (slotsMarked slots w) l) e in
+      and-both (slotsMarked (set slots j true) w y) (all (slotsMarked (set slots j true) w) l)
       (and-both (getD (set slots j true) (y % 256) false) (not (member y w)) (mark-kept slots j (y % 256) (and-left (getD slots (y % 256) false) (not (member y w)) m)) (and-right (getD slots (y % 256) false) (not (member y w)) m))
-      (still-marked j l (and-right (marked slots w y) (all (marked slots w) l) e))
+      (still-marked j l (and-right (slotsMarked slots w y) (all (slotsMarked slots w) l) e))
 
   one-more : (x : ℕ) (l : List ℕ) → x % 256 < length slots → markedApart slots w l ≡ true → getD slots (x % 256) false ≡ false → member x w ≡ false
       → markedApart (set slots (x % 256) true) w (l ++ x ∷ []) ≡ true
   one-more x l h e f m =
       let s : List Bool = set slots (x % 256) true in
-      let each = and-left (all (marked slots w) l) (distinct l) e in
-      let here : marked s w x ≡ true = and-both (getD s (x % 256) false) (not (member x w)) (getD-set-same slots (x % 256) true false h) (ap not m) in
-      and-both (all (marked s w) (l ++ x ∷ [])) (distinct (l ++ x ∷ []))
-      (all-append (marked s w) l (x ∷ []) ∙ and-both (all (marked s w) l) (marked s w x && true) (still-marked (x % 256) l each) (and-both (marked s w x) true here refl))
-      (distinct-snoc l x ∙ and-both (distinct l) (not (member x l)) (and-right (all (marked slots w) l) (distinct l) e) (ap not (new-number x l each f)))
+      let each = and-left (all (slotsMarked slots w) l) (distinct l) e in
+      let here : slotsMarked s w x ≡ true = and-both (getD s (x % 256) false) (not (member x w)) (getD-set-same slots (x % 256) true false h) (ap not m) in
+      and-both (all (slotsMarked s w) (l ++ x ∷ [])) (distinct (l ++ x ∷ []))
+      (all-append (slotsMarked s w) l (x ∷ []) ∙ and-both (all (slotsMarked s w) l) (slotsMarked s w x && true) (still-marked (x % 256) l each) (and-both (slotsMarked s w x) true here refl))
+      (distinct-snoc l x ∙ and-both (distinct l) (not (member x l)) (and-right (all (slotsMarked slots w) l) (distinct l) e) (ap not (new-number x l each f)))
 
-  others-apart : (l : List ℕ) → all (marked slots w) l ≡ true → apart l w ≡ true
+  others-apart : (l : List ℕ) → all (slotsMarked slots w) l ≡ true → apart l w ≡ true
   others-apart [] e = refl
   others-apart (y ∷ l) e =
-      and-both (not (member y w)) (apart l w) (and-right (getD slots (y % 256) false) (not (member y w)) (and-left (marked slots w y) (all (marked slots w) l) e))
-      (others-apart l (and-right (marked slots w y) (all (marked slots w) l) e))
+      and-both (not (member y w)) (apart l w) (and-right (getD slots (y % 256) false) (not (member y w)) (and-left (slotsMarked slots w y) (all (slotsMarked slots w) l) e))
+      (others-apart l (and-right (slotsMarked slots w y) (all (slotsMarked slots w) l) e))
 
 -- ---- the rows passed
 
@@ -74,4 +74,4 @@ pub marked-queue : (slots : List Bool) (rows : List Row) (f n : ℕ) (l : List �
 marked-queue slots rows f n l b a e =
     let w : List ℕ = seqsAt (slice f (f + n) rows) in
     waiting-apart rows f n l b a
-    ∙ and-both (distinct l) (apart l w) (and-right (all (marked slots w) l) (distinct l) e) (others-apart slots w l (and-left (all (marked slots w) l) (distinct l) e))
+    ∙ and-both (distinct l) (apart l w) (and-right (all (slotsMarked slots w) l) (distinct l) e) (others-apart slots w l (and-left (all (slotsMarked slots w) l) (distinct l) e))

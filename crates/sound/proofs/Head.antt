@@ -37,19 +37,19 @@ limits-used h e =
 -- ---- rings
 
 module _ (h : List ℕ) (m from : ℕ) (total : Bool) (e : ringsFormed m (drop from h) ≡ total) where
-  rings-turn : 0 < m → (Ring.auditOk (record { start = at (from + 3) h; count = at (from + 4) h }) && ringsFormed (m - 1) (drop (from + 1029) h)) ≡ total
+  rings-turn : 0 < m → (Ring.ringSound (record { start = at (from + 3) h; count = at (from + 4) h }) && ringsFormed (m - 1) (drop (from + 1029) h)) ≡ total
   unfolding ringsFormed
   rings-turn b =
       let q : m ≡ suc (m - 1) = omega arith in
       let r : RingState.Audit = ringAt (drop from h) in
       sym (ap (λ (n : ℕ). ringsFormed n (drop from h)) q
-      ∙ ap₂ (λ (a : RingState.Audit) (l : List ℕ). Ring.auditOk a && ringsFormed (m - 1) l)
+      ∙ ap₂ (λ (a : RingState.Audit) (l : List ℕ). Ring.ringSound a && ringsFormed (m - 1) l)
       (λ i. record { start = getD-drop from h 3 0 i; count = getD-drop from h 4 0 i }) (drop-drop 1029 from h)) ∙ e
 
-  pub rings-stop : 0 < m → Ring.auditOk (record { start = at (from + 3) h; count = at (from + 4) h }) ≡ false → false ≡ total
+  pub rings-stop : 0 < m → Ring.ringSound (record { start = at (from + 3) h; count = at (from + 4) h }) ≡ false → false ≡ total
   rings-stop b q = sym (ap (λ (t : Bool). t && ringsFormed (m - 1) (drop (from + 1029) h)) q) ∙ rings-turn b
 
-  pub rings-next : 0 < m → Ring.auditOk (record { start = at (from + 3) h; count = at (from + 4) h }) ≡ true → ringsFormed (m - 1) (drop (from + 1029) h) ≡ total
+  pub rings-next : 0 < m → Ring.ringSound (record { start = at (from + 3) h; count = at (from + 4) h }) ≡ true → ringsFormed (m - 1) (drop (from + 1029) h) ≡ total
   rings-next b q = sym (ap (λ (t : Bool). t && ringsFormed (m - 1) (drop (from + 1029) h)) q) ∙ rings-turn b
 
   pub rings-end : m ≡ 0 → true ≡ total

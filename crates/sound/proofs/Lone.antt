@@ -18,7 +18,7 @@ use Rattle.definition.specs.Words.{at}
 use Rattle.definition.specs.Layout.{Row, flag, browserAt, subAt, eachSub, subsAt, subRows, subsStrict}
 use Rattle.definition.proofs.Tests.{and-left, and-right}
 use Rattle.definition.proofs.Thin.{map-append}
-use Rattle.copies.specs.Copies.{holds, sharedBy}
+use Rattle.copies.specs.Copies.{mayCopy, sharedBy}
 use Rattle.sound.specs.Sound.{ownSound, eachOk, kindBy, apartBy, emptyBy, reservedAt, waitingAt, queueApart, sizesAt}
 use Rattle.sound.proofs.Subs.{seqs-rows, rows-of-sub}
 use Rattle.sound.proofs.Sizes.{agree-turned, used-parts, distinct-agree}
@@ -45,7 +45,7 @@ module _ (most : ℕ) (w : Row) (rows : List Row) where
   abbrev s : Sub
   s = subAt queue w (take (at 14 w) rows) (take (at 15 w) (drop (at 14 w) rows))
 
-  plain-sub : ownSound queue most s ≡ true → holds true w ≡ false → (if isBrowser s then [] else flying s) ≡ rowsOf s
+  plain-sub : ownSound queue most s ≡ true → mayCopy true w ≡ false → (if isBrowser s then [] else flying s) ≡ rowsOf s
   plain-sub o h = by-test (flag (at 6 w))
       (λ t.
       let e : (eqb (at 14 w) 0 && eqb (at 15 w) 0) ≡ true = not-false (eqb (at 14 w) 0 && eqb (at 15 w) 0) (sym (ap (λ (b : Bool). b && not (eqb (at 14 w) 0 && eqb (at 15 w) 0)) t) ∙ h) in
@@ -57,12 +57,12 @@ module _ (most : ℕ) (w : Row) (rows : List Row) where
 -- ---- all of them
 
 module _ (q : Bool) (w : Row) (ws : List Row) where
-  tally-none : tally (holds q) (w ∷ ws) ≡ 0 → (holds q w ≡ false) × (tally (holds q) ws ≡ 0)
-  tally-none e = by-test (holds q w)
-      (λ t. absurd (omega (arith, sym (ap (λ (b : Bool). (if b then 1 else 0) + tally (holds q) ws) t) ∙ e)))
-      (λ t. (t, omega (arith, sym (ap (λ (b : Bool). (if b then 1 else 0) + tally (holds q) ws) t) ∙ e)))
+  tally-none : tally (mayCopy q) (w ∷ ws) ≡ 0 → (mayCopy q w ≡ false) × (tally (mayCopy q) ws ≡ 0)
+  tally-none e = by-test (mayCopy q w)
+      (λ t. absurd (omega (arith, sym (ap (λ (b : Bool). (if b then 1 else 0) + tally (mayCopy q) ws) t) ∙ e)))
+      (λ t. (t, omega (arith, sym (ap (λ (b : Bool). (if b then 1 else 0) + tally (mayCopy q) ws) t) ∙ e)))
 
-taken-all : (most : ℕ) (ws rows : List Row) → all (ownSound queue most) (subsAt queue ws rows) ≡ true → tally (holds true) ws ≡ 0
+taken-all : (most : ℕ) (ws rows : List Row) → all (ownSound queue most) (subsAt queue ws rows) ≡ true → tally (mayCopy true) ws ≡ 0
     → taken (subsAt queue ws rows) ≡ consumerRows (subsAt queue ws rows)
 unfolding eachSub
 taken-all most [] rows o e = refl
@@ -72,23 +72,23 @@ taken-all most (w ∷ ws) rows o e =
     let t = tally-none true w ws e in
     ap₂ (λ (a b : List Entry). a ++ b) (plain-sub most w rows (and-left (ownSound queue most x) _ o) (t .0)) (taken-all most ws rest (and-right (ownSound queue most x) _ o) (t .1))
 
-none-held : (ws rows : List Row) → tally (holds false) ws ≡ 0 → consumerRows (subsAt topic ws rows) ≡ []
+none-held : (ws rows : List Row) → tally (mayCopy false) ws ≡ 0 → consumerRows (subsAt topic ws rows) ≡ []
 unfolding eachSub
 none-held [] rows e = refl
 none-held (w ∷ ws) rows e =
     let t = tally-none false w ws e in
     ap₂ (λ (a b : List Entry). a ++ b) (no-rows topic w rows (not-false (eqb (at 14 w) 0 && eqb (at 15 w) 0) (t .0))) (none-held ws (drop (at 15 w) (drop (at 14 w) rows)) (t .1))
 
-one-held : (ws rows : List Row) → all (apartBy topic) (subsAt topic ws rows) ≡ true → tally (holds false) ws ≤ 1 → distinct (seqs (consumerRows (subsAt topic ws rows))) ≡ true
+one-held : (ws rows : List Row) → all (apartBy topic) (subsAt topic ws rows) ≡ true → tally (mayCopy false) ws ≤ 1 → distinct (seqs (consumerRows (subsAt topic ws rows))) ≡ true
 unfolding eachSub
 one-held [] rows a h = refl
-one-held (w ∷ ws) rows a h = by-test (holds false w)
+one-held (w ∷ ws) rows a h = by-test (mayCopy false w)
     (λ t.
-    let e : tally (holds false) ws ≡ 0 = omega (arith, h, ap (λ (b : Bool). (if b then 1 else 0) + tally (holds false) ws) t) in
+    let e : tally (mayCopy false) ws ≡ 0 = omega (arith, h, ap (λ (b : Bool). (if b then 1 else 0) + tally (mayCopy false) ws) t) in
     ap (λ (l : List Entry). distinct (seqs l)) (ap (λ (l : List Entry). rowsOf x ++ l) (none-held ws rest e) ∙ append-nil (rowsOf x)) ∙ and-left (apartBy topic x) _ a)
     (λ t.
     ap (λ (l : List Entry). distinct (seqs (l ++ consumerRows (subsAt topic ws rest)))) (no-rows topic w rows (not-false (eqb (at 14 w) 0 && eqb (at 15 w) 0) t))
-    ∙ one-held ws rest (and-right (apartBy topic x) _ a) (omega (arith, h, ap (λ (b : Bool). (if b then 1 else 0) + tally (holds false) ws) t)))
+    ∙ one-held ws rest (and-right (apartBy topic x) _ a) (omega (arith, h, ap (λ (b : Bool). (if b then 1 else 0) + tally (mayCopy false) ws) t)))
   where
     rest : List Row
     rest = drop (at 15 w) (drop (at 14 w) rows)
@@ -110,14 +110,14 @@ module _ (most reserved waiting : ℕ) (us rows : List Row) where
       → sharedBy q us ≡ false → distinct (seqs (waits ++ (kept ++ consumerRows (subsAt (kindBy q) us rows)))) ≡ true
   lone-distinct true p o a n =
       let c = consumerRows (subsAt queue us rows) in
-      let t : tally (holds true) us ≡ 0 = omega (arith, leb-false 1 (tally (holds true) us) n) in
+      let t : tally (mayCopy true) us ≡ 0 = omega (arith, leb-false 1 (tally (mayCopy true) us) n) in
       let own = and-left (all (ownSound queue most) (subsAt queue us rows)) (subsStrict us rows) (sym (each-parts queue most us rows) ∙ o) in
       ap distinct (map-append (λ e. e .seq) waits (kept ++ c)
       ∙ ap₂ (λ (l m : List ℕ). l ++ m) (sym (seqs-rows (waitingAt (subRows us) reserved waiting rows))) (map-append (λ e. e .seq) kept c
       ∙ ap₂ (λ (l : List ℕ) (m : List Entry). l ++ seqs m) (sym (seqs-rows (reservedAt (subRows us) reserved rows))) (sym (taken-all most us rows own t))))
       ∙ and-left (queueApart queue (subRows us) reserved waiting us rows) _ a
   lone-distinct false p o a n =
-      let t : tally (holds false) us ≤ 1 = omega (arith, leb-false 2 (tally (holds false) us) n) in
+      let t : tally (mayCopy false) us ≤ 1 = omega (arith, leb-false 2 (tally (mayCopy false) us) n) in
       let e : reserved + waiting ≡ 0 = eqb-true (reserved + waiting) 0 p in
       let er : reserved ≡ 0 = omega arith in
       let ew : waiting ≡ 0 = omega arith in

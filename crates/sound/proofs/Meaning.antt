@@ -2,7 +2,7 @@
 -- Assumes nothing.
 use mathlib.Core.Path.{_≡_, refl, sym, ap, ap₂, _∙_}
 use mathlib.Core.Bool.{Bool, true, false, not, _&&_, _||_, and-true, or-true}
-use mathlib.Core.List.{List, [], _∷_, _++_, map}
+use mathlib.Core.List.{List, [], _∷_, _++_, map, append-nil}
 use mathlib.Core.Option.{Option, none, some}
 use Prim.Native.Nat.{ℕ, zero, suc, _+_, _≤_, _<_, _^_}
 use native.Mathlib.Omega.{arith}
@@ -21,7 +21,6 @@ use Rattle.definition.specs.Consumer.{shown, isBrowser}
 use Rattle.definition.specs.Calls.{word, idOk, entryOk, clockOk, bound, seqs, flying, rowsOf, subTests, subSound, consumerRows, taken, held, allRows, placed, auditOk, sizesAgree, ownRows, withinShare, soundTests, sound}
 use Rattle.definition.specs.Words.{at, kindOf}
 use Rattle.definition.specs.Layout.{Row, Buffers, idAt, heldAt, subAt, eachSub, subsAt, subRows, idsAt, ringAt, auditsAt, view, usedRows, ringsFormed, isMark, entryStrict, subStrict, subsStrict, tablesStrict, strict, formed, soundBuffers}
-use mathlib.Core.List.{append-nil}
 use Rattle.definition.proofs.Tests.{and-left, and-right, and-both}
 use Rattle.definition.proofs.Thin.{every-all, all-every, map-append}
 use Rattle.distinct.proofs.Laws.{iff, distinct-left, distinct-right}
@@ -89,15 +88,15 @@ unfolding auditsAt
 audits-count zero l = refl
 audits-count (suc n) l = ap suc (audits-count n (drop 1029 l))
 
-ring-count : (a : RingState.Audit) → Ring.auditOk a ≡ true → a .count ≤ 1024
-unfolding Ring.auditOk
+ring-count : (a : RingState.Audit) → Ring.ringSound a ≡ true → a .count ≤ 1024
+unfolding Ring.ringSound
 ring-count a e = by-test (ltb (a .count) 1024)
     (λ t. omega (arith, ltb-true (a .count) 1024 t))
     (λ t. by-test (eqb (a .count) 1024)
     (λ u. omega (arith, eqb-true (a .count) 1024 u))
     (λ u. let z : _≡_ {A = Bool} false true = rw (t, u) at e in absurd (let y : _≡_ {A = ℕ} 0 1 = cc in omega arith)))
 
-ring-fits : (a : RingState.Audit) (l : List ℕ) → Words l → Ring.auditOk a ≡ true → (leb (length (Ring.orderOf a l)) 1024 ≡ true) × (all word (Ring.orderOf a l) ≡ true)
+ring-fits : (a : RingState.Audit) (l : List ℕ) → Words l → Ring.ringSound a ≡ true → (leb (length (Ring.orderOf a l)) 1024 ≡ true) × (all word (Ring.orderOf a l) ≡ true)
 unfolding Ring.orderOf
 ring-fits a l h e =
     let w = words-all l h in
@@ -111,11 +110,11 @@ audits-fit : (n : ℕ) (l : List ℕ) → Words l → ringsFormed n l ≡ true �
 unfolding auditsAt ringsFormed
 audits-fit zero l h e = refl
 audits-fit (suc n) l h e =
-    let r = ring-fits (ringAt l) (drop 5 l) (words-drop 5 l h) (and-left (Ring.auditOk (ringAt l)) (ringsFormed n (drop 1029 l)) e) in
+    let r = ring-fits (ringAt l) (drop 5 l) (words-drop 5 l h) (and-left (Ring.ringSound (ringAt l)) (ringsFormed n (drop 1029 l)) e) in
     let o : List ℕ = Ring.orderOf (ringAt l) (drop 5 l) in
     and-both (auditOk (record { producer = idAt l; order = o })) (all auditOk (auditsAt n (drop 1029 l)))
     (all-every (idOk (idAt l) ∷ leb (length o) 1024 ∷ all word o ∷ []) (id-fits l (h 0), (r .0, (r .1, tt))))
-    (audits-fit n (drop 1029 l) (words-drop 1029 l h) (and-right (Ring.auditOk (ringAt l)) (ringsFormed n (drop 1029 l)) e))
+    (audits-fit n (drop 1029 l) (words-drop 1029 l h) (and-right (Ring.ringSound (ringAt l)) (ringsFormed n (drop 1029 l)) e))
 
 -- ---- consumers
 

@@ -16,7 +16,7 @@ use Rattle.words.specs.Pick.{if_then_else_}
 use Rattle.words.proofs.Tests.{by-test}
 use Rattle.entry.specs.Entry.{entryOf}
 use Rattle.definition.specs.Base.{all, tally}
-use Rattle.definition.specs.Calls.{within, idOk}
+use Rattle.definition.specs.Calls.{signedWithin, idOk}
 use Rattle.definition.specs.Words.{at}
 use Rattle.definition.specs.Layout.{Row, flag, idAt, isMark, entryStrict}
 use Rattle.definition.proofs.Tests.{and-left, and-right}
@@ -25,10 +25,10 @@ use Rattle.sound.proofs.Tests.{swap-inner, part-turn, part-end}
 
 -- ---- ranges
 
-pub signed-within : (w : ℕ) → within (2 ^ 63) (signed w) ≡ true
+pub signed-within : (w : ℕ) → signedWithin (2 ^ 63) (signed w) ≡ true
 signed-within w = by-test (ltb w (2 ^ 63)) (λ c. rw c c) (λ c. rw c (lt-ltb (2 ^ 64 - suc w) (2 ^ 63) (omega (arith, ltb-false w (2 ^ 63) c))))
 
-pub int-within : (w : ℕ) → within (2 ^ 31) (int w) ≡ true
+pub int-within : (w : ℕ) → signedWithin (2 ^ 31) (int w) ≡ true
 int-within w = by-test (ltb (w % 2 ^ 32) (2 ^ 31))
     (λ c. rw c c)
     (λ c. rw c (lt-ltb (2 ^ 32 - suc (w % 2 ^ 32)) (2 ^ 31) (omega (arith, ltb-false (w % 2 ^ 32) (2 ^ 31) c))))

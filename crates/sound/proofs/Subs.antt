@@ -1,7 +1,7 @@
 -- Consumers: the definitions' tests of one as tests of its words and its rows, and the turns of the loops over consumers. Assumes nothing.
 use mathlib.Core.Path.{_≡_, refl, sym, ap, ap₂, _∙_}
 use mathlib.Core.Bool.{Bool, true, false, not, _&&_, _||_}
-use mathlib.Core.List.{List, [], _∷_, _++_, map}
+use mathlib.Core.List.{List, [], _∷_, _++_, map, append-nil}
 use mathlib.Core.Option.{none, some}
 use Prim.Native.Nat.{ℕ, suc, _+_, _≤_, _<_, _^_}
 use native.Mathlib.Nat.{zero-add}
@@ -23,9 +23,9 @@ use Rattle.definition.specs.Consumer.{shown}
 use Rattle.definition.specs.Calls.{idOk, entryOk, optional, seqs, rowsOf, distinctIds}
 use Rattle.definition.specs.Words.{at}
 use Rattle.definition.specs.Layout.{Row, flag, idAt, inflightAt, browserAt, tpendingAt, subAt, eachSub, subsAt, subRows, isMark, entryStrict, flyingStrict, wordsStrict, subStrict}
-use mathlib.Core.List.{append-nil}
 use Rattle.definition.proofs.Tests.{and-left, and-right, and-both}
 use Rattle.definition.proofs.Thin.{every-all, all-every}
+use Rattle.definition.proofs.Lists.{empty-map}
 use Rattle.distinct.proofs.Laws.{iff}
 use Rattle.sound.specs.Sound.{upward, rowOk, flightOk, flyingOk, sortedOk, wordTests, heldOk, ownTests, ownSound, ownOk, eachOk, kindBy, idsApart, seqsAt, heldSeqs, heldRise, rowsUpTo}
 use Rattle.sound.proofs.Tests.{swap-inner, part-turn, part-end, part-of, empty-take}
@@ -106,10 +106,6 @@ pub rows-of-sub : (k : Kind) (w : Row) (f h : List Row) → rowsOf (subAt k w f 
 unfolding subAt
 rows-of-sub k w f h = ap₂ (λ (a b : List Entry). a ++ b) (flying-rows f) (held-all k (flag (at 6 w)) (map entryOf h))
 
-empty-map : (h : List Row) → empty (map entryOf h) ≡ empty h
-empty-map [] = refl
-empty-map (w ∷ h) = refl
-
 queue-held : (b : Bool) (l : List Entry) → empty (tpendingAt queue b l) ≡ (b || empty l)
 queue-held true l = refl
 queue-held false l = refl
@@ -159,7 +155,7 @@ module _ (most : ℕ) (w : Row) (f h : List Row) (named : idOk (idAt w) ≡ true
                 p .1 .1 .1 .1 .1 .1 .1 .1 .1 .0,
                 (
                   sym (pull-test most (at 10 w) (at 11 w)) ∙ p .1 .1 .1 .1 .1 .1 .1 .1 .1 .1 .0,
-                  (ap (λ (t : Bool). flag (at 6 w) || t) (none-held ∙ sym (empty-map h)) ∙ sym (queue-held (flag (at 6 w)) (map entryOf h)) ∙ p .1 .1 .1 .1 .1 .1 .1 .1 .1 .1 .1 .0, (s .0, tt)),
+                  (ap (λ (t : Bool). flag (at 6 w) || t) (none-held ∙ sym (empty-map entryOf h)) ∙ sym (queue-held (flag (at 6 w)) (map entryOf h)) ∙ p .1 .1 .1 .1 .1 .1 .1 .1 .1 .1 .1 .0, (s .0, tt)),
                 ),
               ),
             ),
@@ -180,7 +176,7 @@ module _ (most : ℕ) (w : Row) (f h : List Row) (named : idOk (idAt w) ≡ true
       let d = eqb (at 13 w) (tally (λ i. i .freed) (map inflightAt f)) in
       let m = and-right (a && all flyingStrict f) (b && d) u in
       let g = all entryOk (map entryOf h) in
-      let place = sym (ap (λ (t : Bool). flag (at 6 w) || t) (none-held ∙ sym (empty-map h))) ∙ p .1 .1 .1 .1 .1 .1 .0 in
+      let place = sym (ap (λ (t : Bool). flag (at 6 w) || t) (none-held ∙ sym (empty-map entryOf h))) ∙ p .1 .1 .1 .1 .1 .1 .0 in
       and-both (ownSound queue most (subAt queue w f h)) (subStrict w f h)
       (all-every (ownTests queue most (subAt queue w f h)) (
         named,

@@ -135,12 +135,12 @@ abbrev pub SameFrom : ℕ → List ℕ → List ℕ → Type 0
 SameFrom x l m = (y : ℕ) → x ≤ y → member y l ≡ member y m
 
 -- a number's remainder is marked in a table of 256, and the number is not one of w
-abbrev pub marked : List Bool → List ℕ → ℕ → Bool
-marked slots w x = getD slots (x % 256) false && not (member x w)
+abbrev pub slotsMarked : List Bool → List ℕ → ℕ → Bool
+slotsMarked slots w x = getD slots (x % 256) false && not (member x w)
 
 -- so it is with each of them, and they are different
 abbrev pub markedApart : List Bool → List ℕ → List ℕ → Bool
-markedApart slots w l = all (marked slots w) l && distinct l
+markedApart slots w l = all (slotsMarked slots w) l && distinct l
 
 -- what new numbers make of any that were met before
 abbrev pub Met : List Bool → List Bool → List ℕ → List ℕ → Type 0

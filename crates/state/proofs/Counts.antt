@@ -12,7 +12,7 @@ use Rattle.definition.specs.Destination.{count}
 use Rattle.definition.specs.Calls.{used}
 use Rattle.definition.specs.Layout.{Row}
 use Rattle.state.specs.declared.Head.{Head}
-use Rattle.state.specs.State.{headView, withCallsUsed, withStats}
+use Rattle.state.specs.State.{headView, withUsedCalls, withCounters}
 
 plain : (a k : ℕ) → a + k ≤ top → min (a + k) top ≡ a + k
 plain a k h = omega arith
@@ -47,30 +47,30 @@ module _ (subs rows : List Row) (producers : List Id) (audits : List Audit) wher
   abbrev viewed : Head → Dest
   viewed d = headView d subs rows producers audits
 
-  pub count-view : (c : Stats) (d : Head) → viewed (withStats (d .stats ⊕ c) d) ≡ count c (viewed d)
+  pub count-view : (c : Stats) (d : Head) → viewed (withCounters (d .stats ⊕ c) d) ≡ count c (viewed d)
   unfolding headView
   count-view c d = refl
 
   -- the counters as they come out of a covered function
-  counted-view : (s c : Stats) (d : Head) → s ≡ d .stats ⊕ c → viewed (withStats s d) ≡ count c (viewed d)
-  counted-view s c d e = ap (λ (x : Stats). viewed (withStats x d)) e ∙ count-view c d
+  counted-view : (s c : Stats) (d : Head) → s ≡ d .stats ⊕ c → viewed (withCounters s d) ≡ count c (viewed d)
+  counted-view s c d e = ap (λ (x : Stats). viewed (withCounters x d)) e ∙ count-view c d
 
-  pub enqueued-view : (d : Head) → d .stats .enqueued < top → viewed (withStats (withEnqueued (d .stats)) d) ≡ count (addEnqueued 1) (viewed d)
+  pub enqueued-view : (d : Head) → d .stats .enqueued < top → viewed (withCounters (withEnqueued (d .stats)) d) ≡ count (addEnqueued 1) (viewed d)
   enqueued-view d h = counted-view _ _ d (enqueued-plain (d .stats) h)
 
-  pub dequeued-view : (d : Head) (k : ℕ) → d .stats .dequeued + k ≤ top → viewed (withStats (withDequeuedBy (d .stats) k) d) ≡ count (addDequeued k) (viewed d)
+  pub dequeued-view : (d : Head) (k : ℕ) → d .stats .dequeued + k ≤ top → viewed (withCounters (withDequeuedBy (d .stats) k) d) ≡ count (addDequeued k) (viewed d)
   dequeued-view d k h = counted-view _ _ d (dequeued-plain (d .stats) k h)
 
-  pub expired-view : (d : Head) (k : ℕ) → d .stats .expired + k ≤ top → viewed (withStats (withExpiredBy (d .stats) k) d) ≡ count (addExpired k) (viewed d)
+  pub expired-view : (d : Head) (k : ℕ) → d .stats .expired + k ≤ top → viewed (withCounters (withExpiredBy (d .stats) k) d) ≡ count (addExpired k) (viewed d)
   expired-view d k h = counted-view _ _ d (expired-plain (d .stats) k h)
 
-  pub discarded-view : (d : Head) (k : ℕ) → d .stats .discarded + k ≤ top → viewed (withStats (withDiscardedBy (d .stats) k) d) ≡ count (addDiscarded k) (viewed d)
+  pub discarded-view : (d : Head) (k : ℕ) → d .stats .discarded + k ≤ top → viewed (withCounters (withDiscardedBy (d .stats) k) d) ≡ count (addDiscarded k) (viewed d)
   discarded-view d k h = counted-view _ _ d (discarded-plain (d .stats) k h)
 
-  pub dispatched-view : (d : Head) → d .stats .dispatched < top → viewed (withStats (withDispatched (d .stats)) d) ≡ count (addDispatched 1) (viewed d)
+  pub dispatched-view : (d : Head) → d .stats .dispatched < top → viewed (withCounters (withDispatched (d .stats)) d) ≡ count (addDispatched 1) (viewed d)
   dispatched-view d h = counted-view _ _ d (dispatched-plain (d .stats) h)
 
   -- one call more
-  pub used-view : (d : Head) → d .«calls_used» < top → viewed (withCallsUsed (more (d .«calls_used»)) d) ≡ used (viewed d)
+  pub used-view : (d : Head) → d .«calls_used» < top → viewed (withUsedCalls (more (d .«calls_used»)) d) ≡ used (viewed d)
   unfolding headView
-  used-view d h = ap (λ (n : ℕ). viewed (withCallsUsed n d)) (plain (d .«calls_used») 1 (omega arith))
+  used-view d h = ap (λ (n : ℕ). viewed (withUsedCalls n d)) (plain (d .«calls_used») 1 (omega arith))

@@ -11,12 +11,12 @@ use Rattle.definition.specs.Base.{all, every, tally}
 use Rattle.definition.specs.Types.{Kind, Id, Audit}
 use Rattle.definition.specs.Calls.{stateShort, short, bound, subTests, subSound, soundTests, sound}
 use Rattle.definition.specs.Words.{at}
-use Rattle.definition.specs.Layout.{Row, Buffers, inflightOf, heldOf, inflightAt, subAt, eachSub, subsAt, subRows, idsAt, auditsAt, ringsFormed, usedRows, view, strict, formed, soundBuffers, lengthsOf}
+use Rattle.definition.specs.Layout.{Row, Buffers, inflightCount, heldCount, inflightAt, subAt, eachSub, subsAt, subRows, idsAt, auditsAt, ringsFormed, usedRows, strict, formed, soundBuffers, lengthsOf}
 use Rattle.definition.proofs.Tests.{and-left, and-right, and-both, or-no-left, or-no-right}
 use Rattle.definition.proofs.Thin.{every-all, all-every, tally-length}
 use Rattle.consumers.specs.Table.{fitting}
 use Rattle.state.specs.declared.Head.{Head}
-use Rattle.state.specs.State.{headOf, headView, strictTables, loaded, withCallsUsed}
+use Rattle.state.specs.State.{headOf, headView, strictTables, loaded, withUsedCalls}
 use Rattle.state.specs.Fits.{fits, Fits}
 use Rattle.state.proofs.View.{loaded-long, loaded-view, loaded-strict}
 
@@ -87,7 +87,7 @@ or-cases true b e f g = f refl
 or-cases false b e f g = g e
 
 -- a consumer that is sound fits
-sub-fits : (k : Kind) (used : ℕ) → used ≤ 2 ^ 40 → (w : Row) (flying held : List Row) → length flying ≤ inflightOf w → subSound k used (subAt k w flying held) ≡ true → fitting w ≡ true
+sub-fits : (k : Kind) (used : ℕ) → used ≤ 2 ^ 40 → (w : Row) (flying held : List Row) → length flying ≤ inflightCount w → subSound k used (subAt k w flying held) ≡ true → fitting w ≡ true
 unfolding subSound subAt fitting
 sub-fits k used u w flying held l h =
     let f = every-all (subTests k used (subAt k w flying held)) h in
@@ -101,17 +101,17 @@ subs-fit : (k : Kind) (used : ℕ) → used ≤ 2 ^ 40 → (ws rows : List Row) 
 unfolding eachSub
 subs-fit k used u [] rows h = refl
 subs-fit k used u (w ∷ ws) rows h =
-    let n : length (take (inflightOf w) rows) ≤ inflightOf w = omega (arith, length-take (inflightOf w) rows) in
-    and-both _ _ (sub-fits k used u w (take (inflightOf w) rows) (take (heldOf w) (drop (inflightOf w) rows)) n (and-left _ _ h))
-    (subs-fit k used u ws (drop (heldOf w) (drop (inflightOf w) rows)) (and-right (subSound k used (subAt k w (take (inflightOf w) rows) (take (heldOf w) (drop (inflightOf w) rows)))) _ h))
+    let n : length (take (inflightCount w) rows) ≤ inflightCount w = omega (arith, length-take (inflightCount w) rows) in
+    and-both _ _ (sub-fits k used u w (take (inflightCount w) rows) (take (heldCount w) (drop (inflightCount w) rows)) n (and-left _ _ h))
+    (subs-fit k used u ws (drop (heldCount w) (drop (inflightCount w) rows)) (and-right (subSound k used (subAt k w (take (inflightCount w) rows) (take (heldCount w) (drop (inflightCount w) rows)))) _ h))
 
 -- the numbers of a destination that is sound, or is so with u calls used, fit
-module _ (d : Head) (subs rows : List Row) (producers : List Id) (audits : List Audit) (u : ℕ) (s : sound (headView (withCallsUsed u d) subs rows producers audits) ≡ true) where
+module _ (d : Head) (subs rows : List Row) (producers : List Id) (audits : List Audit) (u : ℕ) (s : sound (headView (withUsedCalls u d) subs rows producers audits) ≡ true) where
   pub view-fits : (events : ℕ) → 32 ≤ length subs → 512 ≤ length rows → 545 ≤ events → d .consumers ≤ 32 → d .used ≤ 512 → subRows (take (d .consumers) subs) + (d .reserved + d .waiting) ≡ d .used → d .events + d .used ≤ 512
       → d .«calls_used» ≤ u → Fits subs d (length rows) events
   unfolding sound headView
   view-fits events ls lr le few used sum sent calls =
-      let v = headView (withCallsUsed u d) subs rows producers audits in
+      let v = headView (withUsedCalls u d) subs rows producers audits in
       let t = every-all (soundTests v) s in
       let limit : d .«call_limit» ≤ 2 ^ 40 = leb-true _ _ (t .1 .0) in
       let less : u ≤ d .«call_limit» = leb-true _ _ (t .1 .1 .0) in

@@ -1,26 +1,20 @@
 -- Parts of a call: nothing, one after another, `touch_idle`; and that the numbers of a sound destination fit. Assumes nothing.
 use mathlib.Core.Path.{_≡_, refl, sym, ap, ap₂, _∙_, subst, subst⁻¹}
-use mathlib.Core.Bool.{Bool, true, false, _&&_}
-use mathlib.Core.List.{List, [], _∷_, _++_, append-assoc, append-nil, map, map-append}
-use Prim.Native.Nat.{ℕ, _+_, _-_, _≤_}
+use mathlib.Core.Bool.{Bool, true, false}
+use mathlib.Core.List.{List, _++_, append-assoc, append-nil, map, map-append}
+use Prim.Native.Nat.{ℕ, _≤_}
 use native.Mathlib.Omega.{arith}
-use lib.ListN.{length, take, drop}
-use lib.Seq.{drop-drop}
+use lib.ListN.{length, take}
 use Rattle.definition.specs.Types.{Id, Audit, Dest}
 use Rattle.definition.specs.Types as Def
 use Rattle.definition.specs.Destination.{Out, touchIdle}
-use Rattle.definition.specs.Layout.{Row, subRows, eventWords}
+use Rattle.definition.specs.Layout.{Row, eventWords}
+use Rattle.definition.proofs.Lists.{agree-later}
 use Rattle.state.specs.declared.Head.{Head}
-use Rattle.state.specs.State.{headView, strictTables, withIdle, touched}
+use Rattle.state.specs.State.{headView, strictTables, touched}
 use Rattle.state.specs.Leaves.{silent, both, Leaves, LeavesIf, Untouched}
 use Rattle.state.specs.Ready.{Stands}
 use Rattle.state.proofs.View.{touched-mark, touch-view}
-
--- what is left as it was from k on is so from later places on
-drop-later : (k n : ℕ) (l m : List Row) → k ≤ n → drop k l ≡ drop k m → drop n l ≡ drop n m
-drop-later k n l m h e =
-    let s : k + (n - k) ≡ n = omega arith in
-    ap (λ (x : ℕ). drop x l) (sym s) ∙ sym (drop-drop (n - k) k l) ∙ ap (drop (n - k)) e ∙ drop-drop (n - k) k m ∙ ap (λ (x : ℕ). drop x m) s
 
 -- a part under another name that says the same of this destination
 pub leaves-as : (f g : Dest → Out) (d r : Head) (subs rows events subs′ rows′ events′ : List Row)
@@ -79,7 +73,7 @@ module _ (f g : Dest → Out) (d r q : Head) (subs rows events subs′ rows′ e
     leaves-both = record {
       view = λ p u e. b .view p u (e ∙ sym (a .producers)) ∙ ap (λ (t : Dest). g t .dest) (a .view p u e);
       sent = sent-both;
-      later = b .later ∙ drop-later (r .events) (q .events) events′ events (b .more) (a .later);
+      later = b .later ∙ agree-later (r .events) (q .events) events′ events (b .more) (a .later);
       more = omega (arith, a .more, b .more);
       producers = b .producers ∙ a .producers;
       audits = b .audits ∙ a .audits;

@@ -1,10 +1,9 @@
 -- A call's parts keep a destination within its tables: after a part that keeps what soundness asks, the numbers fit for the next. Assumes nothing.
-use mathlib.Core.Path.{_≡_, sym, ap, _∙_}
+use mathlib.Core.Path.{_≡_, ap, _∙_}
 use mathlib.Core.Bool.{true}
 use mathlib.Core.List.{List}
 use Prim.Native.Nat.{ℕ, _+_, _≤_}
 use native.Mathlib.Omega.{arith}
-use borrow.Author.Tests.{leb-true}
 use lib.ListN.{length}
 use Rattle.definition.specs.Types.{Dest}
 use Rattle.definition.specs.Destination.{Out}

@@ -52,3 +52,8 @@ pub record Untouched (d r : Head) (subs rows events subs′ rows′ events′ : 
 abbrev pub LeavesIf : Bool → Type 0 → (Dest → Out) → Head → Head → List Row → List Row → List Row → List Row → List Row → List Row → Type 0
 LeavesIf true also f d r subs rows events subs′ rows′ events′ = Leaves f d r subs rows events subs′ rows′ events′ × also
 LeavesIf false also f d r subs rows events subs′ rows′ events′ = Untouched d r subs rows events subs′ rows′ events′
+
+-- what else many a part promises: what a dispatch sends still has room, and the consumers are as many
+pub record Room (d r : Head) : Type 0 where
+  pub room : r .events + r .used ≤ 512
+  pub as-many : r .consumers ≡ d .consumers

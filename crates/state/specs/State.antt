@@ -109,11 +109,11 @@ strictTables d subs rows = tablesStrict (d .reserved + d .waiting) (take (d .con
 
 -- ---- the numbers, one changed
 
-abbrev pub withCallsUsed : ℕ → Head → Head
-withCallsUsed x d = record { «topic_limit» = d .«topic_limit»; «call_limit» = d .«call_limit»; allowance = d .allowance; share = d .share; «calls_used» = x; turn = d .turn; «idle_since» = d .«idle_since»; stats = d .stats; consumers = d .consumers; producers = d .producers; audits = d .audits; reserved = d .reserved; waiting = d .waiting; used = d .used; events = d .events; queue = d .queue; idle = d .idle }
+abbrev pub withUsedCalls : ℕ → Head → Head
+withUsedCalls x d = record { «topic_limit» = d .«topic_limit»; «call_limit» = d .«call_limit»; allowance = d .allowance; share = d .share; «calls_used» = x; turn = d .turn; «idle_since» = d .«idle_since»; stats = d .stats; consumers = d .consumers; producers = d .producers; audits = d .audits; reserved = d .reserved; waiting = d .waiting; used = d .used; events = d .events; queue = d .queue; idle = d .idle }
 
-abbrev pub withStats : Stats → Head → Head
-withStats x d = record { «topic_limit» = d .«topic_limit»; «call_limit» = d .«call_limit»; allowance = d .allowance; share = d .share; «calls_used» = d .«calls_used»; turn = d .turn; «idle_since» = d .«idle_since»; stats = x; consumers = d .consumers; producers = d .producers; audits = d .audits; reserved = d .reserved; waiting = d .waiting; used = d .used; events = d .events; queue = d .queue; idle = d .idle }
+abbrev pub withCounters : Stats → Head → Head
+withCounters x d = record { «topic_limit» = d .«topic_limit»; «call_limit» = d .«call_limit»; allowance = d .allowance; share = d .share; «calls_used» = d .«calls_used»; turn = d .turn; «idle_since» = d .«idle_since»; stats = x; consumers = d .consumers; producers = d .producers; audits = d .audits; reserved = d .reserved; waiting = d .waiting; used = d .used; events = d .events; queue = d .queue; idle = d .idle }
 
 abbrev pub withTurn : ℕ → Head → Head
 withTurn x d = record { «topic_limit» = d .«topic_limit»; «call_limit» = d .«call_limit»; allowance = d .allowance; share = d .share; «calls_used» = d .«calls_used»; turn = x; «idle_since» = d .«idle_since»; stats = d .stats; consumers = d .consumers; producers = d .producers; audits = d .audits; reserved = d .reserved; waiting = d .waiting; used = d .used; events = d .events; queue = d .queue; idle = d .idle }
@@ -121,14 +121,14 @@ withTurn x d = record { «topic_limit» = d .«topic_limit»; «call_limit» = d
 abbrev pub withConsumers : ℕ → Head → Head
 withConsumers x d = record { «topic_limit» = d .«topic_limit»; «call_limit» = d .«call_limit»; allowance = d .allowance; share = d .share; «calls_used» = d .«calls_used»; turn = d .turn; «idle_since» = d .«idle_since»; stats = d .stats; consumers = x; producers = d .producers; audits = d .audits; reserved = d .reserved; waiting = d .waiting; used = d .used; events = d .events; queue = d .queue; idle = d .idle }
 
-abbrev pub withProducers : ℕ → Head → Head
-withProducers x d = record { «topic_limit» = d .«topic_limit»; «call_limit» = d .«call_limit»; allowance = d .allowance; share = d .share; «calls_used» = d .«calls_used»; turn = d .turn; «idle_since» = d .«idle_since»; stats = d .stats; consumers = d .consumers; producers = x; audits = d .audits; reserved = d .reserved; waiting = d .waiting; used = d .used; events = d .events; queue = d .queue; idle = d .idle }
+abbrev pub withProducerCount : ℕ → Head → Head
+withProducerCount x d = record { «topic_limit» = d .«topic_limit»; «call_limit» = d .«call_limit»; allowance = d .allowance; share = d .share; «calls_used» = d .«calls_used»; turn = d .turn; «idle_since» = d .«idle_since»; stats = d .stats; consumers = d .consumers; producers = x; audits = d .audits; reserved = d .reserved; waiting = d .waiting; used = d .used; events = d .events; queue = d .queue; idle = d .idle }
 
-abbrev pub withAudits : ℕ → Head → Head
-withAudits x d = record { «topic_limit» = d .«topic_limit»; «call_limit» = d .«call_limit»; allowance = d .allowance; share = d .share; «calls_used» = d .«calls_used»; turn = d .turn; «idle_since» = d .«idle_since»; stats = d .stats; consumers = d .consumers; producers = d .producers; audits = x; reserved = d .reserved; waiting = d .waiting; used = d .used; events = d .events; queue = d .queue; idle = d .idle }
+abbrev pub withAuditCount : ℕ → Head → Head
+withAuditCount x d = record { «topic_limit» = d .«topic_limit»; «call_limit» = d .«call_limit»; allowance = d .allowance; share = d .share; «calls_used» = d .«calls_used»; turn = d .turn; «idle_since» = d .«idle_since»; stats = d .stats; consumers = d .consumers; producers = d .producers; audits = x; reserved = d .reserved; waiting = d .waiting; used = d .used; events = d .events; queue = d .queue; idle = d .idle }
 
-abbrev pub withReserved : ℕ → Head → Head
-withReserved x d = record { «topic_limit» = d .«topic_limit»; «call_limit» = d .«call_limit»; allowance = d .allowance; share = d .share; «calls_used» = d .«calls_used»; turn = d .turn; «idle_since» = d .«idle_since»; stats = d .stats; consumers = d .consumers; producers = d .producers; audits = d .audits; reserved = x; waiting = d .waiting; used = d .used; events = d .events; queue = d .queue; idle = d .idle }
+abbrev pub withReservedCount : ℕ → Head → Head
+withReservedCount x d = record { «topic_limit» = d .«topic_limit»; «call_limit» = d .«call_limit»; allowance = d .allowance; share = d .share; «calls_used» = d .«calls_used»; turn = d .turn; «idle_since» = d .«idle_since»; stats = d .stats; consumers = d .consumers; producers = d .producers; audits = d .audits; reserved = x; waiting = d .waiting; used = d .used; events = d .events; queue = d .queue; idle = d .idle }
 
 abbrev pub withWaiting : ℕ → Head → Head
 withWaiting x d = record { «topic_limit» = d .«topic_limit»; «call_limit» = d .«call_limit»; allowance = d .allowance; share = d .share; «calls_used» = d .«calls_used»; turn = d .turn; «idle_since» = d .«idle_since»; stats = d .stats; consumers = d .consumers; producers = d .producers; audits = d .audits; reserved = d .reserved; waiting = x; used = d .used; events = d .events; queue = d .queue; idle = d .idle }
@@ -140,17 +140,17 @@ abbrev pub withEvents : ℕ → Head → Head
 withEvents x d = record { «topic_limit» = d .«topic_limit»; «call_limit» = d .«call_limit»; allowance = d .allowance; share = d .share; «calls_used» = d .«calls_used»; turn = d .turn; «idle_since» = d .«idle_since»; stats = d .stats; consumers = d .consumers; producers = d .producers; audits = d .audits; reserved = d .reserved; waiting = d .waiting; used = d .used; events = x; queue = d .queue; idle = d .idle }
 
 -- the idle mark, and its clock
-abbrev pub withIdle : Bool → ℕ → Head → Head
-withIdle b x d = record { «topic_limit» = d .«topic_limit»; «call_limit» = d .«call_limit»; allowance = d .allowance; share = d .share; «calls_used» = d .«calls_used»; turn = d .turn; «idle_since» = x; stats = d .stats; consumers = d .consumers; producers = d .producers; audits = d .audits; reserved = d .reserved; waiting = d .waiting; used = d .used; events = d .events; queue = d .queue; idle = b }
+abbrev pub withIdleMark : Bool → ℕ → Head → Head
+withIdleMark b x d = record { «topic_limit» = d .«topic_limit»; «call_limit» = d .«call_limit»; allowance = d .allowance; share = d .share; «calls_used» = d .«calls_used»; turn = d .turn; «idle_since» = x; stats = d .stats; consumers = d .consumers; producers = d .producers; audits = d .audits; reserved = d .reserved; waiting = d .waiting; used = d .used; events = d .events; queue = d .queue; idle = b }
 
 -- `idle_since = None`
 abbrev pub notIdle : Head → Head
-notIdle d = withIdle false 0 d
+notIdle d = withIdleMark false 0 d
 
 -- `touch_idle`
 unfoldable pub touched : ℕ → Head → Head
 touched now d =
-    if eqb (d .waiting) 0 && (eqb (d .consumers) 0 && eqb (d .producers) 0) then (if d .idle then d else withIdle true now d)
+    if eqb (d .waiting) 0 && (eqb (d .consumers) 0 && eqb (d .producers) 0) then (if d .idle then d else withIdleMark true now d)
     else notIdle d
 
 -- the clock that entries expire by
@@ -174,14 +174,14 @@ firstWaiting d = d .used - d .waiting
 abbrev pub firstReserved : Head → ℕ
 firstReserved d = d .used - d .waiting - d .reserved
 
-abbrev pub freeRows : Head → ℕ
-freeRows d = 512 - d .used
+abbrev pub rowsFree : Head → ℕ
+rowsFree d = 512 - d .used
 
 -- ---- what is written
 
 -- to a head of full size the first 17 words, and the last two
-unfoldable pub stored : Head → List ℕ → List ℕ
-stored d h = if ltb (length h) 8347 then h else set (set (headWords d ++ drop 17 h) 8345 (d .allowance)) 8346 (d .share)
+unfoldable pub storedHead : Head → List ℕ → List ℕ
+storedHead d h = if ltb (length h) 8347 then h else set (set (headWords d ++ drop 17 h) 8345 (d .allowance)) 8346 (d .share)
 
 -- an event is appended, where there is room
 unfoldable pub pushed : Head → ℕ → Head

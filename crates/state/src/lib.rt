@@ -6,7 +6,7 @@ ghost use Rattle.model.specs.Model.{idOf};
 ghost use Rattle.stats.specs.Counted.{more, withEnqueued, withDequeuedBy, withExpiredBy, withDiscardedBy, withDispatched};
 ghost use Rattle.definition.specs.Types.{letter, message, null};
 ghost use Rattle.definition.specs.Layout.{eventWords};
-ghost use Rattle.state.specs.State.{kindWord, noHead, loaded, stored, pushed, touched, notIdle, dueBy, refusedAs, doneAs, withCallsUsed, withStats, firstWaiting, firstReserved, freeRows};
+ghost use Rattle.state.specs.State.{kindWord, noHead, loaded, storedHead, pushed, touched, notIdle, dueBy, refusedAs, doneAs, withUsedCalls, withCounters, firstWaiting, firstReserved, rowsFree};
 ghost use Rattle.state.specs.Fits.{tablesFit, numbersFit, countersFit, fits};
 use consumers::SubRow;
 use stats::Stats;
@@ -103,14 +103,14 @@ impl Head {
 
     // One call more.
     pub fn counted(mut self) -> Head
-        ensures { λ r. ⌜ r ≡ withCallsUsed (more (self .«calls_used»)) self ⌝ }
+        ensures { λ r. ⌜ r ≡ withUsedCalls (more (self .«calls_used»)) self ⌝ }
     {
         self.calls_used = stats::more_of(self.calls_used);
         self
     }
 
     pub fn count_enqueued(mut self) -> Head
-        ensures { λ r. ⌜ r ≡ withStats (withEnqueued (self .stats)) self ⌝ }
+        ensures { λ r. ⌜ r ≡ withCounters (withEnqueued (self .stats)) self ⌝ }
     {
         let s = stats::counted_enqueued(self.stats);
         self.stats = s;
@@ -118,7 +118,7 @@ impl Head {
     }
 
     pub fn count_dequeued(mut self, k: u64) -> Head
-        ensures { λ r. ⌜ r ≡ withStats (withDequeuedBy (self .stats) k) self ⌝ }
+        ensures { λ r. ⌜ r ≡ withCounters (withDequeuedBy (self .stats) k) self ⌝ }
     {
         let s = stats::counted_dequeued_by(self.stats, k);
         self.stats = s;
@@ -126,7 +126,7 @@ impl Head {
     }
 
     pub fn count_expired(mut self, k: u64) -> Head
-        ensures { λ r. ⌜ r ≡ withStats (withExpiredBy (self .stats) k) self ⌝ }
+        ensures { λ r. ⌜ r ≡ withCounters (withExpiredBy (self .stats) k) self ⌝ }
     {
         let s = stats::counted_expired_by(self.stats, k);
         self.stats = s;
@@ -134,7 +134,7 @@ impl Head {
     }
 
     pub fn count_discarded(mut self, k: u64) -> Head
-        ensures { λ r. ⌜ r ≡ withStats (withDiscardedBy (self .stats) k) self ⌝ }
+        ensures { λ r. ⌜ r ≡ withCounters (withDiscardedBy (self .stats) k) self ⌝ }
     {
         let s = stats::counted_discarded_by(self.stats, k);
         self.stats = s;
@@ -142,7 +142,7 @@ impl Head {
     }
 
     pub fn count_dispatched(mut self) -> Head
-        ensures { λ r. ⌜ r ≡ withStats (withDispatched (self .stats)) self ⌝ }
+        ensures { λ r. ⌜ r ≡ withCounters (withDispatched (self .stats)) self ⌝ }
     {
         let s = stats::counted_dispatched(self.stats);
         self.stats = s;
@@ -164,14 +164,14 @@ impl Head {
     }
 
     pub fn free_rows(self) -> usize
-        ensures { λ r. ⌜ r ≡ freeRows self ⌝ }
+        ensures { λ r. ⌜ r ≡ rowsFree self ⌝ }
     {
         less(ROWS, self.used)
     }
 }
 
 // a - b, and 0 where b is above a.
-fn less(a: usize, b: usize) -> usize
+pub fn less(a: usize, b: usize) -> usize
     ensures { λ r. ⌜ r ≡ a - b ⌝ }
 {
     if b <= a { a - b } else { 0 }
@@ -307,7 +307,7 @@ pub fn load(head: &[u64], subs: &[SubRow]) -> Head
 
 // Writes the numbers to the head; to a short one, nothing.
 pub fn store(head: &mut [u64], d: Head)
-    ensures { λ _. ⌜ now (head .exit) ≡ stored d (now (head .entry)) ⌝ }
+    ensures { λ _. ⌜ now (head .exit) ≡ storedHead d (now (head .entry)) ⌝ }
 {
     if head.len() < HEAD_WORDS {
         return;

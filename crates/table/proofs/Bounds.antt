@@ -6,9 +6,10 @@ use mathlib.Core.List.{List}
 use Prim.Native.Nat.{ℕ, _+_, _≤_, _<_}
 use lib.ListN.{length}
 use lib.Seq.{slice}
+use Rattle.definition.specs.Layout.{Row}
 use Rattle.definition.specs.Base.{tally}
-use Rattle.table.specs.declared.Found.the-variants.{Nothing}
-use Rattle.table.specs.Table.{Row, closed, closeGap, opened, insertRow, lifted, openGap, findFrom, findSeq, holdsSeq, hasSeqIn, placeFrom, placeOf, countRows, mapped, mapRows, removed, removeRows, removedRows}
+use Rattle.entry.specs.declared.Found.the-variants.{Nothing}
+use Rattle.table.specs.Table.{closed, closeGap, rowOpened, insertRow, lifted, openGap, findFrom, findSeq, holdsSeq, hasSeqIn, placeFrom, placeOf, countRows, mapped, mapRows, rowsRemoved, removeRows, removedRows}
 use Rattle.table.proofs.Lists.{both-hold, first-fails, second-fails, three-hold, one-fails, two-fails, three-fails}
 
 module _ (at k n : ℕ) (rs : List Row) where
@@ -37,17 +38,17 @@ module _ (at k n : ℕ) (rs : List Row) where
   open-high h = second-fails at n (n + k) (length rs) (lifted at k n rs) rs h
 
 module _ (at n : ℕ) (row : Row) (rs : List Row) where
-  pub insert-in : at ≤ n → n + 1 ≤ length rs → insertRow at n row rs ≡ opened at n row rs
+  pub insert-in : at ≤ n → n + 1 ≤ length rs → insertRow at n row rs ≡ rowOpened at n row rs
   unfolding insertRow
-  insert-in h b = both-hold at n (n + 1) (length rs) (opened at n row rs) rs h b
+  insert-in h b = both-hold at n (n + 1) (length rs) (rowOpened at n row rs) rs h b
 
   pub insert-low : n < at → insertRow at n row rs ≡ rs
   unfolding insertRow
-  insert-low h = first-fails at n (n + 1) (length rs) (opened at n row rs) rs h
+  insert-low h = first-fails at n (n + 1) (length rs) (rowOpened at n row rs) rs h
 
   pub insert-high : length rs < n + 1 → insertRow at n row rs ≡ rs
   unfolding insertRow
-  insert-high h = second-fails at n (n + 1) (length rs) (opened at n row rs) rs h
+  insert-high h = second-fails at n (n + 1) (length rs) (rowOpened at n row rs) rs h
 
 module _ (from to seq : ℕ) (rs : List Row) where
   pub find-in : from ≤ to → to ≤ length rs → findSeq from to seq rs ≡ findFrom from seq (slice from to rs)
@@ -113,21 +114,21 @@ module _ (f : Row → Row) (from to : ℕ) (rs : List Row) where
   map-high h = second-fails from to to (length rs) (mapped f from to rs) rs h
 
 module _ (p : Row → Bool) (from to n : ℕ) (rs : List Row) where
-  pub remove-in : from ≤ to → to ≤ n → n ≤ length rs → removeRows p from to n rs ≡ removed p from to n rs
+  pub remove-in : from ≤ to → to ≤ n → n ≤ length rs → removeRows p from to n rs ≡ rowsRemoved p from to n rs
   unfolding removeRows
-  remove-in h k b = three-hold from to n (length rs) (removed p from to n rs) rs h k b
+  remove-in h k b = three-hold from to n (length rs) (rowsRemoved p from to n rs) rs h k b
 
   pub remove-low : to < from → removeRows p from to n rs ≡ rs
   unfolding removeRows
-  remove-low h = one-fails from to n (length rs) (removed p from to n rs) rs h
+  remove-low h = one-fails from to n (length rs) (rowsRemoved p from to n rs) rs h
 
   pub remove-past : n < to → removeRows p from to n rs ≡ rs
   unfolding removeRows
-  remove-past h = two-fails from to n (length rs) (removed p from to n rs) rs h
+  remove-past h = two-fails from to n (length rs) (rowsRemoved p from to n rs) rs h
 
   pub remove-high : length rs < n → removeRows p from to n rs ≡ rs
   unfolding removeRows
-  remove-high h = three-fails from to n (length rs) (removed p from to n rs) rs h
+  remove-high h = three-fails from to n (length rs) (rowsRemoved p from to n rs) rs h
 
   pub gone-in : from ≤ to → to ≤ n → n ≤ length rs → removedRows p from to n rs ≡ tally p (slice from to rs)
   unfolding removedRows

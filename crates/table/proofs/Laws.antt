@@ -8,8 +8,9 @@ use Prim.Native.Nat.{ℕ, suc, _+_, _-_, _≤_}
 use native.Mathlib.Omega.{arith}
 use lib.ListN.{length, take, drop, getD, length-append, length-map}
 use lib.Seq.{slice, length-slice, length-take-le, take-at, getD-at}
+use Rattle.definition.specs.Layout.{Row}
 use Rattle.definition.specs.Base.{keep, tally}
-use Rattle.table.specs.Table.{Row, closed, closeGap, opened, insertRow, lifted, openGap, findFrom, findSeq, placeFrom, placeOf, countRows, mapped, mapRows, removed, removeRows, removedRows}
+use Rattle.table.specs.Table.{closed, closeGap, rowOpened, insertRow, lifted, openGap, findFrom, findSeq, placeFrom, placeOf, countRows, mapped, mapRows, rowsRemoved, removeRows, removedRows}
 use Rattle.table.proofs.Lists.{guarded, guarded₃, written, written-length, written-low, written-drop, written-take, slice-parts, drop-parts, take-parts}
 use Rattle.table.proofs.Bounds.{close-in, open-in, insert-in, find-in, place-in, count-in, map-in, remove-in, gone-in}
 use Rattle.table.proofs.Segments.{kept-length, tally-most}
@@ -36,8 +37,8 @@ module _ (at n : ℕ) (row : Row) (rs : List Row) (h : at ≤ n) (b : n + 1 ≤ 
   opened-size : at + length (row ∷ slice at n rs) ≡ n + 1
   opened-size = omega (arith, length-slice at n rs (omega arith))
 
-  opened-is : opened at n row rs ≡ written at (row ∷ slice at n rs) (n + 1) rs
-  unfolding opened written
+  opened-is : rowOpened at n row rs ≡ written at (row ∷ slice at n rs) (n + 1) rs
+  unfolding rowOpened written
   opened-is = let e : suc n ≡ n + 1 = omega arith in ap (λ (m : ℕ). take at rs ++ (row ∷ slice at n rs ++ drop m rs)) e
 
 module _ (f : Row → Row) (from to : ℕ) (rs : List Row) (h : from ≤ to) (b : to ≤ length rs) where
@@ -57,8 +58,8 @@ module _ (p : Row → Bool) (from to n : ℕ) (rs : List Row) (h : from ≤ to) 
       omega
       (arith, length-append (keep (λ r. not (p r)) (slice from to rs)) (slice to n rs), kept-length p (slice from to rs), length-slice from to rs (omega arith), length-slice to n rs b)
 
-  removed-is : removed p from to n rs ≡ written from stays (n - tally p (slice from to rs)) rs
-  unfolding removed written
+  removed-is : rowsRemoved p from to n rs ≡ written from stays (n - tally p (slice from to rs)) rs
+  unfolding rowsRemoved written
   removed-is = ap (λ (x : List Row). take from rs ++ x) (sym (append-assoc (keep (λ r. not (p r)) (slice from to rs)) (slice to n rs) (drop (n - tally p (slice from to rs)) rs)))
 
 -- ---- close_gap
@@ -109,24 +110,24 @@ module _ (at k n : ℕ) (rs : List Row) where
 module _ (at n : ℕ) (row : Row) (rs : List Row) where
   pub insert-length : length (insertRow at n row rs) ≡ length rs
   unfolding insertRow
-  insert-length = guarded (λ (l : List Row). length l ≡ length rs) at n (n + 1) (length rs) (opened at n row rs) rs
+  insert-length = guarded (λ (l : List Row). length l ≡ length rs) at n (n + 1) (length rs) (rowOpened at n row rs) rs
       (λ h b. ap length (opened-is at n row rs h b) ∙ written-length at (n + 1) (row ∷ slice at n rs) rs (opened-size at n row rs h b) b) refl
 
   pub insert-before : (m : ℕ) → m ≤ at → take m (insertRow at n row rs) ≡ take m rs
   unfolding insertRow
-  insert-before m l = guarded (λ (x : List Row). take m x ≡ take m rs) at n (n + 1) (length rs) (opened at n row rs) rs
+  insert-before m l = guarded (λ (x : List Row). take m x ≡ take m rs) at n (n + 1) (length rs) (rowOpened at n row rs) rs
       (λ h b. ap (take m) (opened-is at n row rs h b) ∙ written-low at (n + 1) (row ∷ slice at n rs) rs (opened-size at n row rs h b) m l b) refl
 
   pub insert-after : (m : ℕ) → n + 1 ≤ m → drop m (insertRow at n row rs) ≡ drop m rs
   unfolding insertRow
-  insert-after m l = guarded (λ (x : List Row). drop m x ≡ drop m rs) at n (n + 1) (length rs) (opened at n row rs) rs
+  insert-after m l = guarded (λ (x : List Row). drop m x ≡ drop m rs) at n (n + 1) (length rs) (rowOpened at n row rs) rs
       (λ h b. ap (drop m) (opened-is at n row rs h b) ∙ written-drop at (n + 1) (row ∷ slice at n rs) rs (opened-size at n row rs h b) m l b) refl
 
   pub insert-used : at ≤ n → n + 1 ≤ length rs → take (n + 1) (insertRow at n row rs) ≡ take at rs ++ row ∷ slice at n rs
   insert-used h b = ap (take (n + 1)) (insert-in at n row rs h b ∙ opened-is at n row rs h b) ∙ written-take at (n + 1) (row ∷ slice at n rs) rs (opened-size at n row rs h b) b
 
   pub insert-at : (z : Row) → at ≤ n → n + 1 ≤ length rs → getD (insertRow at n row rs) at z ≡ row
-  unfolding opened
+  unfolding rowOpened
   insert-at z h b = ap (λ (l : List Row). getD l at z) (insert-in at n row rs h b) ∙ getD-at (take at rs) row (slice at n rs ++ drop (suc n) rs) z at (length-take-le at rs (omega arith))
 
 -- ---- mark_range, redeliver_range, unmark
@@ -155,17 +156,17 @@ module _ (f : Row → Row) (from to : ℕ) (rs : List Row) where
 module _ (p : Row → Bool) (from to n : ℕ) (rs : List Row) where
   pub remove-length : length (removeRows p from to n rs) ≡ length rs
   unfolding removeRows
-  remove-length = guarded₃ (λ (l : List Row). length l ≡ length rs) from to n (length rs) (removed p from to n rs) rs
+  remove-length = guarded₃ (λ (l : List Row). length l ≡ length rs) from to n (length rs) (rowsRemoved p from to n rs) rs
       (λ h k b. ap length (removed-is p from to n rs h k b) ∙ written-length from (n - tally p (slice from to rs)) (stays p from to n rs h k b) rs (removed-size p from to n rs h k b) (omega arith)) refl
 
   pub remove-before : (m : ℕ) → m ≤ from → take m (removeRows p from to n rs) ≡ take m rs
   unfolding removeRows
-  remove-before m l = guarded₃ (λ (x : List Row). take m x ≡ take m rs) from to n (length rs) (removed p from to n rs) rs
+  remove-before m l = guarded₃ (λ (x : List Row). take m x ≡ take m rs) from to n (length rs) (rowsRemoved p from to n rs) rs
       (λ h k b. ap (take m) (removed-is p from to n rs h k b) ∙ written-low from (n - tally p (slice from to rs)) (stays p from to n rs h k b) rs (removed-size p from to n rs h k b) m l (omega arith)) refl
 
   pub remove-after : (m : ℕ) → n - tally p (slice from to rs) ≤ m → drop m (removeRows p from to n rs) ≡ drop m rs
   unfolding removeRows
-  remove-after m l = guarded₃ (λ (x : List Row). drop m x ≡ drop m rs) from to n (length rs) (removed p from to n rs) rs
+  remove-after m l = guarded₃ (λ (x : List Row). drop m x ≡ drop m rs) from to n (length rs) (rowsRemoved p from to n rs) rs
       (λ h k b. ap (drop m) (removed-is p from to n rs h k b) ∙ written-drop from (n - tally p (slice from to rs)) (stays p from to n rs h k b) rs (removed-size p from to n rs h k b) m l (omega arith)) refl
 
   pub remove-used : from ≤ to → to ≤ n → n ≤ length rs
@@ -196,7 +197,7 @@ close-parts at k n a b c d ea eb ec =
 -- row x goes, and the new row stands before c: with a row made of x, the rotation that sends a waiting row
 pub insert-parts : (at n : ℕ) (row x : Row) (a c d : List Row) → length a ≡ at → at + length c ≡ n
     → insertRow at n row (a ++ (c ++ x ∷ d)) ≡ a ++ row ∷ (c ++ d)
-unfolding opened
+unfolding rowOpened
 insert-parts at n row x a c d ea ec =
     let rs : List Row = a ++ (c ++ x ∷ d) in
     let size : n + 1 ≤ length rs = simp length-append (omega arith) in
@@ -264,7 +265,7 @@ module _ (p : Row → Bool) (from to n : ℕ) (a s c d : List Row) (ea : length 
 
   pub remove-parts : removeRows p from to n (a ++ (s ++ (c ++ d)))
       ≡ a ++ (keep (λ r. not (p r)) s ++ (c ++ drop (length (keep (λ r. not (p r)) s) + length c) (s ++ (c ++ d))))
-  unfolding removed
+  unfolding rowsRemoved
   remove-parts =
       let rs : List Row = a ++ (s ++ (c ++ d)) in
       let left : List Row = keep (λ r. not (p r)) s in

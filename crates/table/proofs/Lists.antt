@@ -1,7 +1,7 @@
 -- Guards of two comparisons, parts of a list, and a list that is written from a place on, an element at a time.
 -- Assumes nothing.
 use mathlib.Core.Path.{_≡_, refl, sym, ap, _∙_}
-use mathlib.Core.Bool.{Bool, true, false, not, _&&_, and-false}
+use mathlib.Core.Bool.{Bool, true, false, _&&_, and-false}
 use mathlib.Core.List.{List, [], _∷_, _++_, append-assoc}
 use Prim.Native.Nat.{ℕ, zero, suc, _+_, _-_, _≤_, _<_}
 use native.Mathlib.Nat.{suc-sub-suc, sub-zero, le-of-suc-le-suc, not-suc-le-zero}
@@ -13,23 +13,12 @@ use lib.ListN.{length, take, drop, getD, set, length-append, length-drop, take-a
 use lib.Seq.{take-nil, take-suc, drop-cons, append-snoc, set-at, slice, length-take-le, drop-append-le, getD-append-add, getD-drop, getD-take, drop-append-add, drop-drop, take-append-add, take-append-le, take-take, take-at, drop-at}
 use Rattle.words.specs.Pick.{if_then_else_}
 
--- a choice whose test is known, and a test behind another
-module _ {ℓ} {A : Type ℓ} (b : Bool) (x y : A) where
-  pub if-true : b ≡ true → (if b then x else y) ≡ x
-  if-true t = rw t
-
-  pub if-false : b ≡ false → (if b then x else y) ≡ y
-  if-false t = rw t
-
+-- a test behind another
 pub and-on : (a b : Bool) → a ≡ true → (a && b) ≡ b
 and-on a b t = rw t
 
 pub and-off : (a b : Bool) → a ≡ false → (a && b) ≡ false
 and-off a b t = rw t
-
-pub not-twice : (b : Bool) → not (not b) ≡ b
-not-twice true = refl
-not-twice false = refl
 
 -- what is meant within two bounds, and outside either
 module _ {ℓ} {A : Type ℓ} (a b c d : ℕ) (x y : A) where
@@ -86,13 +75,6 @@ module _ {ℓ} {A : Type ℓ} where
   slice-snoc f i l z h k =
       ap (λ (n : ℕ). slice f n l) (add-one i)
       ∙ ap (drop f) (take-suc l i z k) ∙ drop-append-le f (take i l) (getD l i z ∷ []) (rw (length-take-le i l (omega arith)) h)
-
-  -- a store at the last place of a front
-  pub set-front : (rs : List A) (p : ℕ) (x : List A) (a : A) → p < length rs → set (take (suc p) rs ++ x) p a ≡ take p rs ++ a ∷ x
-  set-front rs p x a h =
-      ap (λ (l : List A). set (l ++ x) p a) (take-suc rs p a h)
-      ∙ ap (λ (l : List A). set l p a) (append-snoc (take p rs) (getD rs p a) x)
-      ∙ set-at (take p rs) (getD rs p a) x a p (length-take-le p rs (omega arith))
 
   -- from place a on the elements m have been written; j is where the next goes
   unfoldable pub written : ℕ → List A → ℕ → List A → List A
@@ -210,9 +192,3 @@ module _ {ℓ} {A : Type ℓ} where
 
   pub agree-drop : (j n : ℕ) (x y : List A) → take n x ≡ take n y → j ≤ n → take (n - j) (drop j x) ≡ take (n - j) (drop j y)
   agree-drop j n x y q h = sym (slice-take j n x h) ∙ ap (drop j) q ∙ slice-take j n y h
-
-  -- lists that agree from a place on agree from a later one on
-  pub agree-later : (m n : ℕ) (x y : List A) → m ≤ n → drop m x ≡ drop m y → drop n x ≡ drop n y
-  agree-later m n x y h q =
-      let e : m + (n - m) ≡ n = omega arith in
-      ap (λ (k : ℕ). drop k x) (sym e) ∙ sym (drop-drop (n - m) m x) ∙ ap (drop (n - m)) q ∙ drop-drop (n - m) m y ∙ ap (λ (k : ℕ). drop k y) e

@@ -10,10 +10,12 @@ use borrow.Author.Tests.{eq-eqb, ne-eqb, le-leb, lt-leb, leb-false}
 use lib.Dec.{eqb, leb}
 use lib.ListN.{length, take, drop, getD, set, length-drop, take-append-drop, List·getD-append}
 use lib.Seq.{slice, slice-empty, slice-cons, length-take-le, length-slice, getD-take, take-length, take-take, take-add, drop-append-le, drop-drop}
+use Rattle.definition.specs.Layout.{Row}
 use Rattle.definition.proofs.Tests.{or-no-left, or-no-right}
-use Rattle.table.specs.declared.Found.the-variants.{At, Nothing}
-use Rattle.table.specs.Table.{Row, closed, lifted, opened, findFrom, holdsSeq, placeFrom}
-use Rattle.table.proofs.Lists.{parts, slice-take, slice-snoc, set-front, written, written-none, written-at, written-more}
+use Rattle.definition.proofs.Lists.{set-front}
+use Rattle.entry.specs.declared.Found.the-variants.{At, Nothing}
+use Rattle.table.specs.Table.{closed, lifted, rowOpened, findFrom, holdsSeq, placeFrom}
+use Rattle.table.proofs.Lists.{parts, slice-take, slice-snoc, written, written-none, written-at, written-more}
 
 -- ---- rows move down by k: i is where the next row stands, and j where it goes
 
@@ -119,8 +121,8 @@ lifted-turn rs now i k n z p h b q =
     ∙ lifted-step rs (i - 1) k n z (omega arith) b
 
 -- and a row is stored at the first place
-pub lifted-store : (rs : List Row) (at n : ℕ) (a : Row) → at ≤ n → n < length rs → set (lifted at 1 n rs) at a ≡ opened at n a rs
-unfolding lifted opened
+pub lifted-store : (rs : List Row) (at n : ℕ) (a : Row) → at ≤ n → n < length rs → set (lifted at 1 n rs) at a ≡ rowOpened at n a rs
+unfolding lifted rowOpened
 lifted-store rs at n a h b =
     let e : at + 1 ≡ suc at = omega arith in
     let f : n + 1 ≡ suc n = omega arith in

@@ -12,17 +12,17 @@ use Rattle.definition.specs.Base.{if_then_else_}
 use Rattle.entry.specs.Entry.{entryOf, oneMore, redelivered}
 use Rattle.entry.proofs.Redelivery.{oneMore-fits}
 use Rattle.definition.specs.Consumer.{inflightOf}
-use Rattle.definition.specs.Layout.{flag, inflightAt}
-use Rattle.table.specs.Table.{Row, inRange, isFreed, freedRow, markRow, raisedRow, redeliverRow, unmarkRow, flownRow}
+use Rattle.definition.specs.Layout.{flag, inflightAt, Row}
+use Rattle.table.specs.Table.{dseqBetween, isFreed, freedRow, markRow, raisedRow, redeliverRow, unmarkRow, flownRow}
 
 -- another word is as it was
 pub word-kept : (w : Row) (k v j : ℕ) → (j ≡ k → ⊥) → getD (set w k v) j 0 ≡ getD w j 0
 word-kept w k v j h = getD-set-other w k j v 0 h
 
-below : {j k : ℕ} → j < k → j ≡ k → ⊥
+pub below : {j k : ℕ} → j < k → j ≡ k → ⊥
 below h e = omega arith
 
-above : {j k : ℕ} → k < j → j ≡ k → ⊥
+pub above : {j k : ℕ} → k < j → j ≡ k → ⊥
 above h e = omega arith
 
 -- the words of the place are no part of the entry
@@ -37,7 +37,7 @@ freed-entry true w = place-kept (set w 7 1) 8 1 (omega arith) (omega arith) ∙ 
 freed-entry false w = place-kept w 7 1 (omega arith) (omega arith)
 
 pub mark-entry : (first last : ℕ) (tx : Bool) (w : Row) → entryOf (markRow first last tx w) ≡ entryOf w
-mark-entry first last tx w = by (inRange first last w)
+mark-entry first last tx w = by (dseqBetween first last w)
   where
     by : (b : Bool) → entryOf (if b then freedRow tx w else w) ≡ entryOf w
     by true = freed-entry tx w
@@ -56,8 +56,8 @@ raised-entry w h =
     rw
     (e, word-kept w 5 v 0 (below (omega arith)), word-kept w 5 v 1 (below (omega arith)), word-kept w 5 v 2 (below (omega arith)), word-kept w 5 v 3 (below (omega arith)), word-kept w 5 v 4 (below (omega arith)), word-kept w 5 v 9 (above (omega arith)))
 
-pub redeliver-entry : (first last : ℕ) (w : Row) → 5 < length w → entryOf (redeliverRow first last w) ≡ (if inRange first last w then redelivered (entryOf w) else entryOf w)
-redeliver-entry first last w h = by (inRange first last w)
+pub redeliver-entry : (first last : ℕ) (w : Row) → 5 < length w → entryOf (redeliverRow first last w) ≡ (if dseqBetween first last w then redelivered (entryOf w) else entryOf w)
+redeliver-entry first last w h = by (dseqBetween first last w)
   where
     by : (b : Bool) → entryOf (if b then raisedRow w else w) ≡ (if b then redelivered (entryOf w) else entryOf w)
     by true = raised-entry w h
@@ -74,14 +74,14 @@ freed-length true w = simp length-set
 freed-length false w = simp length-set
 
 pub mark-length : (first last : ℕ) (tx : Bool) (w : Row) → length (markRow first last tx w) ≡ length w
-mark-length first last tx w = by (inRange first last w)
+mark-length first last tx w = by (dseqBetween first last w)
   where
     by : (b : Bool) → length (if b then freedRow tx w else w) ≡ length w
     by true = freed-length tx w
     by false = refl
 
 pub redeliver-length : (first last : ℕ) (w : Row) → length (redeliverRow first last w) ≡ length w
-redeliver-length first last w = by (inRange first last w)
+redeliver-length first last w = by (dseqBetween first last w)
   where
     by : (b : Bool) → length (if b then raisedRow w else w) ≡ length w
     by true = simp length-set

@@ -9,11 +9,12 @@ use borrow.Author.Tests.{eqb-true, eqb-false, leb-true, leb-false}
 use lib.Dec.{eqb, leb}
 use lib.ListN.{length, getD}
 use lib.Seq.{slice, length-slice, getD-take, getD-drop}
+use Rattle.definition.specs.Layout.{Row}
 use Rattle.words.proofs.Tests.{by-test}
 use Rattle.definition.specs.Base.{if_then_else_}
-use Rattle.table.specs.declared.Found.{Found}
-use Rattle.table.specs.declared.Found.the-variants.{At, Nothing}
-use Rattle.table.specs.Table.{Row, findFrom, findSeq, placeFrom, placeOf}
+use Rattle.entry.specs.declared.Found.{Found}
+use Rattle.entry.specs.declared.Found.the-variants.{At, Nothing}
+use Rattle.table.specs.Table.{findFrom, findSeq, placeFrom, placeOf}
 use Rattle.table.proofs.Lists.{guarded}
 
 -- the row that was found has that number

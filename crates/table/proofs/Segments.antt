@@ -4,13 +4,17 @@ use mathlib.Core.Path.{_≡_, refl, sym, ap, ap₂, _∙_}
 use mathlib.Core.Bool.{Bool, true, false, not}
 use mathlib.Core.List.{List, [], _∷_, _++_, map, append-nil, append-assoc, map-append}
 use Prim.Native.Nat.{ℕ, _+_, _-_, _≤_, _<_}
-use native.Mathlib.Nat.{add-zero, add-assoc}
+use native.Mathlib.Nat.{add-zero}
 use native.Mathlib.Omega.{arith}
 use lib.ListN.{length, take, drop, getD, set, length-map}
 use lib.Seq.{slice, slice-empty, length-slice, set-getD}
+use Rattle.definition.specs.Layout.{Row}
 use Rattle.words.proofs.Tests.{by-test}
 use Rattle.definition.specs.Base.{if_then_else_, keep, tally}
-use Rattle.table.specs.Table.{Row, closed, closeGap, mapped, removed, removeRows, compacted}
+use Rattle.definition.proofs.Reorder.{keep-append}
+use Rattle.definition.proofs.Thin.{tally-append}
+pub use Rattle.definition.proofs.Sums.{kept-length}
+use Rattle.table.specs.Table.{closed, closeGap, mapped, rowsRemoved, removeRows, compacted}
 use Rattle.table.proofs.Bounds.{close-in, remove-in}
 use Rattle.table.proofs.Lists.{slice-take, slice-snoc, written, written-none, written-length, written-at, written-drop, written-take, written-more, written-same}
 
@@ -28,23 +32,14 @@ module _ {A B : Type 0} (g : A → B) (p : B → Bool) where
 -- ---- counting
 
 module _ (p : Row → Bool) where
-  tally-append : (l r : List Row) → tally p (l ++ r) ≡ tally p l + tally p r
-  tally-append [] r = omega arith
-  tally-append (x ∷ l) r = ap (λ (n : ℕ). (if p x then 1 else 0) + n) (tally-append l r) ∙ sym (add-assoc (if p x then 1 else 0) (tally p l) (tally p r))
-
-  -- what is kept and what is gone are all
-  pub kept-length : (l : List Row) → length (keep (λ r. not (p r)) l) + tally p l ≡ length l
-  kept-length [] = refl
-  kept-length (x ∷ l) = by-test (p x) (λ t. rw t (omega (arith, kept-length l))) (λ t. rw t (omega (arith, kept-length l)))
-
   module _ (from i : ℕ) (rs : List Row) where
     pub tally-most : from ≤ i → i ≤ length rs → from + tally p (slice from i rs) ≤ i
-    tally-most h b = omega (arith, kept-length (slice from i rs), length-slice from i rs b)
+    tally-most h b = omega (arith, kept-length p (slice from i rs), length-slice from i rs b)
 
     pub tally-turn : (x : Row) → from ≤ i → i < length rs → x ≡ getD rs i [] → tally p (slice from (i + 1) rs) ≡ tally p (slice from i rs) + (if p x then 1 else 0)
     tally-turn x h b e =
         ap (tally p) (slice-snoc from i rs [] h b ∙ ap (λ (r : Row). slice from i rs ++ (r ∷ [])) (sym e))
-        ∙ tally-append (slice from i rs) (x ∷ [])
+        ∙ tally-append p (slice from i rs) (x ∷ [])
         ∙ ap (λ (n : ℕ). tally p (slice from i rs) + n) (add-zero (if p x then 1 else 0))
 
     -- a turn whose row passes the test by what b says, and one whose row does not
@@ -96,11 +91,6 @@ module _ (f : Row → Row) where
 -- ---- rows are taken out
 
 module _ (p : Row → Bool) where
-  keep-append : (l r : List Row) → keep p (l ++ r) ≡ keep p l ++ keep p r
-  keep-append [] r = refl
-  keep-append (x ∷ l) r = by-test (p x) (λ t. rw t (ap (λ (m : List Row). x ∷ m) (keep-append l r))) (λ t. rw t (keep-append l r))
-
-module _ (p : Row → Bool) where
   abbrev left : List Row → List Row
   left l = keep (λ r. not (p r)) l
 
@@ -128,8 +118,8 @@ module _ (p : Row → Bool) where
 
     -- the rows after the segment close up
     pub compacted-closed : (n : ℕ) → i ≤ n → n ≤ length rs
-        → closed (i - tally p (slice from i rs)) (tally p (slice from i rs)) n (compacted p from i rs) ≡ removed p from i n rs
-    unfolding closed compacted written removed
+        → closed (i - tally p (slice from i rs)) (tally p (slice from i rs)) n (compacted p from i rs) ≡ rowsRemoved p from i n rs
+    unfolding closed compacted written rowsRemoved
     compacted-closed n k c =
         let s : List Row = slice from i rs in
         let g : ℕ = tally p s in

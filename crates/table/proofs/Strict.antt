@@ -1,8 +1,8 @@
 -- Rows that a function made or changed, whose words in use are strict. Assumes nothing.
-use mathlib.Core.Path.{_≡_, refl, sym, ap, _∙_}
+use mathlib.Core.Path.{_≡_, refl, ap, _∙_}
 use mathlib.Core.Bool.{Bool, true, false, _&&_}
 use mathlib.Core.List.{[], _∷_}
-use Prim.Native.Nat.{ℕ, zero, suc, _≤_, _<_}
+use Prim.Native.Nat.{ℕ, zero, suc, _≤_}
 use native.Mathlib.Omega.{arith}
 use lib.ListN.{getD, set}
 use mir.Syntax.{w32}
@@ -14,16 +14,10 @@ use Rattle.entry.specs.declared.Entry.{Entry}
 use Rattle.entry.specs.Entry.{oneMore, rowOf}
 use Rattle.entry.proofs.Redelivery.{oneMore-fits}
 use Rattle.definition.specs.Base.{if_then_else_}
-use Rattle.definition.specs.Layout.{isMark, entryStrict, flyingStrict}
+use Rattle.definition.specs.Layout.{isMark, entryStrict, flyingStrict, Row}
 use Rattle.definition.proofs.Tests.{and-left, and-right, and-both}
-use Rattle.table.specs.Table.{Row, inRange, freedRow, markRow, raisedRow, redeliverRow, unmarkRow, flownRow}
-use Rattle.table.proofs.Rows.{word-kept}
-
-below : {j k : ℕ} → j < k → j ≡ k → ⊥
-below h e = omega arith
-
-above : {j k : ℕ} → k < j → j ≡ k → ⊥
-above h e = omega arith
+use Rattle.table.specs.Table.{dseqBetween, freedRow, markRow, raisedRow, redeliverRow, unmarkRow, flownRow}
+use Rattle.table.proofs.Rows.{word-kept, below, above}
 
 -- a row of an entry is strict, in whatever place
 pub row-strict : (e : Entry) (a b c : ℕ) → SFits w32 (e .redelivery) → entryStrict (rowOf e a b c) ≡ true
@@ -89,14 +83,14 @@ raised-strict w s =
 
 -- where a test picks the rows
 pub mark-strict : (first last : ℕ) (tx : Bool) (w : Row) → flyingStrict w ≡ true → flyingStrict (markRow first last tx w) ≡ true
-mark-strict first last tx w s = by (inRange first last w)
+mark-strict first last tx w s = by (dseqBetween first last w)
   where
     by : (b : Bool) → flyingStrict (if b then freedRow tx w else w) ≡ true
     by true = freed-strict tx w s
     by false = s
 
 pub redeliver-strict : (first last : ℕ) (w : Row) → flyingStrict w ≡ true → flyingStrict (redeliverRow first last w) ≡ true
-redeliver-strict first last w s = by (inRange first last w)
+redeliver-strict first last w s = by (dseqBetween first last w)
   where
     by : (b : Bool) → flyingStrict (if b then raisedRow w else w) ≡ true
     by true = raised-strict w s

@@ -1,5 +1,6 @@
 -- The table of rows: the used rows stand at the front, in one order. What each function of the table leaves, as lists of rows.
--- Outside its bounds a function changes nothing. Assumes nothing.
+-- Outside its bounds a function changes nothing. A row is ten words: 0 the sequence number, 5 redelivery, 6 the delivery number, 7 freed (0 is no),
+-- 8 acknowledged in a transaction, 9 the size. Assumes nothing.
 use mathlib.Core.Bool.{Bool, false, not, _&&_}
 use mathlib.Core.List.{List, [], _∷_, _++_, map}
 use Prim.Native.Nat.{ℕ, suc, _+_, _-_}
@@ -7,23 +8,20 @@ use lib.Dec.{leb, eqb}
 use lib.ListN.{length, take, drop, getD, set}
 use lib.Seq.{slice}
 use Rattle.words.specs.Words.{signed, unsigned, int}
-use Rattle.entry.specs.Entry.{expired, oneMore, entryOf}
+use Rattle.entry.specs.Entry.{oneMore, entryOf}
 use Rattle.definition.specs.Base.{if_then_else_, keep, tally, member}
-use Rattle.table.specs.declared.Found.{Found}
-use Rattle.table.specs.declared.Found.the-variants.{At, Nothing}
+use Rattle.definition.specs.Layout.{Row}
+use Rattle.entry.specs.declared.Found.{Found}
+use Rattle.entry.specs.declared.Found.the-variants.{At, Nothing}
 use Rattle.table.specs.declared.Removed.{Removed}
-
--- ten words: 0 the sequence number, 5 redelivery, 6 the delivery number, 7 freed (0 is no), 8 acknowledged in a transaction, 9 the size
-abbrev pub Row : Type 0
-Row = List ℕ
 
 -- from ≤ to ≤ n
 abbrev pub inside : ℕ → ℕ → ℕ → Bool
 inside from to n = leb from to && leb to n
 
 -- at ≤ n, and k more fit
-abbrev pub room : ℕ → ℕ → ℕ → ℕ → Bool
-room at n k most = leb at n && leb (n + k) most
+abbrev pub gapRoom : ℕ → ℕ → ℕ → ℕ → Bool
+gapRoom at n k most = leb at n && leb (n + k) most
 
 -- rows at..at+k of the first n are gone; the last k of the n places keep what they held
 unfoldable pub closed : ℕ → ℕ → ℕ → List Row → List Row
@@ -33,18 +31,18 @@ unfoldable pub closeGap : ℕ → ℕ → ℕ → List Row → List Row
 closeGap at k n rs = if inside (at + k) n (length rs) then closed at k n rs else rs
 
 -- a row is put in at place at of the first n
-unfoldable pub opened : ℕ → ℕ → Row → List Row → List Row
-opened at n row rs = take at rs ++ row ∷ (slice at n rs ++ drop (suc n) rs)
+unfoldable pub rowOpened : ℕ → ℕ → Row → List Row → List Row
+rowOpened at n row rs = take at rs ++ row ∷ (slice at n rs ++ drop (suc n) rs)
 
 unfoldable pub insertRow : ℕ → ℕ → Row → List Row → List Row
-insertRow at n row rs = if room at n 1 (length rs) then opened at n row rs else rs
+insertRow at n row rs = if gapRoom at n 1 (length rs) then rowOpened at n row rs else rs
 
 -- the first n rows from at on stand k places further up; rows at..at+k keep what they held
 unfoldable pub lifted : ℕ → ℕ → ℕ → List Row → List Row
 lifted at k n rs = take (at + k) rs ++ (slice at n rs ++ drop (n + k) rs)
 
 unfoldable pub openGap : ℕ → ℕ → ℕ → List Row → List Row
-openGap at k n rs = if room at n k (length rs) then lifted at k n rs else rs
+openGap at k n rs = if gapRoom at n k (length rs) then lifted at k n rs else rs
 
 -- the first of the rows with that sequence number; the first of the rows stands at i
 unfoldable pub findFrom : ℕ → ℕ → List Row → Found
@@ -72,18 +70,14 @@ placeOf from to seq rs = if inside from to (length rs) then placeFrom from seq (
 -- ---- rows of a segment, by a test and by a change of a row
 
 -- a delivery number from first to last, both included
-abbrev pub inRange : ℕ → ℕ → Row → Bool
-inRange first last r = leb first (getD r 6 0) && leb (getD r 6 0) last
+abbrev pub dseqBetween : ℕ → ℕ → Row → Bool
+dseqBetween first last r = leb first (getD r 6 0) && leb (getD r 6 0) last
 
 abbrev pub isFreed : Row → Bool
 isFreed r = not (eqb (getD r 7 0) 0)
 
 abbrev pub hasSeq : ℕ → Row → Bool
 hasSeq seq r = eqb (getD r 0 0) seq
-
--- expired by the clock that a word holds
-abbrev pub expiredRow : ℕ → Row → Bool
-expiredRow clock r = expired (signed clock) (entryOf r)
 
 -- how many rows of from..to pass a test
 unfoldable pub countRows : (Row → Bool) → ℕ → ℕ → List Row → ℕ
@@ -101,14 +95,14 @@ abbrev pub freedRow : Bool → Row → Row
 freedRow tx r = if tx then set (set r 7 1) 8 1 else set r 7 1
 
 abbrev pub markRow : ℕ → ℕ → Bool → Row → Row
-markRow first last tx r = if inRange first last r then freedRow tx r else r
+markRow first last tx r = if dseqBetween first last r then freedRow tx r else r
 
 -- redelivery.saturating_add(1)
 abbrev pub raisedRow : Row → Row
 raisedRow r = set r 5 (unsigned (oneMore (int (getD r 5 0))))
 
 abbrev pub redeliverRow : ℕ → ℕ → Row → Row
-redeliverRow first last r = if inRange first last r then raisedRow r else r
+redeliverRow first last r = if dseqBetween first last r then raisedRow r else r
 
 abbrev pub unmarkRow : Row → Row
 unmarkRow r = set r 8 0
@@ -118,24 +112,24 @@ abbrev pub flownRow : ℕ → Row → Row
 flownRow dseq r = set (set (set r 6 dseq) 7 0) 8 0
 
 -- the rows of from..to that pass a test are gone from the first n; the last of the n places keep what they held
-unfoldable pub removed : (Row → Bool) → ℕ → ℕ → ℕ → List Row → List Row
-removed p from to n rs = take from rs ++ (keep (λ r. not (p r)) (slice from to rs) ++ (slice to n rs ++ drop (n - tally p (slice from to rs)) rs))
+unfoldable pub rowsRemoved : (Row → Bool) → ℕ → ℕ → ℕ → List Row → List Row
+rowsRemoved p from to n rs = take from rs ++ (keep (λ r. not (p r)) (slice from to rs) ++ (slice to n rs ++ drop (n - tally p (slice from to rs)) rs))
 
 -- from ≤ to ≤ n ≤ most
-abbrev pub within : ℕ → ℕ → ℕ → ℕ → Bool
-within from to n most = inside from to n && leb n most
+abbrev pub segmentOf : ℕ → ℕ → ℕ → ℕ → Bool
+segmentOf from to n most = inside from to n && leb n most
 
 unfoldable pub removeRows : (Row → Bool) → ℕ → ℕ → ℕ → List Row → List Row
-removeRows p from to n rs = if within from to n (length rs) then removed p from to n rs else rs
+removeRows p from to n rs = if segmentOf from to n (length rs) then rowsRemoved p from to n rs else rs
 
 -- how many of them there were
 unfoldable pub removedRows : (Row → Bool) → ℕ → ℕ → ℕ → List Row → ℕ
-removedRows p from to n rs = if within from to n (length rs) then tally p (slice from to rs) else 0
+removedRows p from to n rs = if segmentOf from to n (length rs) then tally p (slice from to rs) else 0
 
 abbrev pub removedRange : ℕ → ℕ → ℕ → ℕ → ℕ → List Row → Removed
 removedRange first last from to n rs = record {
-  rows = removedRows (inRange first last) from to n rs;
-  freed = removedRows (λ r. inRange first last r && isFreed r) from to n rs;
+  rows = removedRows (dseqBetween first last) from to n rs;
+  freed = removedRows (λ r. dseqBetween first last r && isFreed r) from to n rs;
 }
 
 -- the rows of from..to that fail a test, moved together

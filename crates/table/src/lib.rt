@@ -2,22 +2,19 @@
 ghost use mathlib.Core.Path.{_≡_};
 ghost use mathlib.Core.Bool.{not, _&&_};
 ghost use Prim.Native.Nat.{_-_, _≤_};
-ghost use lib.Dec.{leb, eqb};
-ghost use lib.ListN.{length, getD};
+ghost use lib.Dec.{leb};
+ghost use lib.ListN.{length};
 ghost use lib.Seq.{slice};
+ghost use Rattle.entry.specs.Entry.{expiredRow};
 ghost use Rattle.definition.specs.Base.{if_then_else_, tally};
 ghost use Rattle.table.specs.Table.{closed, closeGap, insertRow, lifted, openGap, findSeq, hasSeqIn, placeFrom, placeOf};
-ghost use Rattle.table.specs.Table.{inRange, isFreed, hasSeq, countRows, mapRows, freedRow, markRow, raisedRow, redeliverRow, unmarkRow, flownRow};
-ghost use Rattle.table.specs.Table.{expiredRow, compacted, removeRows, removedRows, removedRange};
+ghost use Rattle.table.specs.Table.{dseqBetween, isFreed, hasSeq, countRows, mapRows, freedRow, markRow, raisedRow, redeliverRow, unmarkRow, flownRow};
+ghost use Rattle.table.specs.Table.{compacted, removeRows, removedRows, removedRange};
 use entry::DSEQ;
 use entry::FREED;
+use entry::Found;
 use entry::Row;
 use entry::TX;
-
-pub enum Found {
-    At(usize),
-    Nothing,
-}
 
 // Rows at..at+k are removed from the n used ones. What stands past the n - k that are left is what stood there.
 pub fn close_gap(rows: &mut [Row], at: usize, k: usize, n: usize)
@@ -281,7 +278,7 @@ pub fn flown(row: Row, dseq: u64) -> Row
 
 // How many of rows[from..to] have a delivery number from first to last.
 pub fn count_range(rows: &[Row], from: usize, to: usize, first: u64, last: u64) -> usize
-    ensures { λ r. ⌜ r ≡ countRows (inRange first last) from to (now (rows .entry)) ⌝ }
+    ensures { λ r. ⌜ r ≡ countRows (dseqBetween first last) from to (now (rows .entry)) ⌝ }
 {
     if rows.len() < to {
         return 0;
@@ -308,7 +305,7 @@ pub fn mark_range(
     last: u64,
     tx: bool,
 ) -> usize
-    ensures { λ r. ⌜ r ≡ countRows (λ w. inRange first last w && not (isFreed w)) from to (now (rows .entry)) ⌝ }
+    ensures { λ r. ⌜ r ≡ countRows (λ w. dseqBetween first last w && not (isFreed w)) from to (now (rows .entry)) ⌝ }
     ensures { λ _. ⌜ now (rows .exit) ≡ mapRows (markRow first last tx) from to (now (rows .entry)) ⌝ }
 {
     if rows.len() < to {
@@ -376,9 +373,9 @@ pub fn unmark(rows: &mut [Row], from: usize, to: usize)
 // Moves together the rows of from..to whose delivery number is not from first to last.
 fn compact_range(rows: &mut [Row], from: usize, to: usize, first: u64, last: u64) -> Removed
     requires { ⌜ (from ≤ to) × (to ≤ length (now rows)) ⌝ }
-    ensures { λ r. ⌜ r .rows ≡ tally (inRange first last) (slice from to (now (rows .entry))) ⌝ }
-    ensures { λ r. ⌜ r .freed ≡ tally (λ w. inRange first last w && isFreed w) (slice from to (now (rows .entry))) ⌝ }
-    ensures { λ _. ⌜ now (rows .exit) ≡ compacted (inRange first last) from to (now (rows .entry)) ⌝ }
+    ensures { λ r. ⌜ r .rows ≡ tally (dseqBetween first last) (slice from to (now (rows .entry))) ⌝ }
+    ensures { λ r. ⌜ r .freed ≡ tally (λ w. dseqBetween first last w && isFreed w) (slice from to (now (rows .entry))) ⌝ }
+    ensures { λ _. ⌜ now (rows .exit) ≡ compacted (dseqBetween first last) from to (now (rows .entry)) ⌝ }
 {
     let mut gone = 0;
     let mut freed = 0;
@@ -451,7 +448,7 @@ pub fn remove_range(
     last: u64,
 ) -> Removed
     ensures { λ r. ⌜ r ≡ removedRange first last from to n (now (rows .entry)) ⌝ }
-    ensures { λ _. ⌜ now (rows .exit) ≡ removeRows (inRange first last) from to n (now (rows .entry)) ⌝ }
+    ensures { λ _. ⌜ now (rows .exit) ≡ removeRows (dseqBetween first last) from to n (now (rows .entry)) ⌝ }
 {
     if rows.len() < n {
         return Removed { rows: 0, freed: 0 };

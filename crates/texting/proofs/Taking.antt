@@ -16,8 +16,8 @@ use Rattle.callblocks.specs.Packed.{withCall, sealed}
 use Rattle.calltext.specs.declared.Parsed.{Parsed}
 use Rattle.calltext.specs.Lines.{lineCall}
 use Rattle.texting.specs.declared.Filled.{Filled}
-use Rattle.texting.specs.Lines.{linesOf, kindOf, isBad}
-use Rattle.texting.specs.Parts.{after, Filling, filling, withParsed, countParsed, fillFrom, begun, ended, sealing, Fills, badAt, firstBad}
+use Rattle.texting.specs.Lines.{linesOf, textLineKind, isBad}
+use Rattle.texting.specs.Parts.{afterLine, Filling, filling, withParsed, countParsed, fillFrom, begun, ended, sealing, Fills, badAt, firstBad}
 
 -- ---- lines
 
@@ -33,7 +33,7 @@ pub record Taken (t : List ℕ) (at e : ℕ) : Type 0 where
   pub more : at ≤ e
   pub within : e ≤ length t
   pub lines : linesOf (drop at t) ≡ take (e - at) (drop at t) ∷ linesOf (drop (e + 1) t)
-  pub next : after at (take (e - at) (drop at t)) ≡ e + 1
+  pub next : afterLine at (take (e - at) (drop at t)) ≡ e + 1
 
 pub taken : (t : List ℕ) (at e : ℕ) → at < length t → e ≡ at + run LineEnd (drop at t) → Taken t at e
 taken t at e h s =
@@ -86,7 +86,7 @@ module _ (block : List ℕ) (k at : ℕ) where
     unfolding fillFrom
     fill-full h = rw (le-leb 7 k (omega arith))
 
-    pub fill-line : k ≤ 6 → fillFrom block k at (l ∷ ls) ≡ fillFrom (withParsed k (lineCall l) block) (countParsed k (lineCall l)) (after at l) ls
+    pub fill-line : k ≤ 6 → fillFrom block k at (l ∷ ls) ≡ fillFrom (withParsed k (lineCall l) block) (countParsed k (lineCall l)) (afterLine at l) ls
     unfolding fillFrom
     fill-line h = rw (lt-leb 7 k (omega arith))
 
@@ -126,19 +126,19 @@ module _ (n at : ℕ) where
   bad-none = refl
 
   module _ (l : List ℕ) (ls : List (List ℕ)) where
-    pub bad-here : 1 < kindOf l → firstBad n at (l ∷ ls) ≡ badAt (kindOf l) n (after at l)
+    pub bad-here : 1 < textLineKind l → firstBad n at (l ∷ ls) ≡ badAt (textLineKind l) n (afterLine at l)
     unfolding firstBad
-    bad-here h = rw (lt-ltb 1 (kindOf l) h)
+    bad-here h = rw (lt-ltb 1 (textLineKind l) h)
 
-    pub bad-later : kindOf l ≤ 1 → firstBad n at (l ∷ ls) ≡ firstBad (more n) (after at l) ls
+    pub bad-later : textLineKind l ≤ 1 → firstBad n at (l ∷ ls) ≡ firstBad (more n) (afterLine at l) ls
     unfolding firstBad
-    bad-later h = rw (le-ltb 1 (kindOf l) h)
+    bad-later h = rw (le-ltb 1 (textLineKind l) h)
 
-module _ (n at : ℕ) (t : List ℕ) {e kind : ℕ} (w : Taken t at e) (q : kind ≡ kindOf (take (e - at) (drop at t))) where
+module _ (n at : ℕ) (t : List ℕ) {e kind : ℕ} (w : Taken t at e) (q : kind ≡ textLineKind (take (e - at) (drop at t))) where
   pub bad-found : 1 < kind → badAt kind n (e + 1) ≡ firstBad n at (linesOf (drop at t))
   bad-found h =
       let l = take (e - at) (drop at t) in
-      let f : badAt kind n (e + 1) ≡ badAt (kindOf l) n (after at l) = λ i. badAt (q i) n (sym (w .next) i) in
+      let f : badAt kind n (e + 1) ≡ badAt (textLineKind l) n (afterLine at l) = λ i. badAt (q i) n (sym (w .next) i) in
       rw (w .lines) (f ∙ sym (bad-here n at l (linesOf (drop (e + 1) t)) (omega arith)))
 
   pub bad-passed : kind ≤ 1 → firstBad (more n) (e + 1) (linesOf (drop (e + 1) t)) ≡ firstBad n at (linesOf (drop at t))
@@ -152,11 +152,11 @@ module _ (n at : ℕ) (t : List ℕ) {e kind : ℕ} (w : Taken t at e) (q : kind
 bad-forward : (n at : ℕ) (ls : List (List ℕ)) → at ≤ firstBad n at ls .at
 unfolding firstBad
 bad-forward n at [] = omega arith
-bad-forward n at (l ∷ ls) = by-test (isBad l) (λ t. rw t (omega arith)) (λ t. rw t (omega (arith, bad-forward (more n) (after at l) ls)))
+bad-forward n at (l ∷ ls) = by-test (isBad l) (λ t. rw t (omega arith)) (λ t. rw t (omega (arith, bad-forward (more n) (afterLine at l) ls)))
 
 bad-over : (n at : ℕ) (l : List ℕ) (ls : List (List ℕ)) → at < firstBad n at (l ∷ ls) .at
 unfolding firstBad
-bad-over n at l ls = by-test (isBad l) (λ t. rw t (omega arith)) (λ t. rw t (omega (arith, bad-forward (more n) (after at l) ls)))
+bad-over n at l ls = by-test (isBad l) (λ t. rw t (omega arith)) (λ t. rw t (omega (arith, bad-forward (more n) (afterLine at l) ls)))
 
 pub bad-farther : (n at : ℕ) (t : List ℕ) → at < length t → at < firstBad n at (linesOf (drop at t)) .at
 bad-farther n at t h = let w = taken t at (at + run LineEnd (drop at t)) h refl in rw (w .lines) (bad-over n at _ _)
@@ -164,10 +164,10 @@ bad-farther n at t h = let w = taken t at (at + run LineEnd (drop at t)) h refl 
 fill-forward : (block : List ℕ) (k at : ℕ) (ls : List (List ℕ)) → at ≤ fillFrom block k at ls .at
 unfolding fillFrom
 fill-forward block k at [] = omega arith
-fill-forward block k at (l ∷ ls) = by-test (leb 7 k) (λ t. rw t (omega arith)) (λ t. rw t (omega (arith, fill-forward (withParsed k (lineCall l) block) (countParsed k (lineCall l)) (after at l) ls)))
+fill-forward block k at (l ∷ ls) = by-test (leb 7 k) (λ t. rw t (omega arith)) (λ t. rw t (omega (arith, fill-forward (withParsed k (lineCall l) block) (countParsed k (lineCall l)) (afterLine at l) ls)))
 
 fill-over : (block : List ℕ) (k at : ℕ) (l : List ℕ) (ls : List (List ℕ)) → k ≤ 6 → at < fillFrom block k at (l ∷ ls) .at
-fill-over block k at l ls h = rw (fill-line block k at l ls h) (omega (arith, fill-forward (withParsed k (lineCall l) block) (countParsed k (lineCall l)) (after at l) ls))
+fill-over block k at l ls h = rw (fill-line block k at l ls h) (omega (arith, fill-forward (withParsed k (lineCall l) block) (countParsed k (lineCall l)) (afterLine at l) ls))
 
 pub fill-farther : (block : List ℕ) (k at : ℕ) (t : List ℕ) → k ≤ 6 → at < length t → at < fillFrom block k at (linesOf (drop at t)) .at
 fill-farther block k at t g h = let w = taken t at (at + run LineEnd (drop at t)) h refl in rw (w .lines) (fill-over block k at _ _ g)

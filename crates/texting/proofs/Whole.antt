@@ -13,8 +13,8 @@ use Rattle.callblocks.specs.Packed.{sealed}
 use Rattle.textwords.specs.declared.Stop.the-variants.{LineEnd}
 use Rattle.textwords.specs.Text.{onto, run}
 use Rattle.calltext.specs.Lines.{lineCall}
-use Rattle.texting.specs.Lines.{linesOf, kindOf, isCall, isBad, callsOf, message, messages}
-use Rattle.texting.specs.Parts.{after, withParsed, countParsed, fillFrom, firstBad, said, nextLine}
+use Rattle.texting.specs.Lines.{linesOf, textLineKind, isCall, isBad, lineCalls, message, messages}
+use Rattle.texting.specs.Parts.{afterLine, withParsed, countParsed, fillFrom, firstBad, said, nextLine}
 use Rattle.texting.specs.Whole.{empty, blocks}
 use Rattle.texting.proofs.Taking.{first, taken, lines-end}
 
@@ -36,7 +36,7 @@ lines-parts (x ∷ a) b = by-test (eqb x 10)
     (λ t. rw t (ap (onto x) (lines-parts a b) ∙ onto-more x (linesOf (a ++ (10 ∷ []))) (linesOf b) (lines-some (a ++ (10 ∷ [])) (omega (arith, length-append a (10 ∷ []))))))
 
 -- the lines after the first one stand after it
-lines-tail : (t : List ℕ) (at : ℕ) (l : List ℕ) (ls : List (List ℕ)) → (l ∷ ls) ≡ linesOf (drop at t) → ls ≡ linesOf (drop (after at l) t)
+lines-tail : (t : List ℕ) (at : ℕ) (l : List ℕ) (ls : List (List ℕ)) → (l ∷ ls) ≡ linesOf (drop at t) → ls ≡ linesOf (drop (afterLine at l) t)
 lines-tail t at l ls e = by-test (ltb at (length t))
     (λ h.
     let to = at + run LineEnd (drop at t) in
@@ -45,7 +45,7 @@ lines-tail t at l ls e = by-test (ltb at (length t))
     let p : (l ∷ ls) ≡ m ∷ linesOf (drop (to + 1) t) = e ∙ w .lines in
     let a : l ≡ m = cc in
     let b : ls ≡ linesOf (drop (to + 1) t) = cc in
-    b ∙ ap (λ (n : ℕ). linesOf (drop n t)) (sym (ap (after at) a ∙ w .next)))
+    b ∙ ap (λ (n : ℕ). linesOf (drop n t)) (sym (ap (afterLine at) a ∙ w .next)))
     (λ h.
     let p : (l ∷ ls) ≡ [] = e ∙ lines-end t at (ltb-false at (length t) h) in
     let z : _≡_ {A = ℕ} 0 1 = cc in
@@ -60,24 +60,24 @@ full-file block [] = sym (append-nil (sealed 7 block))
 full-file block (c ∷ cs) = refl
 
 -- filling a block leaves the file that comes out, also with more lines behind those of the text
-fill-lines : (ls ms : List (List ℕ)) (block : List ℕ) (k at : ℕ) → blocks block k (callsOf (ls ++ ms)) ≡ blocks (fillFrom block k at ls .block) (fillFrom block k at ls .count) (callsOf (fillFrom block k at ls .rest ++ ms))
-unfolding fillFrom blocks callsOf
+fill-lines : (ls ms : List (List ℕ)) (block : List ℕ) (k at : ℕ) → blocks block k (lineCalls (ls ++ ms)) ≡ blocks (fillFrom block k at ls .block) (fillFrom block k at ls .count) (lineCalls (fillFrom block k at ls .rest ++ ms))
+unfolding fillFrom blocks lineCalls
 fill-lines [] ms block k at = refl
 fill-lines (l ∷ ls) ms block k at = by-test (leb 7 k) (λ t. rw t) (λ t. rw t (by-test (isCall l)
-    (λ c. rw (c, t) (fill-lines ls ms _ _ (after at l)))
-    (λ c. rw c (fill-lines ls ms block k (after at l)))))
+    (λ c. rw (c, t) (fill-lines ls ms _ _ (afterLine at l)))
+    (λ c. rw c (fill-lines ls ms block k (afterLine at l)))))
 
 -- the lines that are left stand where the filling ended
 fill-rest : (ls : List (List ℕ)) (block : List ℕ) (k at : ℕ) (t : List ℕ) → ls ≡ linesOf (drop at t) → fillFrom block k at ls .rest ≡ linesOf (drop (fillFrom block k at ls .at) t)
 unfolding fillFrom
 fill-rest [] block k at t e = e
-fill-rest (l ∷ ls) block k at t e = by-test (leb 7 k) (λ h. rw h e) (λ h. rw h (fill-rest ls (withParsed k (lineCall l) block) (countParsed k (lineCall l)) (after at l) t (lines-tail t at l ls e)))
+fill-rest (l ∷ ls) block k at t e = by-test (leb 7 k) (λ h. rw h e) (λ h. rw h (fill-rest ls (withParsed k (lineCall l) block) (countParsed k (lineCall l)) (afterLine at l) t (lines-tail t at l ls e)))
 
 -- `fill`, as a step of the whole file
-pub fill-file : (t : List ℕ) (ms : List (List ℕ)) (block : List ℕ) (k at : ℕ) → let f = fillFrom block k at (linesOf (drop at t)) in blocks block k (callsOf (linesOf (drop at t) ++ ms)) ≡ blocks (f .block) (f .count) (callsOf (linesOf (drop (f .at) t) ++ ms))
+pub fill-file : (t : List ℕ) (ms : List (List ℕ)) (block : List ℕ) (k at : ℕ) → let f = fillFrom block k at (linesOf (drop at t)) in blocks block k (lineCalls (linesOf (drop at t) ++ ms)) ≡ blocks (f .block) (f .count) (lineCalls (linesOf (drop (f .at) t) ++ ms))
 fill-file t ms block k at =
     let f = fillFrom block k at (linesOf (drop at t)) in
-    fill-lines (linesOf (drop at t)) ms block k at ∙ ap (λ (ls : List (List ℕ)). blocks (f .block) (f .count) (callsOf (ls ++ ms))) (fill-rest (linesOf (drop at t)) block k at t refl)
+    fill-lines (linesOf (drop at t)) ms block k at ∙ ap (λ (ls : List (List ℕ)). blocks (f .block) (f .count) (lineCalls (ls ++ ms))) (fill-rest (linesOf (drop at t)) block k at t refl)
 
 -- it stops before the block is full only where the text ends
 pub fill-open : (ls : List (List ℕ)) (block : List ℕ) (k at : ℕ) → fillFrom block k at ls .count ≤ 6 → fillFrom block k at ls .rest ≡ []
@@ -85,7 +85,7 @@ unfolding fillFrom
 fill-open [] block k at h = refl
 fill-open (l ∷ ls) block k at h = by-test (leb 7 k)
     (λ t. let g : k ≤ 6 = rw t at h in absurd (omega (arith, leb-true 7 k t)))
-    (λ t. rw t (fill-open ls (withParsed k (lineCall l) block) (countParsed k (lineCall l)) (after at l) (rw t at h)))
+    (λ t. rw t (fill-open ls (withParsed k (lineCall l) block) (countParsed k (lineCall l)) (afterLine at l) (rw t at h)))
 
 -- ---- messages
 
@@ -96,9 +96,9 @@ bad-lines (l ∷ ls) ms n at t e =
     let r = lines-tail t at l ls e in
     by-test (isBad l)
     (λ b.
-    let z : kindOf l ≡ 0 → ⊥ = λ z. omega (arith, ltb-true 1 (kindOf l) b) in
-    rw (b, ne-eqb (kindOf l) 0 z) (ap (λ (ls : List (List ℕ)). message n (kindOf l) ++ messages (more n) (ls ++ ms)) r))
-    (λ b. rw b (bad-lines ls ms (more n) (after at l) t r))
+    let z : textLineKind l ≡ 0 → ⊥ = λ z. omega (arith, ltb-true 1 (textLineKind l) b) in
+    rw (b, ne-eqb (textLineKind l) 0 z) (ap (λ (ls : List (List ℕ)). message n (textLineKind l) ++ messages (more n) (ls ++ ms)) r))
+    (λ b. rw b (bad-lines ls ms (more n) (afterLine at l) t r))
 
 -- `first_bad`, as a step of the whole messages
 pub bad-messages : (t : List ℕ) (ms : List (List ℕ)) (n at : ℕ) → let b = firstBad n at (linesOf (drop at t)) in messages n (linesOf (drop at t) ++ ms) ≡ said b ++ messages (nextLine b) (linesOf (drop (b .at) t) ++ ms)

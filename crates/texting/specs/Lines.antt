@@ -16,19 +16,19 @@ linesOf [] = []
 linesOf (b ∷ bs) = if eqb b 10 then [] ∷ linesOf bs else onto b (linesOf bs)
 
 -- what a line is: 0 a call, 1 empty, from 2 on a bad one
-abbrev pub kindOf : List ℕ → ℕ
-kindOf line = lineCall line .kind
+abbrev pub textLineKind : List ℕ → ℕ
+textLineKind line = lineCall line .kind
 
 abbrev pub isCall : List ℕ → Bool
-isCall line = eqb (kindOf line) 0
+isCall line = eqb (textLineKind line) 0
 
 abbrev pub isBad : List ℕ → Bool
-isBad line = ltb 1 (kindOf line)
+isBad line = ltb 1 (textLineKind line)
 
 -- the calls of some lines
-unfoldable pub callsOf : List (List ℕ) → List Call
-callsOf [] = []
-callsOf (l ∷ ls) = if isCall l then lineCall l .call ∷ callsOf ls else callsOf ls
+unfoldable pub lineCalls : List (List ℕ) → List Call
+lineCalls [] = []
+lineCalls (l ∷ ls) = if isCall l then lineCall l .call ∷ lineCalls ls else lineCalls ls
 
 -- `: unknown call`, `: not a number of 64 bits`, `: more than eight arguments`, each with the end of a line
 abbrev pub unknownCall : List ℕ
@@ -50,4 +50,4 @@ message n kind = 108 ∷ 105 ∷ 110 ∷ 101 ∷ (field n ++ complaint kind)
 -- the messages of the bad lines, the first line having the number n; lines are counted up to 2^64 - 1
 unfoldable pub messages : ℕ → List (List ℕ) → List ℕ
 messages n [] = []
-messages n (l ∷ ls) = if isBad l then message n (kindOf l) ++ messages (more n) ls else messages (more n) ls
+messages n (l ∷ ls) = if isBad l then message n (textLineKind l) ++ messages (more n) ls else messages (more n) ls

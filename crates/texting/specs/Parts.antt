@@ -11,11 +11,11 @@ use Rattle.calltext.specs.declared.Parsed.{Parsed}
 use Rattle.calltext.specs.Lines.{lineCall}
 use Rattle.texting.specs.declared.Bad.{Bad}
 use Rattle.texting.specs.declared.Filled.{Filled}
-use Rattle.texting.specs.Lines.{kindOf, isBad, message}
+use Rattle.texting.specs.Lines.{textLineKind, isBad, message}
 
 -- the place after a line and its end
-abbrev pub after : ℕ → List ℕ → ℕ
-after at line = at + suc (length line)
+abbrev pub afterLine : ℕ → List ℕ → ℕ
+afterLine at line = at + suc (length line)
 
 -- a block under construction, how many calls it has, the place in the text, and the lines from there on
 pub record Filling : Type 0 where
@@ -37,7 +37,7 @@ countParsed k p = if eqb (p .kind) 0 then k + 1 else k
 -- so do the calls of lines, until it has seven
 unfoldable pub fillFrom : List ℕ → ℕ → ℕ → List (List ℕ) → Filling
 fillFrom block k at [] = filling block k at []
-fillFrom block k at (l ∷ ls) = if leb 7 k then filling block k at (l ∷ ls) else fillFrom (withParsed k (lineCall l) block) (countParsed k (lineCall l)) (after at l) ls
+fillFrom block k at (l ∷ ls) = if leb 7 k then filling block k at (l ∷ ls) else fillFrom (withParsed k (lineCall l) block) (countParsed k (lineCall l)) (afterLine at l) ls
 
 -- a block without calls begins with zeros, and one with seven is sealed
 abbrev pub begun : ℕ → List ℕ → List ℕ
@@ -62,7 +62,7 @@ badAt kind n at = record { kind = kind; line = n; at = at }
 -- the first bad line; without one the kind is 0, and the number that of the line after the last
 unfoldable pub firstBad : ℕ → ℕ → List (List ℕ) → Bad
 firstBad n at [] = badAt 0 n at
-firstBad n at (l ∷ ls) = if isBad l then badAt (kindOf l) n (after at l) else firstBad (more n) (after at l) ls
+firstBad n at (l ∷ ls) = if isBad l then badAt (textLineKind l) n (afterLine at l) else firstBad (more n) (afterLine at l) ls
 
 -- what is said of it, and the number of the line after it
 abbrev pub said : Bad → List ℕ

@@ -6,7 +6,7 @@ use lib.ListN.{length, replicate}
 use Rattle.words.specs.Pick.{if_then_else_}
 use Rattle.calls.specs.declared.Call.{Call}
 use Rattle.callblocks.specs.Packed.{withCall, sealed}
-use Rattle.texting.specs.Lines.{linesOf, callsOf, messages}
+use Rattle.texting.specs.Lines.{linesOf, lineCalls, messages}
 
 abbrev pub empty : List ℕ
 empty = replicate 512 0
@@ -26,4 +26,4 @@ badText = 98 ∷ 97 ∷ 100 ∷ 32 ∷ 116 ∷ 101 ∷ 120 ∷ 116 ∷ 10 ∷ []
 
 -- the call file of a text; where a line is bad, no block
 unfoldable pub fileOf : List ℕ → List ℕ
-fileOf text = if eqb (length (messagesOf text)) 0 then blocks empty 0 (callsOf (linesOf text)) else badText
+fileOf text = if eqb (length (messagesOf text)) 0 then blocks empty 0 (lineCalls (linesOf text)) else badText

@@ -1,12 +1,11 @@
 // The text of a call file to blocks, and a block to text, in lent buffers.
 ghost use mathlib.Core.Path.{_≡_};
-ghost use mathlib.Core.List.{[], _∷_};
 ghost use Prim.Native.Nat.{_+_, _<_, _≤_};
 ghost use lib.ListN.{length, drop, replicate};
-ghost use Rattle.callfile.specs.Placed.{Puts};
+ghost use Rattle.callfile.specs.Placed.{Puts, PutLine};
 ghost use Rattle.texting.specs.Lines.{linesOf, complaint, message};
 ghost use Rattle.texting.specs.Parts.{withParsed, countParsed, fillFrom, begun, ended, sealing, Fills, firstBad};
-ghost use Rattle.texting.specs.Shown.{callTexts, blockText, Front};
+ghost use Rattle.texting.specs.Shown.{callTexts, blockText};
 use calltext::Parsed;
 use textwords::Stop;
 
@@ -127,37 +126,15 @@ pub fn first_bad(text: &[u8], from: usize, line: u64) -> Bad
     }
 }
 
-fn put(out: &mut [u8], at: usize, b: u8) -> usize
-    requires { do ⌜ at < (← ⟦out.len()⟧) ⌝ }
-    ensures { λ r. ⌜ Puts (b ∷ []) at (now (out .entry)) r (now (out .exit)) ⌝ }
-{
-    out[at] = b;
-    at + 1
-}
-
-// Bytes, one after the other.
-fn put_all(out: &mut [u8], at: usize, part: &[u8]) -> usize
-    requires { ⌜ at + length (now part) ≤ length (now out) ⌝ }
-    ensures { λ r. ⌜ Puts (now (part .entry)) at (now (out .entry)) r (now (out .exit)) ⌝ }
-{
-    let mut next = at;
-    let mut i = 0;
-    while i < part.len() {
-        next = put(out, next, part[i]);
-        i += 1;
-    }
-    next
-}
-
 // What is wrong with a line.
 fn put_complaint(out: &mut [u8], at: usize, kind: u64) -> usize
     requires { ⌜ at + 28 ≤ length (now out) ⌝ }
     ensures { λ r. ⌜ Puts (complaint kind) at (now (out .entry)) r (now (out .exit)) × (r ≤ at + 28) ⌝ }
 {
     match kind {
-        calltext::UNKNOWN => put_all(out, at, b": unknown call\n"),
-        calltext::NO_NUMBER => put_all(out, at, b": not a number of 64 bits\n"),
-        _ => put_all(out, at, b": more than eight arguments\n"),
+        calltext::UNKNOWN => callfile::put_all(out, at, b": unknown call\n"),
+        calltext::NO_NUMBER => callfile::put_all(out, at, b": not a number of 64 bits\n"),
+        _ => callfile::put_all(out, at, b": more than eight arguments\n"),
     }
 }
 
@@ -165,14 +142,14 @@ fn message_text(out: &mut [u8], line: u64, kind: u64) -> usize
     requires { ⌜ 192 ≤ length (now out) ⌝ }
     ensures { λ r. ⌜ Puts (message line kind) 0 (now (out .entry)) r (now (out .exit)) × (r ≤ 192) ⌝ }
 {
-    let a = put_all(out, 0, b"line");
+    let a = callfile::put_all(out, 0, b"line");
     let b = callfile::put_word(out, a, line, false);
     put_complaint(out, b, kind)
 }
 
 // The message of a bad line. Without room for 192 bytes, nothing is put.
 pub fn put_message(out: &mut [u8], line: u64, kind: u64) -> usize
-    ensures { λ r. ⌜ Front 192 (message line kind) (now (out .entry)) r (now (out .exit)) ⌝ }
+    ensures { λ r. ⌜ PutLine 192 (message line kind) 0 (now (out .entry)) r (now (out .exit)) ⌝ }
 {
     if out.len() < MESSAGE {
         return 0;
@@ -200,7 +177,7 @@ fn put_calls(out: &mut [u8], block: &[u8], count: usize) -> usize
 // The text of a block, of which so many bytes were read: the lines of its calls, or that of a bad block with its number. Without room for 3584
 // bytes, nothing is put.
 pub fn show(block: &[u8], got: usize, number: u64, out: &mut [u8]) -> usize
-    ensures { λ r. ⌜ Front 3584 (blockText number (now (block .entry)) got) (now (out .entry)) r (now (out .exit)) ⌝ }
+    ensures { λ r. ⌜ PutLine 3584 (blockText number (now (block .entry)) got) 0 (now (out .entry)) r (now (out .exit)) ⌝ }
 {
     if out.len() < TEXT {
         return 0;

@@ -1,8 +1,8 @@
 // Text in words and numbers.
 ghost use mathlib.Core.Path.{_≡_};
-ghost use Prim.Native.Nat.{_+_, _-_, _<_, _≤_};
-ghost use lib.ListN.{length, drop};
-ghost use Rattle.textwords.specs.Text.{stops, run, blank, plain, sameText};
+ghost use Prim.Native.Nat.{_+_, _-_, _<_};
+ghost use lib.ListN.{drop};
+ghost use Rattle.textwords.specs.Text.{stops, run, blank, sameText};
 ghost use Rattle.textwords.specs.Numbers.{digitsAfter, negated, numberOf};
 
 const SPACE: u8 = 32;
@@ -87,12 +87,6 @@ pub fn same(a: &[u8], b: &[u8]) -> bool
 
 // ---- numbers
 
-fn wide(b: u8) -> u64
-    ensures { λ r. ⌜ (r ≡ b) × (r < 256) ⌝ }
-{
-    b as u64
-}
-
 // The number of the digits from a place on.
 fn digits(s: &[u8], from: usize) -> Number
     ensures { λ r. ⌜ r ≡ digitsAfter 0 (drop from (now (s .entry))) ⌝ }
@@ -100,7 +94,7 @@ fn digits(s: &[u8], from: usize) -> Number
     let mut n: u64 = 0;
     let mut i = from;
     while i < s.len() {
-        let b = wide(s[i]);
+        let b = words::wide(s[i]);
         if b < 48 {
             return Number::Bad;
         }

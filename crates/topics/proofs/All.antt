@@ -14,10 +14,10 @@ use Rattle.definition.specs.Destination.{Served, serveAll}
 use Rattle.definition.specs.Layout.{Row, eachSub, subsAt, subRows, eventWords}
 use Rattle.definition.proofs.Local.{⊕-zero, ⊕-assoc}
 use Rattle.consumers.specs.declared.Sub.{Sub}
-use Rattle.consumers.specs.Consumers.{subOf, subWords, subView}
+use Rattle.consumers.specs.Consumers.{rowSub, subWords, subView}
 use Rattle.consumers.proofs.Words.{round}
 use Rattle.state.specs.declared.Head.{Head}
-use Rattle.topics.specs.Topics.{Seen, seen, ran, Kept, moved}
+use Rattle.topics.specs.Topics.{Seen, topicSeen, topicRan, ConsumerKept, topicMoved}
 use Rattle.table.proofs.Lists.{agree-drop}
 use Rattle.consumers.proofs.Line.{stored-next, rows-one, subs-done, left-size, subs-next, subs-rest, LineStrict, line-own, line-turn}
 use Rattle.consumers.specs.Seats.{OwnStrict}
@@ -78,7 +78,7 @@ pub record Ready (ws : List Row) (i base : ℕ) (d₀ d : Head) : Type 0 where
   pub sent : d₀ .events ≤ d .events
   pub expired : d .stats .expired + subRows (drop i ws) ≤ d₀ .stats .expired + d₀ .used
   pub dispatched : d .stats .dispatched + subRows (drop i ws) ≤ d₀ .stats .dispatched + d₀ .used
-  pub head : d ≡ moved d₀ d
+  pub head : d ≡ topicMoved d₀ d
 
 spans : (u v b f h f′ h′ : ℕ) → u + (f + h) ≡ v + (f′ + h′) → u - (b + f′ + h′) ≡ v - (b + f + h)
 spans u v b f h f′ h′ e = omega arith
@@ -88,20 +88,20 @@ module _ (now : ℕ) (ws : List Row) (i base : ℕ) (d₀ d : Head) (subs rows e
     (within : i < length subs)
     (ready : Ready ws i base d₀ d)
     (ends : base ≡ subRows (take i subs))
-    (kept : Kept base (subOf (getD ws i [])) d t r)
-    (said : seen base t r rows′ events′ ≡ ran now (seen base (subOf (getD ws i [])) d rows events))
+    (kept : ConsumerKept base (rowSub (getD ws i [])) d t r)
+    (said : topicSeen base t r rows′ events′ ≡ topicRan now (topicSeen base (rowSub (getD ws i [])) d rows events))
   where
     abbrev w : Row
     w = getD ws i []
 
     abbrev s : Sub
-    s = subOf w
+    s = rowSub w
 
     abbrev post : List Row
     post = drop (suc i) ws
 
     abbrev v : Seen
-    v = seen base s d rows events
+    v = topicSeen base s d rows events
 
     abbrev a : Step
     a = serveTopic now (v .sub)
@@ -135,7 +135,7 @@ module _ (now : ℕ) (ws : List Row) (i base : ℕ) (d₀ d : Head) (subs rows e
           sent = omega arith;
           expired = omega arith;
           dispatched = omega arith;
-          head = kept .head ∙ ap (λ (x : Head). moved x r) (ready .head);
+          head = kept .head ∙ ap (λ (x : Head). topicMoved x r) (ready .head);
         }
 
     pre-is : take (i + 1) subs′ ≡ take i subs ++ (subWords t ∷ [])
@@ -149,7 +149,7 @@ module _ (now : ℕ) (ws : List Row) (i base : ℕ) (d₀ d : Head) (subs rows e
 
     -- the consumers that are done
     front : subsAt topic (take (i + 1) subs′) rows′ ≡ subsAt topic (take i subs) rows ++ (a .sub ∷ [])
-    unfolding seen subWords
+    unfolding topicSeen subWords
     front =
         let f : List Row = take (t .inflight) (drop base rows′) in
         let h : List Row = take (t .held) (drop (base + t .inflight) rows′) in
@@ -162,7 +162,7 @@ module _ (now : ℕ) (ws : List Row) (i base : ℕ) (d₀ d : Head) (subs rows e
     n = d .used - end
 
     agrees : take n (drop end′ rows′) ≡ take n (drop end rows)
-    unfolding seen
+    unfolding topicSeen
     agrees =
         let g : r .used - end′ ≡ n = spans (r .used) (d .used) base (s .inflight) (s .held) (t .inflight) (t .held) (kept .tail) in
         ap (λ (m : ℕ). take m (drop end′ rows′)) (sym g) ∙ ap (λ (x : Seen). x .after) said
@@ -193,21 +193,21 @@ module _ (now : ℕ) (ws : List Row) (i base : ℕ) (d₀ d : Head) (subs rows e
     x = serveAll now (subsAt topic post (drop end rows))
 
     served : serveAll now (subsAt topic (drop i ws) (drop base rows)) ≡ record { subs = a .sub ∷ x .subs; counts = a .counts ⊕ x .counts; events = a .events ++ x .events }
-    unfolding serveAll seen subOf
+    unfolding serveAll topicSeen rowSub
     served = ap (serveAll now) (subs-next ws i more topic base rows)
 
     abbrev count : ℕ
     count = d .reserved + d .waiting
 
     pub strict-turn : LineStrict count ws subs i base rows → (OwnStrict base (s .inflight) (s .held) rows → OwnStrict base (t .inflight) (t .held) rows′) → LineStrict count ws subs′ (i + 1) end′ rows′
-    unfolding seen subWords subOf
+    unfolding topicSeen subWords rowSub
     strict-turn l o =
         let y = size in
         let z = ready .rows in
         line-turn count ws subs i base rows more l subs′ (subWords t) rows′ n end end′ pre-is ends refl (stored-strict t) (o (line-own count ws subs i base rows more l)) (ap (λ (x : Seen). x .before) said) (omega arith) agrees
 
     pub whole-turn : whole now ws (i + 1) end′ r subs′ rows′ events′ ≡ whole now ws i base d subs rows events
-    unfolding whole seen
+    unfolding whole topicSeen
     whole-turn =
         let p : List Def.Sub = subsAt topic (take i subs) rows in
         let o : List Row = take (d .reserved + d .waiting) (drop (base + subRows (drop i ws)) rows) in

@@ -14,10 +14,11 @@ use Rattle.definition.specs.Types.{Kind, topic, Id, Audit}
 use Rattle.definition.specs.Types as Def
 use Rattle.definition.specs.Consumer.{_⊕_}
 use Rattle.definition.specs.Destination.{serveAll, dispatchTopic}
-use Rattle.definition.specs.Layout.{Row, heldAt, inflightOf, heldOf, subsAt, subRows, eventWords, subsStrict, tablesStrict}
-use Rattle.table.proofs.Lists.{same-after, agree-take, agree-drop, agree-later}
+use Rattle.definition.specs.Layout.{Row, heldAt, inflightCount, heldCount, subsAt, subRows, eventWords, subsStrict, tablesStrict}
+use Rattle.definition.proofs.Lists.{agree-later}
+use Rattle.table.proofs.Lists.{same-after, agree-take, agree-drop}
 use Rattle.consumers.specs.declared.Sub.{Sub}
-use Rattle.consumers.specs.Consumers.{subOf, subWords, subView, creditOf}
+use Rattle.consumers.specs.Consumers.{rowSub, subWords, subView, creditOf}
 use Rattle.consumers.specs.Seats.{OwnStrict}
 use Rattle.consumers.proofs.Laws.{fitting-at}
 use Rattle.consumers.proofs.Words.{round}
@@ -25,7 +26,7 @@ use Rattle.state.specs.declared.Head.{Head}
 use Rattle.state.specs.State.{headView, strictTables, kindBy}
 use Rattle.state.specs.Fits.{Fits}
 use Rattle.state.specs.Leaves.{Leaves}
-use Rattle.topics.specs.Topics.{canServe, seen, ran, Fine, Kept, moved, Dispatched}
+use Rattle.topics.specs.Topics.{canServe, topicSeen, topicRan, TopicFine, ConsumerKept, topicMoved, Dispatched}
 use Rattle.topics.proofs.All.{Whole, whole, whole-words, whole-start, whole-end, Ready, ready-turn, ends-turn, strict-turn, whole-turn}
 use Rattle.topics.proofs.Turn.{ran-none, ran-stop}
 use Rattle.consumers.proofs.Line.{stored-next, same-next, rows-one, subs-done, strict-done, left-size, LineStrict, line-start, line-end, line-words, line-own}
@@ -77,15 +78,15 @@ module _ (now : ℕ) (subs₀ rows₀ events₀ : List Row) (d₀ : Head) (fits 
       row-is : getD subs i [] ≡ w
       row-is = same-after i i subs subs₀ [] (g .rest) (omega arith) ∙ sym (getD-take (d₀ .consumers) subs₀ i [] less)
 
-      next-row : subOf w .«next_dseq» ≤ 72057594037927937
-      unfolding subOf
+      next-row : rowSub w .«next_dseq» ≤ 72057594037927937
+      unfolding rowSub
       next-row = fitting-at ws i (fits .fitted) here .1
 
-      fine-row : now ≤ 2 ^ 62 → Fine (length rows) (length events) base (subOf w) d now
+      fine-row : now ≤ 2 ^ 62 → TopicFine (length rows) (length events) base (rowSub w) d now
       fine-row clock =
           let r = g .ready in
-          let h : subRows (drop i ws) ≡ subOf w .inflight + (subOf w .held + subRows (drop (suc i) ws)) = left-size ws i here in
-          let next : subOf w .«next_dseq» ≤ 72057594037927937 = next-row in
+          let h : subRows (drop i ws) ≡ rowSub w .inflight + (rowSub w .held + subRows (drop (suc i) ws)) = left-size ws i here in
+          let next : rowSub w .«next_dseq» ≤ 72057594037927937 = next-row in
           record {
             rows = omega arith;
             used = omega arith;
@@ -97,18 +98,18 @@ module _ (now : ℕ) (subs₀ rows₀ events₀ : List Row) (d₀ : Head) (fits 
             clock = clock;
           }
 
-      pub round-fine : (s : Sub) → s ≡ subOf (getD subs i []) → now ≤ 2 ^ 62 → Fine (length rows) (length events) base s d now
+      pub round-fine : (s : Sub) → s ≡ rowSub (getD subs i []) → now ≤ 2 ^ 62 → TopicFine (length rows) (length events) base s d now
       round-fine s e clock = rw (e, row-is) (fine-row clock)
 
-      pub round-turn : (s t : Sub) (r : Head) (subs′ rows′ events′ : List Row) → s ≡ subOf (getD subs i []) → subs′ ≡ set subs i (subWords t)
+      pub round-turn : (s t : Sub) (r : Head) (subs′ rows′ events′ : List Row) → s ≡ rowSub (getD subs i []) → subs′ ≡ set subs i (subWords t)
           → length rows′ ≡ length rows → length events′ ≡ length events
-          → seen base t r rows′ events′ ≡ ran now (seen base s d rows events) → drop (r .events) events′ ≡ drop (r .events) events → Kept base s d t r → drop (d .used) rows′ ≡ drop (d .used) rows
+          → topicSeen base t r rows′ events′ ≡ topicRan now (topicSeen base s d rows events) → drop (r .events) events′ ≡ drop (r .events) events → ConsumerKept base s d t r → drop (d .used) rows′ ≡ drop (d .used) rows
           → (OwnStrict base (s .inflight) (s .held) rows → OwnStrict base (t .inflight) (t .held) rows′)
           → Round now subs₀ rows₀ events₀ d₀ subs′ rows′ events′ r (base + t .inflight + t .held) (i + 1)
       round-turn s t r subs′ rows′ events′ e p lr le said later kept past own =
-          let q : s ≡ subOf w = e ∙ ap subOf row-is in
-          let k : Kept base (subOf w) d t r = rw q at kept in
-          let v : seen base t r rows′ events′ ≡ ran now (seen base (subOf w) d rows events) = rw q at said in
+          let q : s ≡ rowSub w = e ∙ ap rowSub row-is in
+          let k : ConsumerKept base (rowSub w) d t r = rw q at kept in
+          let v : topicSeen base t r rows′ events′ ≡ topicRan now (topicSeen base (rowSub w) d rows events) = rw q at said in
           let count : d₀ .reserved + d₀ .waiting ≡ d .reserved + d .waiting = sym (ap (λ (x : Head). x .reserved + x .waiting) (g .ready .head)) in
           let b : i < length subs = omega (arith, fits .subs-long, fits .consumers, g .same-subs) in
           rw p (record {
@@ -126,22 +127,22 @@ module _ (now : ℕ) (subs₀ rows₀ events₀ : List Row) (d₀ : Head) (fits 
           })
 
       -- one that cannot be served is passed over
-      module _ (s : Sub) (e : s ≡ subOf (getD subs i [])) (not-served : canServe (getD subs i []) ≡ false) (clock : now ≤ 2 ^ 62) where
+      module _ (s : Sub) (e : s ≡ rowSub (getD subs i [])) (not-served : canServe (getD subs i []) ≡ false) (clock : now ≤ 2 ^ 62) where
         abbrev x : Row
         x = getD subs i []
 
         abbrev end : ℕ
         end = base + s .inflight + s .held
 
-        fine : Fine (length rows) (length events) base s d now
+        fine : TopicFine (length rows) (length events) base s d now
         fine = round-fine s e clock
 
-        stays : seen base s d rows events ≡ ran now (seen base s d rows events)
+        stays : topicSeen base s d rows events ≡ topicRan now (topicSeen base s d rows events)
         stays = by-test (ltb 0 (s .held))
             (λ t. sym (ran-stop now base s d rows events fine (ltb-true 0 (s .held) t) (sym (ap (λ (b : Bool). b && creditOf s) t) ∙ ap (λ (y : Sub). ltb 0 (y .held) && creditOf y) e ∙ not-served)))
             (λ t. sym (ran-none now base s d rows events fine (ltb-false 0 (s .held) t)))
 
-        kept : Kept base s d s d
+        kept : ConsumerKept base s d s d
         kept = let f = fine .rows in record { rows = omega arith; used = omega arith; tail = refl; own = omega arith; events = omega arith; sent = omega arith; expired = omega arith; dispatched = omega arith; head = refl }
 
         abbrev stored : List Row
@@ -154,16 +155,16 @@ module _ (now : ℕ) (subs₀ rows₀ events₀ : List Row) (d₀ : Head) (fits 
         long = omega (arith, fits .subs-long, fits .consumers, g .same-subs)
 
         ends-same : end ≡ subRows (take (i + 1) subs)
-        unfolding subOf
+        unfolding rowSub
         ends-same =
-            let q : subRows (take (i + 1) subs) ≡ subRows (take i subs) + inflightOf x + heldOf x = ap subRows (same-next subs i long) ∙ rows-one (take i subs) x in
-            let f : s .inflight ≡ inflightOf x = ap (λ (y : Sub). y .inflight) e in
-            let h : s .held ≡ heldOf x = ap (λ (y : Sub). y .held) e in
+            let q : subRows (take (i + 1) subs) ≡ subRows (take i subs) + inflightCount x + heldCount x = ap subRows (same-next subs i long) ∙ rows-one (take i subs) x in
+            let f : s .inflight ≡ inflightCount x = ap (λ (y : Sub). y .inflight) e in
+            let h : s .held ≡ heldCount x = ap (λ (y : Sub). y .held) e in
             omega (arith, g .ends)
 
         -- the same consumer, by its own words and by those of the view
         front : subsAt topic (take (i + 1) subs) rows ≡ subsAt topic (take (i + 1) stored) rows
-        unfolding subOf subWords
+        unfolding rowSub subWords
         front =
             let y : Def.Sub = subView topic s (take (s .inflight) (drop base rows)) (take (s .held) (drop (base + s .inflight) rows)) in
             ap (λ (l : List Row). subsAt topic l rows) (same-next subs i long)
@@ -175,7 +176,7 @@ module _ (now : ℕ) (subs₀ rows₀ events₀ : List Row) (d₀ : Head) (fits 
         strict-same h =
             let n : ℕ = d₀ .reserved + d₀ .waiting in
             let l : LineStrict n ws subs i base rows = g .strict h in
-            let own : OwnStrict base (inflightOf w) (heldOf w) rows = line-own n ws subs i base rows here l in
+            let own : OwnStrict base (inflightCount w) (heldCount w) rows = line-own n ws subs i base rows here l in
             let t : LineStrict n ws stored (i + 1) end rows = turn .strict h in
             record {
               done = ap (λ (y : List Row). subsStrict y rows) (same-next subs i long ∙ ap (λ (y : Row). take i subs ++ (y ∷ [])) row-is)
@@ -219,7 +220,7 @@ module _ (now : ℕ) (subs₀ rows₀ events₀ : List Row) (d₀ : Head) (fits 
       kind-is : kindBy (d₀ .queue) ≡ topic
       kind-is = ap kindBy plain
 
-      abbrev same : {A : Type 0} (f : Head → A) → f d ≡ f (moved d₀ d)
+      abbrev same : {A : Type 0} (f : Head → A) → f d ≡ f (topicMoved d₀ d)
       same f = ap f (g .ready .head)
 
       base-is : base ≡ subRows (take (d₀ .consumers) subs)

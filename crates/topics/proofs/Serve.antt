@@ -2,23 +2,15 @@
 use mathlib.Core.Path.{_≡_, refl, sym, ap, _∙_}
 use mathlib.Core.Bool.{true, false}
 use mathlib.Core.List.{List, [], _∷_, _++_, append-assoc, append-nil, map, map-append}
-use Prim.Native.Nat.{ℕ, _<_}
-use native.Mathlib.Omega.{arith}
-use lib.ListN.{length, getD, set, length-set}
-use lib.Seq.{getD-set-same}
+use Prim.Native.Nat.{ℕ}
 use lib.IntN.{pos}
-use mir.Syntax.{w32}
-use mir.Val.{SFits}
 use Rattle.words.proofs.Tests.{by-test}
-use Rattle.words.proofs.Words.{int-fits}
 use Rattle.stats.specs.declared.Stats.{Stats}
 use Rattle.definition.specs.Types.{Entry, Event, Sub, withTpending}
-use Rattle.definition.specs.Consumer.{expired, hasCredit, _⊕_, addExpired, addDispatched, Step, inflightOf, send, sent, meetTopic, drainTopic, atRest, serveTopic}
-use Rattle.entry.specs.Entry.{entryOf}
-use Rattle.table.proofs.Rows.{word-kept, place-kept}
+use Rattle.definition.specs.Consumer.{expired, hasCredit, _⊕_, addExpired, addDispatched, Step, send, sent, meetTopic, drainTopic, atRest, serveTopic}
 use Rattle.definition.proofs.Local.{⊕-zero, ⊕-assoc}
-use Rattle.definition.specs.Layout.{Row, flag, inflightAt, eventWords}
-use Rattle.topics.specs.Topics.{Seen, stepped, ran}
+use Rattle.definition.specs.Layout.{Row, eventWords}
+use Rattle.topics.specs.Topics.{Seen, topicStepped, topicRan}
 
 -- a step with counts and events before its own
 abbrev pub after : Stats → List Event → Step → Step
@@ -75,16 +67,12 @@ seen-eq : (v : Seen) (s : Sub) {c c′ : Stats} {l l′ : List Row} → c ≡ c�
     → _≡_ {A = Seen} (record { before = v .before; sub = s; after = v .after; stats = c; events = l }) (record { before = v .before; sub = s; after = v .after; stats = c′; events = l′ })
 seen-eq v s p q = λ j. record { before = v .before; sub = s; after = v .after; stats = p j; events = q j }
 
-pub ran-rest : (now : ℕ) (v : Seen) → serveTopic now (v .sub) ≡ atRest (v .sub) → ran now v ≡ v
-ran-rest now v h = ap (λ (t : Step). stepped t v) h ∙ seen-eq v (v .sub) (⊕-zero (v .stats)) (append-nil (v .events))
+pub ran-rest : (now : ℕ) (v : Seen) → serveTopic now (v .sub) ≡ atRest (v .sub) → topicRan now v ≡ v
+ran-rest now v h = ap (λ (t : Step). topicStepped t v) h ∙ seen-eq v (v .sub) (⊕-zero (v .stats)) (append-nil (v .events))
 
 pub ran-turn : (now : ℕ) (c : Stats) (es : List Event) (s : Sub) (v : Seen) → serveTopic now (v .sub) ≡ after c es (serveTopic now s)
-    → ran now (stepped (record { sub = s; counts = c; events = es }) v) ≡ ran now v
+    → topicRan now (topicStepped (record { sub = s; counts = c; events = es }) v) ≡ topicRan now v
 ran-turn now c es s v h =
     let t : Step = serveTopic now s in
     seen-eq v (t .sub) (⊕-assoc (v .stats) c (t .counts)) (append-assoc (v .events) (map eventWords es) (map eventWords (t .events)) ∙ ap (λ (l : List Row). v .events ++ l) (sym (map-append eventWords es (t .events))))
-    ∙ ap (λ (x : Step). stepped x v) (sym h)
-
-pub redelivery-fits : (w : Row) → SFits w32 (entryOf w .redelivery)
-unfolding entryOf
-redelivery-fits w = int-fits (getD w 5 0)
+    ∙ ap (λ (x : Step). topicStepped x v) (sym h)

@@ -16,46 +16,42 @@ use Rattle.model.specs.Model.{idOf}
 use Rattle.definition.specs.Types.{Entry, topic, message, withTpending}
 use Rattle.definition.specs.Types as Def
 use Rattle.definition.specs.Consumer.{hasCredit, addExpired, addDispatched, inflightOf, send, sent}
-use Rattle.definition.specs.Layout.{Row, inflightAt, browserAt, eventWords, flyingStrict}
+use Rattle.definition.specs.Layout.{Row, inflightAt, eventWords, flyingStrict}
+use Rattle.definition.proofs.Stored.{same-browser}
 use Rattle.consumers.specs.declared.Sub.{Sub}
-use Rattle.consumers.specs.Consumers.{subOf, subView, creditOf}
+use Rattle.consumers.specs.Consumers.{rowSub, subView, creditOf, withHeld}
 use Rattle.consumers.specs.Seats.{OwnStrict}
 use Rattle.consumers.proofs.Laws.{credit}
 use Rattle.state.specs.declared.Head.{Head}
-use Rattle.state.specs.State.{withStats, withUsed, withEvents}
+use Rattle.state.specs.State.{withCounters, withUsed, withEvents}
 use Rattle.state.proofs.Counts.{expired-plain, dispatched-plain}
 use Rattle.state.proofs.Events.{events-up-to, events-after}
 use Rattle.table.specs.Table.{closeGap, flownRow}
 use Rattle.table.proofs.Laws.{close-after, close-length}
 use Rattle.table.proofs.Rows.{flown-row}
 use Rattle.table.proofs.Strict.{flown-strict}
-use Rattle.topics.specs.Topics.{canServe, Parts, partsOf, Seen, seen, stepped, ran, sentSub, Fine, Kept}
+use Rattle.topics.specs.Topics.{canServe, Parts, partsOf, Seen, topicSeen, topicStepped, topicRan, heldSent, TopicFine, ConsumerKept}
 use Rattle.topics.proofs.Serve.{serve-none, serve-stop, serve-lost, serve-sent, ran-rest, ran-turn}
 use Rattle.topics.proofs.Parts.{held-first, parts-lost, parts-sent, first-strict, strict-lost, strict-sent}
-
--- a topic's consumer shows what it browses whatever it holds
-same-browser : (b : Bool) (l m : List Entry) → browserAt topic b l ≡ browserAt topic b m
-same-browser true l m = refl
-same-browser false l m = refl
 
 -- ---- the numbers after a turn
 
 abbrev pub lostHead : Head → Head
-lostHead d = withStats (withExpiredBy (d .stats) 1) (withUsed (d .used - 1) d)
+lostHead d = withCounters (withExpiredBy (d .stats) 1) (withUsed (d .used - 1) d)
 
 abbrev pub sentHead : Head → Head
-sentHead d = withStats (withDispatched (d .stats)) (withEvents (d .events + 1) d)
+sentHead d = withCounters (withDispatched (d .stats)) (withEvents (d .events + 1) d)
 
 abbrev pub lostSub : Sub → Sub
-lostSub s = record { conn = s .conn; session = s .session; value = s .value; prefetch = s .prefetch; selector = s .selector; «next_dseq» = s .«next_dseq»; cursor = s .cursor; pull = s .pull; generation = s .generation; freed = s .freed; inflight = s .inflight; held = s .held - 1; «no_local» = s .«no_local»; browser = s .browser; finished = s .finished; pulling = s .pulling }
+lostSub s = withHeld (s .held - 1) s
 
-module _ (now base : ℕ) (s : Sub) (d : Head) (rows events : List Row) (fine : Fine (length rows) (length events) base s d now) where
+module _ (now base : ℕ) (s : Sub) (d : Head) (rows events : List Row) (fine : TopicFine (length rows) (length events) base s d now) where
   abbrev v : Seen
-  v = seen base s d rows events
+  v = topicSeen base s d rows events
 
   -- no row is held
-  pub ran-none : s .held ≤ 0 → ran now v ≡ v
-  unfolding seen subView
+  pub ran-none : s .held ≤ 0 → topicRan now v ≡ v
+  unfolding topicSeen subView
   ran-none h =
       let e : s .held ≡ 0 = omega arith in
       ran-rest now v (serve-none now (v .sub) (ap (λ (n : ℕ). map entryOf (take n (drop (base + s .inflight) rows))) e))
@@ -71,21 +67,21 @@ module _ (now base : ℕ) (s : Sub) (d : Head) (rows events : List Row) (fine : 
     held = take (s .held) (drop (base + s .inflight) rows)
 
     first : v .sub .tpending ≡ entryOf row ∷ map entryOf rest
-    unfolding seen subView
+    unfolding topicSeen subView
     first = ap (map entryOf) (held-first base (s .inflight) (s .held) (d .used) rows some (fine .rows) (omega arith))
 
     has : hasCredit (v .sub) ≡ creditOf s
-    unfolding seen
+    unfolding topicSeen
     has = credit topic s (take (s .inflight) (drop base rows)) held (length-take-le (s .inflight) (drop base rows) (simp length-drop (omega arith)))
 
     -- there is no credit
-    pub ran-stop : creditOf s ≡ false → ran now v ≡ v
+    pub ran-stop : creditOf s ≡ false → topicRan now v ≡ v
     ran-stop c = ran-rest now v (serve-stop now (v .sub) (entryOf row) (map entryOf rest) first (has ∙ c))
 
     -- the first held row has expired
-    seen-lost : seen base (lostSub s) (lostHead d) (closeGap (base + s .inflight) 1 (d .used) rows) events
-        ≡ stepped (record { sub = withTpending (map entryOf rest) (v .sub); counts = addExpired 1; events = [] }) v
-    unfolding seen subView
+    seen-lost : topicSeen base (lostSub s) (lostHead d) (closeGap (base + s .inflight) 1 (d .used) rows) events
+        ≡ topicStepped (record { sub = withTpending (map entryOf rest) (v .sub); counts = addExpired 1; events = [] }) v
+    unfolding topicSeen subView
     seen-lost =
         let p = parts-lost base (s .inflight) (s .held) (d .used) rows some (fine .rows) (omega arith) in
         let now-is : Parts = partsOf base (s .inflight) (s .held - 1) (d .used - 1) (closeGap (base + s .inflight) 1 (d .used) rows) in
@@ -101,9 +97,9 @@ module _ (now base : ℕ) (s : Sub) (d : Head) (rows events : List Row) (fine : 
         }
 
     module _ (credited : creditOf s ≡ true) where
-      pub ran-lost : expired (pos now) (entryOf row) ≡ true → ran now (seen base (lostSub s) (lostHead d) (closeGap (base + s .inflight) 1 (d .used) rows) events) ≡ ran now v
+      pub ran-lost : expired (pos now) (entryOf row) ≡ true → topicRan now (topicSeen base (lostSub s) (lostHead d) (closeGap (base + s .inflight) 1 (d .used) rows) events) ≡ topicRan now v
       ran-lost x =
-          ap (ran now) seen-lost
+          ap (topicRan now) seen-lost
           ∙ ran-turn now (addExpired 1) [] (withTpending (map entryOf rest) (v .sub)) v (serve-lost now (v .sub) (entryOf row) (map entryOf rest) first (has ∙ credited) x)
 
     -- or it is sent
@@ -111,9 +107,9 @@ module _ (now base : ℕ) (s : Sub) (d : Head) (rows events : List Row) (fine : 
       abbrev said : Row
       said = eventWords (sent (v .sub) (entryOf row))
 
-      seen-sent : seen base (sentSub s) (sentHead d) (set rows (base + s .inflight) x) (set events (d .events) said)
-          ≡ stepped (record { sub = send (entryOf row) (withTpending (map entryOf rest) (v .sub)); counts = addDispatched 1; events = sent (v .sub) (entryOf row) ∷ [] }) v
-      unfolding seen subView
+      seen-sent : topicSeen base (heldSent s) (sentHead d) (set rows (base + s .inflight) x) (set events (d .events) said)
+          ≡ topicStepped (record { sub = send (entryOf row) (withTpending (map entryOf rest) (v .sub)); counts = addDispatched 1; events = sent (v .sub) (entryOf row) ∷ [] }) v
+      unfolding topicSeen subView
       seen-sent =
           let p = parts-sent base (s .inflight) (s .held) (d .used) rows some (fine .rows) (omega arith) x in
           let now-is : Parts = partsOf base (s .inflight + 1) (s .held - 1) (d .used) (set rows (base + s .inflight) x) in
@@ -121,8 +117,8 @@ module _ (now base : ℕ) (s : Sub) (d : Head) (rows events : List Row) (fine : 
           let flown : map inflightAt (flying ++ (x ∷ [])) ≡ map inflightAt flying ++ (inflightOf (s .«next_dseq») (entryOf row) ∷ []) =
           map-append inflightAt flying (x ∷ []) ∙ ap (λ (y : Def.Inflight). map inflightAt flying ++ (y ∷ [])) flies in
           let next : Def.Sub = send (entryOf row) (withTpending (map entryOf rest) (v .sub)) in
-          let sub : subView topic (sentSub s) (now-is .flying) (now-is .held) ≡ next =
-          ap (λ (y : Parts). subView topic (sentSub s) (y .flying) (y .held)) p
+          let sub : subView topic (heldSent s) (now-is .flying) (now-is .held) ≡ next =
+          ap (λ (y : Parts). subView topic (heldSent s) (y .flying) (y .held)) p
           ∙ ap₂ (λ (b : Option (List Entry)) (y : List Def.Inflight). Def.withBrowser b (Def.withInflight y next)) (same-browser (s .browser) (map entryOf rest) (map entryOf held)) flown in
           λ i. record {
             before = p i .before;
@@ -133,25 +129,25 @@ module _ (now base : ℕ) (s : Sub) (d : Head) (rows events : List Row) (fine : 
           }
 
       pub ran-sent : creditOf s ≡ true → expired (pos now) (entryOf row) ≡ false
-          → ran now (seen base (sentSub s) (sentHead d) (set rows (base + s .inflight) x) (set events (d .events) said)) ≡ ran now v
+          → topicRan now (topicSeen base (heldSent s) (sentHead d) (set rows (base + s .inflight) x) (set events (d .events) said)) ≡ topicRan now v
       ran-sent credited y =
-          ap (ran now) seen-sent
+          ap (topicRan now) seen-sent
           ∙ ran-turn now (addDispatched 1) (sent (v .sub) (entryOf row) ∷ []) (send (entryOf row) (withTpending (map entryOf rest) (v .sub))) v
           (serve-sent now (v .sub) (entryOf row) (map entryOf rest) first (has ∙ credited) y)
 
 -- ---- what holds while the consumer is served
 
 pub record Going (now base : ℕ) (rows₀ events₀ : List Row) (s₀ : Sub) (d₀ : Head) (rows events : List Row) (s : Sub) (d : Head) : Type 0 where
-  pub fine : Fine (length rows) (length events) base s d now
+  pub fine : TopicFine (length rows) (length events) base s d now
   pub same-rows : length rows ≡ length rows₀
   pub same-events : length events ≡ length events₀
-  pub said : ran now (seen base s d rows events) ≡ ran now (seen base s₀ d₀ rows₀ events₀)
+  pub said : topicRan now (topicSeen base s d rows events) ≡ topicRan now (topicSeen base s₀ d₀ rows₀ events₀)
   pub later : drop (d .events) events ≡ drop (d .events) events₀
-  pub kept : Kept base s₀ d₀ s d
+  pub kept : ConsumerKept base s₀ d₀ s d
   pub past : drop (d₀ .used) rows ≡ drop (d₀ .used) rows₀
   pub strict : OwnStrict base (s₀ .inflight) (s₀ .held) rows₀ → OwnStrict base (s .inflight) (s .held) rows
 
-pub going-start : (now base : ℕ) (rows events : List Row) (s : Sub) (d : Head) → Fine (length rows) (length events) base s d now → Going now base rows events s d rows events s d
+pub going-start : (now base : ℕ) (rows events : List Row) (s : Sub) (d : Head) → TopicFine (length rows) (length events) base s d now → Going now base rows events s d rows events s d
 going-start now base rows events s d f = record {
   fine = f;
   same-rows = refl;
@@ -164,23 +160,23 @@ going-start now base rows events s d f = record {
 }
 
 module _ (now base : ℕ) (rows₀ events₀ : List Row) (s₀ : Sub) (d₀ : Head) (rows events : List Row) (s : Sub) (d : Head) (g : Going now base rows₀ events₀ s₀ d₀ rows events s d) where
-  abbrev f : Fine (length rows) (length events) base s d now
+  abbrev f : TopicFine (length rows) (length events) base s d now
   f = g .fine
 
-  pub going-none : s .held ≤ 0 → seen base s d rows events ≡ ran now (seen base s₀ d₀ rows₀ events₀)
+  pub going-none : s .held ≤ 0 → topicSeen base s d rows events ≡ topicRan now (topicSeen base s₀ d₀ rows₀ events₀)
   going-none h = sym (ran-none now base s d rows events f h) ∙ g .said
 
   module _ (some : 0 < s .held) where
-    pub going-stop : creditOf s ≡ false → seen base s d rows events ≡ ran now (seen base s₀ d₀ rows₀ events₀)
+    pub going-stop : creditOf s ≡ false → topicSeen base s d rows events ≡ topicRan now (topicSeen base s₀ d₀ rows₀ events₀)
     going-stop h = sym (ran-stop now base s d rows events f some h) ∙ g .said
 
     module _ (credited : creditOf s ≡ true) where
-      fine-lost : Fine (length rows) (length events) base (lostSub s) (lostHead d) now
+      fine-lost : TopicFine (length rows) (length events) base (lostSub s) (lostHead d) now
       fine-lost =
           let e : lostHead d .stats .expired ≡ d .stats .expired + 1 = omega arith in
           omega arith
 
-      kept-lost : Kept base s₀ d₀ (lostSub s) (lostHead d)
+      kept-lost : ConsumerKept base s₀ d₀ (lostSub s) (lostHead d)
       kept-lost = let k = g .kept in record {
         rows = omega arith;
         used = omega arith;
@@ -208,10 +204,10 @@ module _ (now base : ℕ) (rows₀ events₀ : List Row) (s₀ : Sub) (d₀ : He
             strict = λ o. strict-lost base (s .inflight) (s .held) (d .used) rows some (f .rows) (omega arith) (g .strict o);
           })
 
-      fine-sent : Fine (length rows) (length events) base (sentSub s) (sentHead d) now
+      fine-sent : TopicFine (length rows) (length events) base (heldSent s) (sentHead d) now
       fine-sent = omega arith
 
-      kept-sent : Kept base s₀ d₀ (sentSub s) (sentHead d)
+      kept-sent : ConsumerKept base s₀ d₀ (heldSent s) (sentHead d)
       kept-sent = let k = g .kept in record {
         rows = omega arith;
         used = omega arith;
@@ -224,12 +220,12 @@ module _ (now base : ℕ) (rows₀ events₀ : List Row) (s₀ : Sub) (d₀ : He
         head = ap sentHead (k .head);
       }
 
-      pub going-sent : (s′ : Sub) (d′ : Head) (events′ : List Row) (x : Row) → s′ ≡ sentSub s → d′ ≡ sentHead d
+      pub going-sent : (s′ : Sub) (d′ : Head) (events′ : List Row) (x : Row) → s′ ≡ heldSent s → d′ ≡ sentHead d
           → events′ ≡ set events (d .events) (eventWords (message (idOf (s .conn) (s .session) (s .value)) (entryOf (getD rows (base + s .inflight) []) .seq) (entryOf (getD rows (base + s .inflight) []) .redelivery)))
           → x ≡ flownRow (s .«next_dseq») (getD rows (base + s .inflight) []) → length (getD rows (base + s .inflight) []) ≡ 10
           → expired (pos now) (entryOf (getD rows (base + s .inflight) [])) ≡ false
           → Going now base rows₀ events₀ s₀ d₀ (set rows (base + s .inflight) x) events′ s′ d′
-      unfolding seen subView
+      unfolding topicSeen subView
       going-sent s′ d′ events′ x o p q r n y =
           let row : Row = getD rows (base + s .inflight) [] in
           let flies : inflightAt x ≡ inflightOf (s .«next_dseq») (entryOf row) = ap inflightAt r ∙ flown-row (s .«next_dseq») row n in
@@ -250,9 +246,9 @@ module _ (now base : ℕ) (rows₀ events₀ : List Row) (s₀ : Sub) (d₀ : He
 
 -- ---- whether a consumer can be served
 
-module _ (w : Row) (s : Sub) (is : s ≡ subOf w) where
+module _ (w : Row) (s : Sub) (is : s ≡ rowSub w) where
   pub serves-some : 0 < s .held → creditOf s ≡ canServe w
-  serves-some h = ap creditOf is ∙ sym (ap (λ (b : Bool). b && creditOf (subOf w)) (ap (λ (x : Sub). ltb 0 (x .held)) (sym is) ∙ lt-ltb 0 (s .held) h))
+  serves-some h = ap creditOf is ∙ sym (ap (λ (b : Bool). b && creditOf (rowSub w)) (ap (λ (x : Sub). ltb 0 (x .held)) (sym is) ∙ lt-ltb 0 (s .held) h))
 
   pub serves-none : s .held ≤ 0 → false ≡ canServe w
-  serves-none h = sym (ap (λ (b : Bool). b && creditOf (subOf w)) (ap (λ (x : Sub). ltb 0 (x .held)) (sym is) ∙ le-ltb 0 (s .held) h))
+  serves-none h = sym (ap (λ (b : Bool). b && creditOf (rowSub w)) (ap (λ (x : Sub). ltb 0 (x .held)) (sym is) ∙ le-ltb 0 (s .held) h))

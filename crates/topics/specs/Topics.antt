@@ -1,6 +1,6 @@
 -- A topic's dispatch on the tables: one consumer's part of them, and what the definition makes of it. Assumes nothing.
 use mathlib.Core.Path.{_≡_}
-use mathlib.Core.Bool.{Bool, false, _&&_}
+use mathlib.Core.Bool.{Bool, _&&_}
 use mathlib.Core.List.{List, _++_, map}
 use Prim.Native.Nat.{ℕ, _+_, _-_, _≤_, _<_, _^_}
 use lib.Dec.{ltb}
@@ -11,12 +11,12 @@ use Rattle.definition.specs.Types as Def
 use Rattle.definition.specs.Consumer.{_⊕_, Step, serveTopic}
 use Rattle.definition.specs.Layout.{Row, eventWords}
 use Rattle.consumers.specs.declared.Sub.{Sub}
-use Rattle.consumers.specs.Consumers.{subOf, subView, creditOf}
+use Rattle.consumers.specs.Consumers.{rowSub, subView, creditOf, withHeld, sentSub}
 use Rattle.state.specs.declared.Head.{Head}
 
 -- it holds something, and has credit: else serving it leaves everything as it is
 abbrev pub canServe : Row → Bool
-canServe w = ltb 0 (subOf w .held) && creditOf (subOf w)
+canServe w = ltb 0 (rowSub w .held) && creditOf (rowSub w)
 
 -- the rows in use about one consumer: those before its own, its own in flight and held, those after them
 pub record Parts : Type 0 where
@@ -43,8 +43,8 @@ pub record Seen : Type 0 where
   pub events : List Row
 
 -- its rows begin at base
-unfoldable pub seen : ℕ → Sub → Head → List Row → List Row → Seen
-seen base s d rows events = let p = partsOf base (s .inflight) (s .held) (d .used) rows in record {
+unfoldable pub topicSeen : ℕ → Sub → Head → List Row → List Row → Seen
+topicSeen base s d rows events = let p = partsOf base (s .inflight) (s .held) (d .used) rows in record {
   before = p .before;
   sub = subView topic s (p .flying) (p .held);
   after = p .after;
@@ -53,35 +53,18 @@ seen base s d rows events = let p = partsOf base (s .inflight) (s .held) (d .use
 }
 
 -- with the consumer that a step leaves, what it counts and what it sends
-abbrev pub stepped : Step → Seen → Seen
-stepped t v = record { before = v .before; sub = t .sub; after = v .after; stats = v .stats ⊕ t .counts; events = v .events ++ map eventWords (t .events) }
+abbrev pub topicStepped : Step → Seen → Seen
+topicStepped t v = record { before = v .before; sub = t .sub; after = v .after; stats = v .stats ⊕ t .counts; events = v .events ++ map eventWords (t .events) }
 
-abbrev pub ran : ℕ → Seen → Seen
-ran now v = stepped (serveTopic now (v .sub)) v
+abbrev pub topicRan : ℕ → Seen → Seen
+topicRan now v = topicStepped (serveTopic now (v .sub)) v
 
--- `Sub::send`, by value
-abbrev pub sentSub : Sub → Sub
-sentSub s = record {
-  conn = s .conn;
-  session = s .session;
-  value = s .value;
-  prefetch = s .prefetch;
-  selector = s .selector;
-  «next_dseq» = s .«next_dseq» + 1;
-  cursor = s .cursor;
-  pull = 0;
-  generation = s .generation;
-  freed = s .freed;
-  inflight = s .inflight + 1;
-  held = s .held - 1;
-  «no_local» = s .«no_local»;
-  browser = s .browser;
-  finished = s .finished;
-  pulling = false;
-}
+-- `Sub::send` of the first row that it holds, by value
+abbrev pub heldSent : Sub → Sub
+heldSent s = sentSub (withHeld (s .held - 1) s)
 
 -- the counts lie within the tables, and no number runs out
-pub record Fine (nrows nevents base : ℕ) (s : Sub) (d : Head) (now : ℕ) : Type 0 where
+pub record TopicFine (nrows nevents base : ℕ) (s : Sub) (d : Head) (now : ℕ) : Type 0 where
   pub rows : base + s .inflight + s .held ≤ d .used
   pub used : d .used ≤ 512
   pub room : 512 ≤ nrows
@@ -92,8 +75,8 @@ pub record Fine (nrows nevents base : ℕ) (s : Sub) (d : Head) (now : ℕ) : Ty
   pub clock : now ≤ 2 ^ 62
 
 -- the second head's rows in use, events and counters, and the rest of the first
-abbrev pub moved : Head → Head → Head
-moved d r = record {
+abbrev pub topicMoved : Head → Head → Head
+topicMoved d r = record {
   «topic_limit» = d .«topic_limit»;
   «call_limit» = d .«call_limit»;
   allowance = d .allowance;
@@ -114,7 +97,7 @@ moved d r = record {
 }
 
 -- what the counts do while the consumer is served
-pub record Kept (base : ℕ) (s : Sub) (d : Head) (t : Sub) (r : Head) : Type 0 where
+pub record ConsumerKept (base : ℕ) (s : Sub) (d : Head) (t : Sub) (r : Head) : Type 0 where
   pub rows : base + t .inflight + t .held ≤ r .used
   pub used : r .used ≤ d .used
   pub tail : r .used + (s .inflight + s .held) ≡ d .used + (t .inflight + t .held)
@@ -123,7 +106,7 @@ pub record Kept (base : ℕ) (s : Sub) (d : Head) (t : Sub) (r : Head) : Type 0 
   pub sent : d .events ≤ r .events
   pub expired : r .stats .expired + t .held ≤ d .stats .expired + s .held
   pub dispatched : r .stats .dispatched + t .held ≤ d .stats .dispatched + s .held
-  pub head : r ≡ moved d r
+  pub head : r ≡ topicMoved d r
 
 -- what a topic's dispatch promises besides: the consumers stay, and it sends no more than there are rows in use
 pub record Dispatched (d r : Head) : Type 0 where

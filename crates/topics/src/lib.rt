@@ -9,7 +9,7 @@ ghost use Rattle.definition.specs.Destination.{dispatchTopic};
 ghost use Rattle.consumers.specs.Seats.{OwnStrict};
 ghost use Rattle.state.specs.Fits.{Fits, fits};
 ghost use Rattle.state.specs.Leaves.{Leaves, LeavesIf};
-ghost use Rattle.topics.specs.Topics.{canServe, Fine, Kept, seen, ran, sentSub, Dispatched};
+ghost use Rattle.topics.specs.Topics.{canServe, TopicFine, ConsumerKept, topicSeen, topicRan, Dispatched};
 use consumers::Sub;
 use consumers::SubRow;
 use entry::Row;
@@ -22,19 +22,6 @@ struct Served {
     head: Head,
 }
 
-// `Sub::send`: the first held row is the last in flight, and no pull waits.
-fn sent(mut s: Sub) -> Sub
-    requires { ⌜ (0 < s .held) × (s .inflight < 2 ^ 63) × (s .«next_dseq» < 2 ^ 63) ⌝ }
-    ensures { λ r. ⌜ r ≡ sentSub s ⌝ }
-{
-    s.next_dseq = s.next_dseq + 1;
-    s.inflight = s.inflight + 1;
-    s.held = s.held - 1;
-    s.pulling = false;
-    s.pull = 0;
-    s
-}
-
 // One consumer, whose rows begin at base: `while sub.has_credit() { pop_first .. }`.
 fn serve_topic(
     rows: &mut [Row],
@@ -44,10 +31,10 @@ fn serve_topic(
     before: Head,
     clock: u64,
 ) -> Served
-    requires { ⌜ Fine (length (now rows)) (length (now events)) base start before clock ⌝ }
-    ensures { λ r. ⌜ seen base (r .sub) (r .head) (now (rows .exit)) (now (events .exit)) ≡ ran clock (seen base start before (now (rows .entry)) (now (events .entry))) ⌝ }
+    requires { ⌜ TopicFine (length (now rows)) (length (now events)) base start before clock ⌝ }
+    ensures { λ r. ⌜ topicSeen base (r .sub) (r .head) (now (rows .exit)) (now (events .exit)) ≡ topicRan clock (topicSeen base start before (now (rows .entry)) (now (events .entry))) ⌝ }
     ensures { λ r. ⌜ drop (r .head .events) (now (events .exit)) ≡ drop (r .head .events) (now (events .entry)) ⌝ }
-    ensures { λ r. ⌜ Kept base start before (r .sub) (r .head) ⌝ }
+    ensures { λ r. ⌜ ConsumerKept base start before (r .sub) (r .head) ⌝ }
     ensures { λ r. ⌜ drop (before .used) (now (rows .exit)) ≡ drop (before .used) (now (rows .entry)) ⌝ }
     ensures { λ r. ⌜ (OwnStrict base (start .inflight) (start .held) (now (rows .entry)) → OwnStrict base (r .sub .inflight) (r .sub .held) (now (rows .exit))) ⌝ }
 {
@@ -69,7 +56,8 @@ fn serve_topic(
             d = state::push_message(events, d, s.conn, s.session, s.value, e.seq, e.redelivery);
             d = d.count_dispatched();
             rows[first] = table::flown(row, s.next_dseq);
-            s = sent(s);
+            s.held = s.held - 1;
+            s = s.sent();
         }
     }
     Served { sub: s, head: d }

@@ -1,5 +1,6 @@
 // 64-bit words as signed numbers, two's complement.
 ghost use mathlib.Core.Path.{_≡_};
+ghost use Prim.Native.Nat.{_<_};
 ghost use Rattle.words.specs.Words.{signed, unsigned, int, isInt};
 
 // From 2^63 on, a word holds a negative i64.
@@ -68,4 +69,11 @@ pub fn word_of_int(x: i32) -> u64
     ensures { λ r. ⌜ r ≡ unsigned x ⌝ }
 {
     word_of(x as i64)
+}
+
+// A byte as a word.
+pub fn wide(b: u8) -> u64
+    ensures { λ r. ⌜ (r ≡ b) × (r < 256) ⌝ }
+{
+    b as u64
 }

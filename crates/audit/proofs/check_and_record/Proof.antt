@@ -6,7 +6,7 @@ use denote.Ref.{now}
 use native.Mathlib.Omega.{arith}
 use borrow.Author.Needs.{needs}
 use borrow.Author.Tests.{not-true, not-false}
-use Rattle.audit.specs.Audit.{window, auditOk}
+use Rattle.audit.specs.Audit.{auditWindow, ringSound}
 use Rattle.audit.proofs.Ring.{refusal-short, refusal-ring, refusal-none, refused-kept, seen-kept, new-kept, seen-order, count-most, place-below}
 use Rattle.audit.proofs.check_and_record.Statement.{statement}
 use Rattle.audit.proofs.check_and_record.Tie as tie
@@ -26,7 +26,7 @@ returns-2 c =
     refused-kept (a .number) (a .a) (now (a .window)) 2 (refusal-ring (a .a) (now (a .window)) (c .before .before .if1 .left) o) (omega arith)
 
 -- past the refusals
-ok : (c : tie.Else2) → auditOk (c .before .before .before .before .args .a) ≡ true
+ok : (c : tie.Else2) → ringSound (c .before .before .before .before .args .a) ≡ true
 ok c = sym (c .before .sound .ensures) ∙ not-false _ (c .if2 .left)
 
 seen-requires : tie.Need-seen-requires
@@ -47,7 +47,7 @@ returns-3 c =
 place-requires : tie.Need-place-requires
 place-requires c κs = search needs
 
-below : (c : tie.After-place) → c .place .result < window
+below : (c : tie.After-place) → c .place .result < auditWindow
 below c =
     let d = c .before .before .before .before in
     rw (c .place .ensures) (place-below (d .before .before .before .before .args .a) (ok d))

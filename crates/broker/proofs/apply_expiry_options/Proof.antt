@@ -6,7 +6,7 @@ use borrow.Author.Tests.{not-true, not-false}
 use mir.Syntax.{w64}
 use mir.Val.{SFits, toZ, ofZ}
 use mir.ValLaws.{toZ-ofZ}
-use Rattle.broker.specs.Broker.{inRange, within, timeMost, rebased, baseOf, defaulted, capped, expired, stepped, applyExpiryOptions}
+use Rattle.broker.specs.Broker.{timesAndSettingsOk, fromZeroTo, timeMost, rebased, baseOf, defaulted, capped, timesExpired, expirySteps, applyExpiryOptions}
 use Rattle.broker.proofs.Range.{ranges, base-within}
 use Rattle.broker.proofs.apply_expiry_options.Statement.{statement}
 use Rattle.broker.proofs.apply_expiry_options.Tie as tie
@@ -42,7 +42,7 @@ base-of-requires c κs = search needs
 abbrev Calls : Type 0
 Calls = lts.After-base-of (in-range-reads.Asked, in-range-reads.Learnt, rebased-reads.Asked, rebased-reads.Learnt, base-of-reads.Asked, base-of-reads.Learnt, defaulted-reads.Asked, defaulted-reads.Learnt, capped-reads.Asked, capped-reads.Learnt, expired-reads.Asked, expired-reads.Learnt) reads.Pre reads.Post
 
-in-range : (c : Calls) → let a = c .before .before .before .before .args in inRange (a .o) (a .t) (a .now) ≡ true
+in-range : (c : Calls) → let a = c .before .before .before .before .args in timesAndSettingsOk (a .o) (a .t) (a .now) ≡ true
 in-range c =
     let s = c .before .before .before .before in
     rw (toZ-ofZ w64 (s .args .now) (s .fits .now)) at
@@ -56,7 +56,7 @@ based c =
     let a = rw z at (c .before .rebased .ensures) in
     (a, rw (z, a) at (c .base-of .ensures))
 
-base-in-range : (c : Calls) → within (toZ w64 (ofZ w64 (c .base-of .result))) timeMost ≡ true
+base-in-range : (c : Calls) → fromZeroTo (toZ w64 (ofZ w64 (c .base-of .result))) timeMost ≡ true
 base-in-range c =
     let a = c .before .before .before .before .args in
     let h : SFits w64 (c .base-of .result) = search needs in
@@ -76,7 +76,7 @@ expired-requires : tie.Need-expired-requires
 expired-requires c κs = search needs
 
 returns-2 : tie.Need-returns-2
-unfolding applyExpiryOptions stepped
+unfolding applyExpiryOptions expirySteps
 returns-2 c =
     let s = c .before .before .before .before .before .before .before .before in
     let d = c .before .before .before .before in

@@ -3,12 +3,12 @@ use borrow.Author.Needs.{needs}
 use mir.Syntax.{w64}
 use mir.Val.{SFits}
 use mir.ValLaws.{toZ-ofZ}
-use Rattle.broker.specs.Broker.{expired}
+use Rattle.broker.specs.Broker.{timesExpired}
 use Rattle.broker.proofs.expired.Statement.{statement}
 use Rattle.broker.proofs.expired.Tie as tie
 
 returns : tie.Need-returns
-unfolding expired
+unfolding timesExpired
 returns c =
     let a = c .before .before .before .before .before .args in
     let f : SFits w64 (a .t .expiration) = search needs in
@@ -16,7 +16,7 @@ returns c =
     rw (toZ-ofZ w64 (a .t .expiration) f, toZ-ofZ w64 (a .now) g, rw (toZ-ofZ w64 (a .t .expiration) f) at (c .before .before .if1 .taken))
 
 returns-2 : tie.Need-returns-2
-unfolding expired
+unfolding timesExpired
 returns-2 c =
     let a = c .before .before .before .args in
     let f : SFits w64 (a .t .expiration) = search needs in

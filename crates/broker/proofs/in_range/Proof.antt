@@ -4,7 +4,7 @@ use borrow.Author.Needs.{needs}
 use borrow.Author.Tests.{not-true, not-false}
 use mir.Syntax.{w64}
 use mir.ValLaws.{toZ-ofZ}
-use Rattle.broker.specs.Broker.{inRange}
+use Rattle.broker.specs.Broker.{timesAndSettingsOk}
 use Rattle.broker.proofs.in_range.Statement.{statement}
 use Rattle.broker.proofs.in_range.Tie as tie
 
@@ -12,7 +12,7 @@ times-in-range-requires : tie.Need-times-in-range-requires
 times-in-range-requires c κs = search needs
 
 returns : tie.Need-returns
-unfolding inRange
+unfolding timesAndSettingsOk
 returns c = simp (sym (c .before .times-in-range .ensures) ∙ not-true _ (c .if1 .taken))
 
 settings-in-range-requires : tie.Need-settings-in-range-requires
@@ -22,7 +22,7 @@ within-requires : tie.Need-within-requires
 within-requires c κs = search needs
 
 returns-2 : tie.Need-returns-2
-unfolding inRange
+unfolding timesAndSettingsOk
 returns-2 c =
     let s = c .before .before .before .before .before in
     let e = sym (c .before .before .before .before .times-in-range .ensures) ∙ not-false _ (c .before .before .before .if1 .left) in
@@ -30,7 +30,7 @@ returns-2 c =
     simp (e, f) (rw (toZ-ofZ w64 (s .args .now) (s .fits .now)) at (c .within .ensures))
 
 returns-3 : tie.Need-returns-3
-unfolding inRange
+unfolding timesAndSettingsOk
 returns-3 c =
     let e = sym (c .before .before .before .times-in-range .ensures) ∙ not-false _ (c .before .before .if1 .left) in
     let f = sym (c .before .settings-in-range .ensures) ∙ c .if2 .left in

@@ -4,7 +4,8 @@ use mathlib.Core.List.{List}
 use Prim.Native.Nat.{ℕ}
 use native.Mathlib.Omega.{arith}
 use denote.Ref.{now}
-use Rattle.table.specs.Table.{Row, hasSeq, removeRows, removedRows}
+use Rattle.definition.specs.Layout.{Row}
+use Rattle.table.specs.Table.{hasSeq, removeRows, removedRows}
 use Rattle.browsers.specs.Serving.{dropped}
 use Rattle.browsers.proofs.Dropped.{gone-few}
 use borrow.Author.Needs.{needs}

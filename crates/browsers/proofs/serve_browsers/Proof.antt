@@ -10,19 +10,19 @@ use Rattle.state.specs.Fits.{fits}
 use Rattle.state.proofs.Answers.{first-no, second-no, third-no, three-yes, leaves-no}
 use Rattle.state.proofs.Fitting.{fits-facts}
 use Rattle.state.proofs.Leaves.{when-leaves}
-use Rattle.browsers.specs.Browsers.{browsed, Served}
+use Rattle.browsers.specs.Browsers.{browsed, BrowsersServed}
 use Rattle.browsers.proofs.serve_browsers.Statement.{statement}
 use Rattle.browsers.proofs.serve_browsers.Tie as tie
 
 returns : tie.Need-returns
 returns c =
     let a = c .before .args in
-    leaves-no _ (Served (a .d) (a .d) (now (a .subs))) (browsed (a .clock)) (a .d) (now (a .subs)) (now (a .rows)) (now (a .events)) (second-no (fits (now (a .subs)) (a .d) (length (now (a .rows))) (length (now (a .events)))) (leb (a .clock) (2 ^ 62)) (a .d .queue) (lt-leb (a .clock) (2 ^ 62) (c .if1 .taken)))
+    leaves-no _ (BrowsersServed (a .d) (a .d) (now (a .subs))) (browsed (a .clock)) (a .d) (now (a .subs)) (now (a .rows)) (now (a .events)) (second-no (fits (now (a .subs)) (a .d) (length (now (a .rows))) (length (now (a .events)))) (leb (a .clock) (2 ^ 62)) (a .d .queue) (lt-leb (a .clock) (2 ^ 62) (c .if1 .taken)))
 
 returns-2 : tie.Need-returns-2
 returns-2 c =
     let a = c .before .before .before .args in
-    leaves-no _ (Served (a .d) (a .d) (now (a .subs))) (browsed (a .clock)) (a .d) (now (a .subs)) (now (a .rows)) (now (a .events)) (third-no (fits (now (a .subs)) (a .d) (length (now (a .rows))) (length (now (a .events)))) (leb (a .clock) (2 ^ 62)) (a .d .queue) (not-true _ (c .if2 .taken)))
+    leaves-no _ (BrowsersServed (a .d) (a .d) (now (a .subs))) (browsed (a .clock)) (a .d) (now (a .subs)) (now (a .rows)) (now (a .events)) (third-no (fits (now (a .subs)) (a .d) (length (now (a .rows))) (length (now (a .events)))) (leb (a .clock) (2 ^ 62)) (a .d .queue) (not-true _ (c .if2 .taken)))
 
 fits-requires : tie.Need-fits-requires
 fits-requires c κs = search needs
@@ -33,7 +33,7 @@ same-length c = search needs
 returns-3 : tie.Need-returns-3
 returns-3 c =
     let a = c .before .before .before .before .before .before .args in
-    leaves-no _ (Served (a .d) (a .d) (now (a .subs))) (browsed (a .clock)) (a .d) (now (a .subs)) (now (a .rows)) (now (a .events)) (first-no (fits (now (a .subs)) (a .d) (length (now (a .rows))) (length (now (a .events)))) (leb (a .clock) (2 ^ 62)) (a .d .queue) (sym (c .before .fits2 .ensures) ∙ not-true _ (c .if3 .taken)))
+    leaves-no _ (BrowsersServed (a .d) (a .d) (now (a .subs))) (browsed (a .clock)) (a .d) (now (a .subs)) (now (a .rows)) (now (a .events)) (first-no (fits (now (a .subs)) (a .d) (length (now (a .rows))) (length (now (a .events)))) (leb (a .clock) (2 ^ 62)) (a .d .queue) (sym (c .before .fits2 .ensures) ∙ not-true _ (c .if3 .taken)))
 
 serve-each-requires : tie.Need-serve-each-requires
 serve-each-requires c κs =

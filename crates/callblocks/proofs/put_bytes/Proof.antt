@@ -3,7 +3,7 @@ use Prim.Native.Nat.{ℕ, _+_, _-_, _≤_, _/_}
 use mathlib.Core.Path.{_≡_, sym, ap, _∙_}
 use lib.ListN.{length, set, length-set}
 use lib.Seq.{sets}
-use Rattle.callblocks.specs.Packed.{bytesOf}
+use Rattle.callblocks.specs.Packed.{lowBytes}
 use Rattle.callblocks.proofs.Bytes.{bytes-length, one-byte, no-byte}
 use native.Mathlib.Omega.{arith}
 use borrow.Author.Needs.{needs}
@@ -11,7 +11,7 @@ use Rattle.callblocks.proofs.put_bytes.Statement.{statement}
 use Rattle.callblocks.proofs.put_bytes.Tie as tie
 
 abbrev Inv-loop : tie.InvT-loop
-Inv-loop block₀ at size n left₀ rest₀ next₀ block left rest next = (left ≤ size) × (next + left ≡ at + size) × (length block ≡ length block₀) × (sets block next (bytesOf left rest) ≡ sets block₀ at (bytesOf size n))
+Inv-loop block₀ at size n left₀ rest₀ next₀ block left rest next = (left ≤ size) × (next + left ≡ at + size) × (length block ≡ length block₀) × (sets block next (lowBytes left rest) ≡ sets block₀ at (lowBytes size n))
 
 abbrev μ-loop : tie.MeasureT-loop
 μ-loop block₀ at size n left₀ rest₀ next₀ block left rest next = left
@@ -35,7 +35,7 @@ loop-less : tie.Need-loop-less Inv-loop μ-loop
 loop-less c = search needs
 
 loop-again : tie.Need-loop-again Inv-loop μ-loop
-loop-again c = let g = c .before .before in let v = g .loop .inv in (omega arith, omega arith, length-set (g .loop .block) (g .loop .next) (c .low .result) ∙ v .2, ap (λ (b : ℕ). sets (set (g .loop .block) (g .loop .next) b) (g .loop .next + 1) (bytesOf (g .loop .left - 1) (g .loop .rest / 256))) (c .low .ensures) ∙ one-byte (g .loop .block) (g .loop .next) (g .loop .left) (g .loop .rest) (c .before .loop-test .taken) ∙ v .3)
+loop-again c = let g = c .before .before in let v = g .loop .inv in (omega arith, omega arith, length-set (g .loop .block) (g .loop .next) (c .low .result) ∙ v .2, ap (λ (b : ℕ). sets (set (g .loop .block) (g .loop .next) b) (g .loop .next + 1) (lowBytes (g .loop .left - 1) (g .loop .rest / 256))) (c .low .ensures) ∙ one-byte (g .loop .block) (g .loop .next) (g .loop .left) (g .loop .rest) (c .before .loop-test .taken) ∙ v .3)
 
 same-length : tie.Need-same-length Inv-loop μ-loop
 same-length c = search needs

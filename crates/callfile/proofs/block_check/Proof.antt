@@ -1,5 +1,4 @@
 -- `callfile::block_check` meets its contract. Assumes nothing.
-use mathlib.Core.Path.{_∙_, sym}
 use borrow.Author.Tests.{le-leb, lt-leb}
 use lib.ListN.{length}
 use Rattle.callfile.specs.Blocks.{checkIn}

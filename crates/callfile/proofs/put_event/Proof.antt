@@ -3,7 +3,7 @@ use Prim.Native.Nat.{ℕ}
 use mathlib.Core.Path.{_≡_, sym, _∙_}
 use mathlib.Core.List.{List, []}
 use borrow.Author.Tests.{leb-true, not-true, not-false, ne-eqb}
-use Rattle.callfile.specs.Lines.{eventLine, letterAt, messageAt, nullAt, eventAt, lineOf, wordsLine}
+use Rattle.callfile.specs.Lines.{eventLine, letterAt, messageAt, nullAt, eventAt, eventLineOf, wordsLine}
 use Rattle.callfile.proofs.Parts.{whole-line, no-room, nothing}
 use borrow.Author.Needs.{needs}
 use Rattle.callfile.proofs.put_event.Statement.{statement}
@@ -31,7 +31,7 @@ same-length : tie.Need-same-length
 same-length c = search needs
 
 returns-2 : tie.Need-returns-2
-unfolding eventAt lineOf
+unfolding eventAt eventLineOf
 returns-2 c =
     let l = c .before .before in
     let s = l .before .before .before in
@@ -44,7 +44,7 @@ same-length-2 : tie.Need-same-length-2
 same-length-2 c = search needs
 
 returns-3 : tie.Need-returns-3
-unfolding eventAt lineOf
+unfolding eventAt eventLineOf
 returns-3 c =
     let l = c .before .before in
     let s = l .before .before .before in
@@ -57,7 +57,7 @@ same-length-3 : tie.Need-same-length-3
 same-length-3 c = search needs
 
 returns-4 : tie.Need-returns-4
-unfolding eventAt lineOf
+unfolding eventAt eventLineOf
 returns-4 c =
     let l = c .before .before in
     let s = l .before .before .before in
@@ -67,7 +67,7 @@ returns-4 c =
     rw (sym e) (whole-line t (l .null-line .ensures))
 
 returns-5 : tie.Need-returns-5
-unfolding eventAt lineOf
+unfolding eventAt eventLineOf
 returns-5 c =
     let s = c .before in
     let a = s .before .before .before .args in

@@ -1,6 +1,6 @@
 -- `calltext::call_of` meets its contract. Assumes nothing.
 use mathlib.Core.Path.{ap}
-use Rattle.calltext.specs.Lines.{parsed}
+use Rattle.calltext.specs.Lines.{parsedCall}
 use borrow.Author.Needs.{needs}
 use Rattle.calltext.proofs.call_of.Statement.{statement}
 use Rattle.calltext.proofs.call_of.Tie as tie
@@ -36,7 +36,7 @@ new-requires : tie.Need-new-requires
 new-requires c κs = search needs
 
 returns : tie.Need-returns
-returns c = ap (parsed 0) (c .new .ensures)
+returns c = ap (parsedCall 0) (c .new .ensures)
 
 pub call-of-spec : {M : Type 1} → statement M
 call-of-spec =

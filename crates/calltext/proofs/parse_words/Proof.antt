@@ -4,7 +4,7 @@ use mathlib.Core.Path.{sym, ap, _∙_}
 use lib.ListN.{drop}
 use Rattle.textwords.specs.Text.{wordsOf}
 use Rattle.textwords.proofs.Words.{to-word, at-word, word-within, passed, no-words}
-use Rattle.calltext.specs.Lines.{named, callIn}
+use Rattle.calltext.specs.Lines.{namedCall, callIn}
 use Rattle.calltext.proofs.Gathering.{no-call, one-call}
 use native.Mathlib.Omega.{arith}
 use borrow.Author.Needs.{needs}
@@ -39,7 +39,7 @@ named-from-requires : tie.Need-named-from-requires
 named-from-requires c κs = let t = c .before .before .before .before .before .before .args .text .now in let s = c .before .before .before .before .scan in let w = word-within t 0 (s .result) (omega arith) (s .ensures) in let p = passed t (s .result) (c .before .before .scan2 .result) (omega arith) (at-word t 0 (s .result) (omega arith) (s .ensures)) (c .before .before .scan2 .ensures) in omega (arith, p .within)
 
 returns-2 : tie.Need-returns-2
-returns-2 c = let t = c .before .before .before .before .before .before .before .args .text .now in let s = c .before .before .before .before .before .scan in let w = word-within t 0 (s .result) (omega arith) (s .ensures) in let p = passed t (s .result) (c .before .before .before .scan2 .result) (omega arith) (at-word t 0 (s .result) (omega arith) (s .ensures)) (c .before .before .before .scan2 .ensures) in c .named-from .ensures ∙ ap (λ (k : ℕ). named k (wordsOf (drop (c .before .before .before .scan2 .result) t))) (c .before .place-of .ensures) ∙ sym (one-call _ _) ∙ ap callIn (sym (to-word t 0 (s .result) (omega arith) (s .ensures) ∙ p .words))
+returns-2 c = let t = c .before .before .before .before .before .before .before .args .text .now in let s = c .before .before .before .before .before .scan in let w = word-within t 0 (s .result) (omega arith) (s .ensures) in let p = passed t (s .result) (c .before .before .before .scan2 .result) (omega arith) (at-word t 0 (s .result) (omega arith) (s .ensures)) (c .before .before .before .scan2 .ensures) in c .named-from .ensures ∙ ap (λ (k : ℕ). namedCall k (wordsOf (drop (c .before .before .before .scan2 .result) t))) (c .before .place-of .ensures) ∙ sym (one-call _ _) ∙ ap callIn (sym (to-word t 0 (s .result) (omega arith) (s .ensures) ∙ p .words))
 
 pub parse-words-spec : {M : Type 1} → statement M
 parse-words-spec =

@@ -2,7 +2,7 @@
 use Prim.Native.Nat.{_≤_, _-_}
 use mathlib.Core.Path.{_≡_, refl, sym, _∙_}
 use lib.ListN.{drop}
-use Rattle.calltext.specs.Names.{names, placeIn, placeOf}
+use Rattle.calltext.specs.Names.{names, placeIn, namePlace}
 use Rattle.calltext.proofs.Tables.{place-hit, place-miss, place-end}
 use native.Mathlib.Omega.{arith}
 use borrow.Author.Needs.{needs}
@@ -10,13 +10,13 @@ use Rattle.calltext.proofs.place_of.Statement.{statement}
 use Rattle.calltext.proofs.place_of.Tie as tie
 
 abbrev Inv-loop : tie.InvT-loop
-Inv-loop word k₀ k = (k ≤ 17) × (placeIn (drop k names) k word ≡ placeOf word)
+Inv-loop word k₀ k = (k ≤ 17) × (placeIn (drop k names) k word ≡ namePlace word)
 
 abbrev μ-loop : tie.MeasureT-loop
 μ-loop word k₀ k = 17 - k
 
 loop-holds : tie.Need-loop-holds Inv-loop μ-loop
-unfolding placeOf
+unfolding namePlace
 loop-holds c = (omega arith, refl)
 
 is-name-requires : tie.Need-is-name-requires Inv-loop μ-loop

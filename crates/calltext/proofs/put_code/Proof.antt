@@ -1,6 +1,7 @@
 -- `calltext::put_code` meets its contract. Assumes nothing.
 use mathlib.Core.Bool.{false}
-use Rattle.calltext.proofs.Showing.{line-puts, field-length, nothing, code-known, code-raw}
+use Rattle.callfile.proofs.Parts.{line-puts}
+use Rattle.calltext.proofs.Showing.{field-length, nothing, code-known, code-raw}
 use native.Mathlib.Omega.{arith}
 use borrow.Author.Needs.{needs}
 use Rattle.calltext.proofs.put_code.Statement.{statement}

@@ -3,10 +3,10 @@ use Prim.Native.Nat.{_+_, _-_, _*_, _≤_}
 use mathlib.Core.Path.{_≡_}
 use lib.ListN.{length, getD}
 use Rattle.callfile.specs.Placed.{Puts}
-use Rattle.callfile.proofs.Parts.{then}
+use Rattle.callfile.proofs.Parts.{then, line-puts}
 use Rattle.calltext.specs.Names.{minusAt}
 use Rattle.calltext.specs.Shown.{fields}
-use Rattle.calltext.proofs.Showing.{line-puts, field-length, nothing, no-field, one-field}
+use Rattle.calltext.proofs.Showing.{field-length, nothing, no-field, one-field}
 use native.Mathlib.Omega.{arith}
 use borrow.Author.Needs.{needs}
 use Rattle.calltext.proofs.put_fields.Statement.{statement}

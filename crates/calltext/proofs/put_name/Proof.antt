@@ -4,9 +4,9 @@ use mathlib.Core.Path.{_≡_, sym}
 use lib.ListN.{take}
 use lib.Seq.{take-all}
 use Rattle.callfile.specs.Placed.{Puts}
-use Rattle.callfile.proofs.Parts.{then}
+use Rattle.callfile.proofs.Parts.{then, take-more, line-puts}
 use Rattle.calltext.specs.Names.{nameAt}
-use Rattle.calltext.proofs.Showing.{nothing, name-more}
+use Rattle.calltext.proofs.Showing.{nothing}
 use native.Mathlib.Omega.{arith}
 use borrow.Author.Needs.{needs}
 use Rattle.calltext.proofs.put_name.Statement.{statement}
@@ -27,8 +27,8 @@ loop-holds c = let a = c .before .before .args in (omega arith, omega arith, not
 name-byte-requires : tie.Need-name-byte-requires Inv-loop μ-loop
 name-byte-requires c κs = search needs
 
-put-requires : tie.Need-put-requires Inv-loop μ-loop
-put-requires c κs = search needs
+put-byte-requires : tie.Need-put-byte-requires Inv-loop μ-loop
+put-byte-requires c κs = search needs
 
 add-j : tie.Need-add-j Inv-loop μ-loop
 add-j c = search needs
@@ -37,7 +37,7 @@ loop-less : tie.Need-loop-less Inv-loop μ-loop
 loop-less c = search needs
 
 loop-again : tie.Need-loop-again Inv-loop μ-loop
-loop-again c = let g = c .before .before .before .before .before .before in let a = g .before .before .before .args in let v = g .loop .inv in let p = c .before .before .put .ensures in (omega arith, omega (arith, p .next), rw (name-more (nameAt (a .place)) (g .loop .j) (omega (arith, g .before .name-length .ensures .0)), sym (c .before .before .before .name-byte .ensures)) (then (v .2) p))
+loop-again c = let g = c .before .before .before .before .before .before in let a = g .before .before .before .args in let v = g .loop .inv in let p = line-puts (omega (arith, v .2 .same)) (omega arith) (c .before .before .put-byte .ensures) in (omega arith, omega (arith, p .next), rw (take-more (nameAt (a .place)) (g .loop .j) (omega (arith, g .before .name-length .ensures .0)), sym (c .before .before .before .name-byte .ensures)) (then (v .2) p))
 
 same-length : tie.Need-same-length Inv-loop μ-loop
 same-length c = search needs
@@ -54,7 +54,7 @@ put-name-spec =
     name-length-requires
     loop-holds
     name-byte-requires
-    put-requires
+    put-byte-requires
     add-j
     loop-less
     loop-again

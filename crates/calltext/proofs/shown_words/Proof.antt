@@ -2,7 +2,7 @@
 use Prim.Native.Nat.{_≤_}
 use mathlib.Core.Path.{_≡_, refl, sym, _∙_}
 use lib.ListN.{length}
-use Rattle.calltext.specs.Shown.{shown}
+use Rattle.calltext.specs.Shown.{shownWords}
 use Rattle.calltext.proofs.Showing.{shown-kind, shown-word, shown-less, shown-none}
 use native.Mathlib.Omega.{arith}
 use borrow.Author.Needs.{needs}
@@ -10,7 +10,7 @@ use Rattle.calltext.proofs.shown_words.Statement.{statement}
 use Rattle.calltext.proofs.shown_words.Tie as tie
 
 abbrev Inv-loop : tie.InvT-loop
-Inv-loop place w n₀ n = (n ≤ 8) × (length w ≡ 8) × (shown place w n ≡ shown place w 8)
+Inv-loop place w n₀ n = (n ≤ 8) × (length w ≡ 8) × (shownWords place w n ≡ shownWords place w 8)
 
 abbrev μ-loop : tie.MeasureT-loop
 μ-loop place w n₀ n = n

@@ -1,4 +1,5 @@
 -- `calltext::text_line` meets its contract. Assumes nothing.
+use Rattle.callfile.proofs.Parts.{line-puts}
 use Rattle.calltext.proofs.Showing.{text-parts}
 use native.Mathlib.Omega.{arith}
 use borrow.Author.Needs.{needs}
@@ -20,14 +21,19 @@ shown-words-requires c κs = search needs
 put-fields-requires : tie.Need-put-fields-requires
 put-fields-requires c κs = search needs
 
-put-requires : tie.Need-put-requires
-put-requires c κs = search needs
+put-byte-requires : tie.Need-put-byte-requires
+put-byte-requires c κs = search needs
 
 same-length : tie.Need-same-length
 same-length c = search needs
 
 returns : tie.Need-returns
-returns c = (text-parts (c .before .before .before .before .before .before .before .before .before .before .before .before .before .before .before .before .before .before .before .before .args .c) (c .before .before .before .before .before .before .before .before .before .before .before .before .before .before .before .before .before .place-for .ensures .0) (c .before .before .before .before .before .before .before .before .shown-words .ensures .0) (c .before .before .before .before .before .before .before .before .before .before .before .before .before .before .before .put-name .ensures .0) (c .before .before .before .before .before .before .before .before .before .before .before .put-code .ensures .0) (c .before .before .before .before .before .before .put-fields .ensures .0) (c .before .before .put .ensures), omega (arith, c .before .before .put .ensures .next, c .before .before .before .before .before .before .put-fields .ensures .1, c .before .before .before .before .before .before .before .before .before .before .before .put-code .ensures .1, c .before .before .before .before .before .before .before .before .before .before .before .before .before .before .before .put-name .ensures .1))
+returns c =
+    let name = c .before .before .before .before .before .before .before .before .before .before .before .before .before .before .before .put-name .ensures in
+    let code = c .before .before .before .before .before .before .before .before .before .before .before .put-code .ensures in
+    let fields = c .before .before .before .before .before .before .put-fields .ensures in
+    let end = line-puts (omega (arith, name .0 .same, name .1, code .0 .same, code .1, fields .0 .same, fields .1)) (omega arith) (c .before .before .put-byte .ensures) in
+    (text-parts (c .before .before .before .before .before .before .before .before .before .before .before .before .before .before .before .before .before .before .before .before .args .c) (c .before .before .before .before .before .before .before .before .before .before .before .before .before .before .before .before .before .place-for .ensures .0) (c .before .before .before .before .before .before .before .before .shown-words .ensures .0) (name .0) (code .0) (fields .0) end, omega (arith, end .next, fields .1, code .1, name .1))
 
 pub text-line-spec : {M : Type 1} → statement M
 text-line-spec =
@@ -38,6 +44,6 @@ text-line-spec =
     put-code-requires
     shown-words-requires
     put-fields-requires
-    put-requires
+    put-byte-requires
     same-length
     returns)

@@ -10,7 +10,7 @@ use lib.Seq.{slice}
 use native.Mathlib.Nat.{zero-add}
 use Rattle.definition.specs.Base.{tally}
 use Rattle.consumers.specs.Consumers.{acceptsOf}
-use Rattle.consumers.specs.Table.{takes}
+use Rattle.consumers.specs.Table.{takesEntry}
 use Rattle.consumers.proofs.Table.{tally-hit, tally-miss, tally-none}
 use native.Mathlib.Omega.{arith}
 use borrow.Author.Needs.{needs}
@@ -18,7 +18,7 @@ use Rattle.consumers.proofs.accepting.Statement.{statement}
 use Rattle.consumers.proofs.accepting.Tie as tie
 
 abbrev Inv-loop : tie.InvT-loop
-Inv-loop subs n e end count₀ i₀ count i = (i ≤ end) × (count ≤ i) × (count + tally (takes e) (slice i n subs) ≡ tally (takes e) (take n subs))
+Inv-loop subs n e end count₀ i₀ count i = (i ≤ end) × (count ≤ i) × (count + tally (takesEntry e) (slice i n subs) ≡ tally (takesEntry e) (take n subs))
 
 abbrev μ-loop : tie.MeasureT-loop
 μ-loop subs n e end count₀ i₀ count i = end - i
@@ -54,19 +54,19 @@ loop-again : tie.Need-loop-again Inv-loop μ-loop
 loop-again c = let l = c .before .before .before .before .before .loop in
     let a = c .before .before .before .before .before .before .before .args in
     let h : l .i < min (a .n) (length (now (a .subs))) = omega arith in
-    let t : c .before .accepts .result ≡ takes (a .e) (getD (now (a .subs)) (l .i) []) = c .before .accepts .ensures ∙ ap (λ (s : Sub). acceptsOf s (a .e)) (c .before .before .sub-of .ensures) in (
+    let t : c .before .accepts .result ≡ takesEntry (a .e) (getD (now (a .subs)) (l .i) []) = c .before .accepts .ensures ∙ ap (λ (s : Sub). acceptsOf s (a .e)) (c .before .before .sub-of .ensures) in (
       search needs,
       ⊎-elim (λ w. omega arith) (λ w. omega arith) (c .if1 .came),
       ⊎-elim
-          (λ w. omega (arith, tally-hit (l .i) (a .n) (now (a .subs)) h (takes (a .e)) (sym t ∙ w .0 .taken)))
-          (λ w. omega (arith, tally-miss (l .i) (a .n) (now (a .subs)) h (takes (a .e)) (sym t ∙ w .0 .left)))
+          (λ w. omega (arith, tally-hit (l .i) (a .n) (now (a .subs)) h (takesEntry (a .e)) (sym t ∙ w .0 .taken)))
+          (λ w. omega (arith, tally-miss (l .i) (a .n) (now (a .subs)) h (takesEntry (a .e)) (sym t ∙ w .0 .left)))
           (c .if1 .came),
     )
 
 returns : tie.Need-returns Inv-loop μ-loop
 returns c = let l = c .before .loop in
     let a = c .before .before .before .args in
-    omega (arith, tally-none (l .i) (a .n) (now (a .subs)) (omega arith) (takes (a .e)), l .inv .2)
+    omega (arith, tally-none (l .i) (a .n) (now (a .subs)) (omega arith) (takesEntry (a .e)), l .inv .2)
 
 pub accepting-spec : {M : Type 1} → statement M
 accepting-spec =

@@ -3,7 +3,7 @@ use mathlib.Core.Path.{_≡_, refl, _∙_}
 use mathlib.Core.List.{[]}
 use denote.Ref.{now}
 use lib.ListN.{getD, List·getD-eq-default}
-use Rattle.consumers.specs.Consumers.{subOf}
+use Rattle.consumers.specs.Consumers.{rowSub}
 use borrow.Author.Needs.{needs}
 use Rattle.consumers.proofs.load.Statement.{statement}
 use Rattle.consumers.proofs.load.Tie as tie
@@ -24,7 +24,7 @@ returns : tie.Need-returns
 returns c = search needs
 
 returns-2 : tie.Need-returns-2
-unfolding subOf
+unfolding rowSub
 returns-2 c = let a = c .before .before .args in
     let e : getD (now (a .subs)) (a .i) [] ≡ [] = List·getD-eq-default (now (a .subs)) [] {n = a .i} (c .before .if1 .left) in
     c .sub-of2 .ensures ∙ rw e refl

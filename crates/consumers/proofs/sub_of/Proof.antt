@@ -1,6 +1,6 @@
 -- `consumers::sub_of` meets its contract. Assumes nothing.
 use mathlib.Core.Path.{refl}
-use Rattle.consumers.specs.Consumers.{subOf}
+use Rattle.consumers.specs.Consumers.{rowSub}
 use borrow.Author.Needs.{needs}
 use Rattle.consumers.proofs.sub_of.Statement.{statement}
 use Rattle.consumers.proofs.sub_of.Tie as tie
@@ -54,7 +54,7 @@ array-read-t56 : tie.Need-array-read-t56
 array-read-t56 c = search needs
 
 returns : tie.Need-returns
-unfolding subOf
+unfolding rowSub
 returns c = refl
 
 pub sub-of-spec : {M : Type 1} → statement M

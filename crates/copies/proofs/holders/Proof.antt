@@ -8,7 +8,7 @@ use mir.Val.{boolByte}
 use Rattle.words.specs.Pick.{if_then_else_}
 use Rattle.definition.specs.Base.{tally}
 use Rattle.definition.specs.Layout.{Row}
-use Rattle.copies.specs.Copies.{holds}
+use Rattle.copies.specs.Copies.{mayCopy}
 use Rattle.copies.proofs.Laws.{one, byte-small, tally-turn, tally-end}
 use native.Mathlib.Omega.{arith}
 use borrow.Author.Needs.{needs}
@@ -16,7 +16,7 @@ use Rattle.copies.proofs.holders.Statement.{statement}
 use Rattle.copies.proofs.holders.Tie as tie
 
 abbrev Inv-loop : tie.InvT-loop
-Inv-loop subs n on-queue count₀ i₀ count i = (i ≤ n) × (count ≤ i) × (count + tally (holds on-queue) (slice i n subs) ≡ tally (holds on-queue) (take n subs))
+Inv-loop subs n on-queue count₀ i₀ count i = (i ≤ n) × (count ≤ i) × (count + tally (mayCopy on-queue) (slice i n subs) ≡ tally (mayCopy on-queue) (take n subs))
 
 abbrev μ-loop : tie.MeasureT-loop
 μ-loop subs n on-queue count₀ i₀ count i = n - i
@@ -52,14 +52,14 @@ loop-again c =
     let subs = a .subs .now in
     let h = c .before .before .loop-test .taken in
     let w : Row = getD subs (p .loop .i) [] in
-    let e : boolByte (c .holds .result) ≡ (if holds (a .on-queue) w then 1 else 0) = ap boolByte (c .holds .ensures) ∙ one (holds (a .on-queue) w) in
-    (omega arith, omega (arith, byte-small (c .holds .result)), omega (arith, e, tally-turn subs (p .loop .i) (a .n) (p .before .pre) (holds (a .on-queue)) h))
+    let e : boolByte (c .holds .result) ≡ (if mayCopy (a .on-queue) w then 1 else 0) = ap boolByte (c .holds .ensures) ∙ one (mayCopy (a .on-queue) w) in
+    (omega arith, omega (arith, byte-small (c .holds .result)), omega (arith, e, tally-turn subs (p .loop .i) (a .n) (p .before .pre) (mayCopy (a .on-queue)) h))
 
 returns : tie.Need-returns Inv-loop μ-loop
 returns c =
     let p = c .before in
     let a = p .before .args in
-    omega (arith, tally-end (a .subs .now) (p .loop .i) (a .n) (holds (a .on-queue)) (omega arith))
+    omega (arith, tally-end (a .subs .now) (p .loop .i) (a .n) (mayCopy (a .on-queue)) (omega arith))
 
 pub holders-spec : {M : Type 1} → statement M
 holders-spec =

@@ -10,7 +10,7 @@ use lib.Seq.{slice}
 use Rattle.definition.specs.Base.{all}
 use Rattle.definition.specs.Layout.{Row}
 use Rattle.consumers.specs.declared.Sub.{Sub}
-use Rattle.consumers.specs.Consumers.{subOf}
+use Rattle.consumers.specs.Consumers.{rowSub}
 use Rattle.consumers.proofs.Table.{all-next, all-not, all-none}
 use Rattle.dispatch.specs.Dispatch.{browses}
 use Rattle.dispatch.proofs.Guard.{lacks, one-short, one-by}
@@ -18,7 +18,7 @@ use Rattle.dispatch.proofs.any_browser.Statement.{statement}
 use Rattle.dispatch.proofs.any_browser.Tie as tie
 
 abbrev shows : Row → Bool
-shows w = subOf w .browser
+shows w = rowSub w .browser
 
 abbrev Inv-loop : tie.InvT-loop
 Inv-loop subs n i₀ i = (i ≤ n) × (all (lacks shows) (take n subs) ≡ all (lacks shows) (slice i n subs))

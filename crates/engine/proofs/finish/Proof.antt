@@ -6,7 +6,7 @@ use lib.Dec.{eqb}
 use denote.Ref.{now}
 use Rattle.definition.proofs.Tests.{if-true, if-false}
 use Rattle.state.specs.declared.Head.{Head}
-use Rattle.state.specs.State.{stored}
+use Rattle.state.specs.State.{storedHead}
 use Rattle.engine.specs.Called.{outcome}
 use Rattle.engine.specs.Opened.{counted}
 use borrow.Author.Needs.{needs}
@@ -22,7 +22,7 @@ returns : tie.Need-returns
 returns c =
     let a = c .before .before .before .before .args in
     let w : eqb (a .a .refusal) 0 ≡ false = ne-eqb (a .a .refusal) 0 (c .before .if1 .taken) in
-    (c .refused .ensures ∙ sym (if-false (outcome 0 (a .a .answer) (a .a .head .events)) (outcome (a .a .refusal) 0 0) w), sym (if-false (stored (counted (a .a .head)) (now (a .head))) (now (a .head)) w))
+    (c .refused .ensures ∙ sym (if-false (outcome 0 (a .a .answer) (a .a .head .events)) (outcome (a .a .refusal) 0 0) w), sym (if-false (storedHead (counted (a .a .head)) (now (a .head))) (now (a .head)) w))
 
 -- src/lib.rt:91:24
 counted-requires : tie.Need-counted-requires
@@ -41,7 +41,7 @@ returns-2 : tie.Need-returns-2
 returns-2 c =
     let a = c .before .before .before .before .before .before .before .before .before .args in
     let w : eqb (a .a .refusal) 0 ≡ true = eq-eqb (a .a .refusal) 0 (c .before .before .before .before .before .before .if1 .left) in
-    (sym (if-true (outcome 0 (a .a .answer) (a .a .head .events)) (outcome (a .a .refusal) 0 0) w), c .before .before .store .ensures ∙ ap (λ (d : Head). stored d (now (a .head))) (c .before .before .before .counted .ensures) ∙ sym (if-true (stored (counted (a .a .head)) (now (a .head))) (now (a .head)) w))
+    (sym (if-true (outcome 0 (a .a .answer) (a .a .head .events)) (outcome (a .a .refusal) 0 0) w), c .before .before .store .ensures ∙ ap (λ (d : Head). storedHead d (now (a .head))) (c .before .before .before .counted .ensures) ∙ sym (if-true (storedHead (counted (a .a .head)) (now (a .head))) (now (a .head)) w))
 
 pub finish-spec : {M : Type 1} → statement M
 finish-spec =

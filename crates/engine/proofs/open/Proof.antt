@@ -6,7 +6,7 @@ use denote.Ref.{now}
 use Rattle.definition.specs.Words.{openWords}
 use Rattle.definition.proofs.Tests.{if-true, if-false}
 use Rattle.state.specs.declared.Head.{Head}
-use Rattle.state.specs.State.{stored}
+use Rattle.state.specs.State.{storedHead}
 use Rattle.engine.specs.Called.{outcome}
 use Rattle.engine.specs.Opened.{openedHead}
 use borrow.Author.Needs.{needs}
@@ -26,7 +26,7 @@ returns : tie.Need-returns
 returns c =
     let a = c .before .before .before .before .args in
     let w : openWords (a .c .words) ≡ false = sym (c .before .before .opens .ensures) ∙ not-true _ (c .before .if1 .taken) in
-    (c .refused .ensures ∙ sym (if-false (outcome 0 0 0) (outcome 3 0 0) w), sym (if-false (stored (openedHead (a .c .words)) (now (a .head))) (now (a .head)) w))
+    (c .refused .ensures ∙ sym (if-false (outcome 0 0 0) (outcome 3 0 0) w), sym (if-false (storedHead (openedHead (a .c .words)) (now (a .head))) (now (a .head)) w))
 
 -- src/lib.rt:73:9
 opened-requires : tie.Need-opened-requires
@@ -45,7 +45,7 @@ returns-2 : tie.Need-returns-2
 returns-2 c =
     let a = c .before .before .before .before .before .before .before .before .before .args in
     let w : openWords (a .c .words) ≡ true = sym (c .before .before .before .before .before .before .before .opens .ensures) ∙ not-false _ (c .before .before .before .before .before .before .if1 .left) in
-    (sym (if-true (outcome 0 0 0) (outcome 3 0 0) w), c .before .before .store .ensures ∙ ap (λ (d : Head). stored d (now (a .head))) (c .before .before .before .before .opened .ensures) ∙ sym (if-true (stored (openedHead (a .c .words)) (now (a .head))) (now (a .head)) w))
+    (sym (if-true (outcome 0 0 0) (outcome 3 0 0) w), c .before .before .store .ensures ∙ ap (λ (d : Head). storedHead d (now (a .head))) (c .before .before .before .before .opened .ensures) ∙ sym (if-true (storedHead (openedHead (a .c .words)) (now (a .head))) (now (a .head)) w))
 
 pub open-spec : {M : Type 1} → statement M
 open-spec =

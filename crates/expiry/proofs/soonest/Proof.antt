@@ -7,8 +7,7 @@ use native.Mathlib.Omega.{arith}
 use denote.Ref.{now}
 use lib.Seq.{slice}
 use Rattle.entry.specs.Entry.{entryOf}
-use Rattle.definition.specs.Destination.{soonest}
-use Rattle.expiry.specs.Sweep.{isSooner}
+use Rattle.definition.specs.Destination.{soonest, isSooner}
 use Rattle.expiry.proofs.Lists.{foundAt, found-none, found-some, soonest-start, soonest-not, soonest-first, soonest-sooner, soonest-later}
 use borrow.Author.Needs.{needs}
 use Rattle.expiry.proofs.soonest.Statement.{statement}

@@ -10,7 +10,7 @@ use Rattle.definition.specs.Destination.{sweepExpired}
 use Rattle.definition.proofs.Tests.{and-both}
 use Rattle.table.proofs.Lists.{and-on, and-off}
 use Rattle.state.proofs.Fitting.{fits-facts}
-use Rattle.expiry.specs.Expiry.{sweepOut, finished}
+use Rattle.expiry.specs.Expiry.{sweepOut, sweepFinished}
 use Rattle.expiry.proofs.Cleared.{refused}
 use Rattle.expiry.proofs.Ended.{waiting-fine, able-at, sweep-from}
 use borrow.Author.Needs.{needs}
@@ -118,7 +118,7 @@ returns-4 c =
     let r = c .before .before .before .before .sweep-subs in
     let l = c .before .before .before .before .before .before .before .shorter .ensures in
     let sure = and-both _ _ t (and-both _ _ (le-leb (a .clock) (2 ^ 62) clock) (le-leb (a .most) 512 few)) in
-    let e = c .finished .ensures ∙ ap (finished (r .result .gone) (a .clock)) (c .before .shorter2 .ensures) in
+    let e = c .finished .ensures ∙ ap (sweepFinished (r .result .gone) (a .clock)) (c .before .shorter2 .ensures) in
     sweep-from (a .most) (a .clock) _ (a .d) (k .before .before .due .ensures) (now (a .subs)) (now (a .rows)) (now (a .events)) f clock few (g .first-waiting .result) (g .first-waiting .ensures) (w .result) _ (w .kept .0) (w .ensures .0) (w .ensures .1 .0) (w .ensures .1 .1 .0) (w .ensures .1 .1 .1) _ l (r .result) _ _ (r .ensures) _ sure _ e
 
 pub sweep-spec : {M : Type 1} → statement M

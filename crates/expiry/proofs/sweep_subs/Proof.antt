@@ -49,8 +49,8 @@ add-base c =
     let h = round-rows (a .most) (a .clock) (now (a .subs)) (now (a .rows)) (a .d) (a .gone) pre (l .subs) (l .rows) (l .w) (l .base) (l .i) (l .inv) (c .before .before .before .before .before .before .before .before .loop-test .taken) _ (c .before .before .before .before .before .before .load .ensures) in
     omega (arith, h, l .inv .used, pre .used, c .before .sweep-held .ensures .1 .0 .length)
 
-holding-requires : tie.Need-holding-requires Inv-loop μ-loop
-holding-requires c κs = search needs
+with-held-requires : tie.Need-with-held-requires Inv-loop μ-loop
+with-held-requires c κs = search needs
 
 store-requires : tie.Need-store-requires Inv-loop μ-loop
 store-requires c κs = search needs
@@ -73,7 +73,7 @@ loop-again c =
     let pre = c .before .before .before .before .before .before .before .before .before .before .before .before .before .before .pre in
     let v = c .before .before .before .before .before .sweep-held in
     let s = c .before .before .before .before .before .before .before .before .before .before .load in
-    let made = c .before .store .ensures ∙ ap (λ (y : Sub). set (l .subs) (l .i) (subWords y)) (c .before .before .holding .ensures) in
+    let made = c .before .store .ensures ∙ ap (λ (y : Sub). set (l .subs) (l .i) (subWords y)) (c .before .before .with-held .ensures) in
     round-turn (a .most) (a .clock) (now (a .subs)) (now (a .rows)) (a .d) (a .gone) pre (l .subs) (l .rows) (l .w) (l .base) (l .i) (l .inv) (c .before .before .before .before .before .before .before .before .before .before .before .before .loop-test .taken) (s .result) _ (v .result) _ _ (s .ensures) refl made (v .kept .0) (v .ensures .0) (v .ensures .1 .0) (v .ensures .1 .1 .0) (v .ensures .1 .1 .1)
 
 same-length : tie.Need-same-length Inv-loop μ-loop
@@ -100,7 +100,7 @@ sweep-subs-spec =
     add-from
     sweep-held-requires
     add-base
-    holding-requires
+    with-held-requires
     store-requires
     add-i
     loop-less

@@ -1,4 +1,5 @@
 -- `layouttext::put_complaint` meets its contract. Assumes nothing.
+use Rattle.callfile.proofs.Parts.{line-puts}
 use Rattle.layouttext.proofs.Saying.{says-row, says-first, says-last, says-selector, says-above, says-many}
 use native.Mathlib.Omega.{arith}
 use borrow.Author.Needs.{needs}
@@ -46,7 +47,7 @@ same-length c = search needs
 
 returns : tie.Need-returns
 returns c =
-    let p = c .before .before .put-all .ensures in
+    let p = line-puts (omega arith) (omega arith) (c .before .before .put-all .ensures) in
     (rw (says-row (c .before .before .before .before .before .before .before .args .kind) (c .before .before .before .before .before .match .keys1)) at p, omega (arith, p .next))
 
 same-length-2 : tie.Need-same-length-2
@@ -54,7 +55,7 @@ same-length-2 c = search needs
 
 returns-2 : tie.Need-returns-2
 returns-2 c =
-    let p = c .before .before .put-all2 .ensures in
+    let p = line-puts (omega arith) (omega arith) (c .before .before .put-all2 .ensures) in
     (rw (says-first (c .before .before .before .before .before .before .before .args .kind) (c .before .before .before .before .before .match .keys2)) at p, omega (arith, p .next))
 
 same-length-3 : tie.Need-same-length-3
@@ -62,7 +63,7 @@ same-length-3 c = search needs
 
 returns-3 : tie.Need-returns-3
 returns-3 c =
-    let p = c .before .before .put-all3 .ensures in
+    let p = line-puts (omega arith) (omega arith) (c .before .before .put-all3 .ensures) in
     (rw (says-last (c .before .before .before .before .before .before .before .args .kind) (c .before .before .before .before .before .match .keys3)) at p, omega (arith, p .next))
 
 same-length-4 : tie.Need-same-length-4
@@ -70,7 +71,7 @@ same-length-4 c = search needs
 
 returns-4 : tie.Need-returns-4
 returns-4 c =
-    let p = c .before .before .put-all4 .ensures in
+    let p = line-puts (omega arith) (omega arith) (c .before .before .put-all4 .ensures) in
     (rw (says-selector (c .before .before .before .before .before .before .before .args .kind) (c .before .before .before .before .before .match .keys4)) at p, omega (arith, p .next))
 
 same-length-5 : tie.Need-same-length-5
@@ -78,7 +79,7 @@ same-length-5 c = search needs
 
 returns-5 : tie.Need-returns-5
 returns-5 c =
-    let p = c .before .before .put-all5 .ensures in
+    let p = line-puts (omega arith) (omega arith) (c .before .before .put-all5 .ensures) in
     (rw (says-above (c .before .before .before .before .before .before .before .args .kind) (c .before .before .before .before .before .match .keys5)) at p, omega (arith, p .next))
 
 same-length-6 : tie.Need-same-length-6
@@ -87,7 +88,7 @@ same-length-6 c = search needs
 returns-6 : tie.Need-returns-6
 returns-6 c =
     let n = c .before .before .before .before .before .match .rest in
-    let p = c .before .before .put-all6 .ensures in
+    let p = line-puts (omega arith) (omega arith) (c .before .before .put-all6 .ensures) in
     (rw (says-many (c .before .before .before .before .before .before .before .args .kind) (n .0 .0 .0 .0 .1) (n .0 .0 .0 .1) (n .0 .0 .1) (n .0 .1) (n .1)) at p, omega (arith, p .next))
 
 pub put-complaint-spec : {M : Type 1} → statement M

@@ -1,5 +1,5 @@
 -- `layouttext::put_gap` meets its contract. Assumes nothing.
-use Rattle.callfile.proofs.Parts.{then}
+use Rattle.callfile.proofs.Parts.{then, line-puts}
 use Rattle.layouttext.specs.Messages.{gapText}
 use native.Mathlib.Omega.{arith}
 use borrow.Author.Needs.{needs}
@@ -12,8 +12,8 @@ slice-aggregate-put-named c = search needs
 put-named-requires : tie.Need-put-named-requires
 put-named-requires c κs = search needs
 
-put-requires : tie.Need-put-requires
-put-requires c κs = search needs
+put-byte-requires : tie.Need-put-byte-requires
+put-byte-requires c κs = search needs
 
 same-length : tie.Need-same-length
 same-length c = search needs
@@ -22,7 +22,7 @@ returns : tie.Need-returns
 unfolding gapText
 returns c =
     let p = c .before .before .before .before .before .before .put-named .ensures in
-    let r = c .before .before .put .ensures in
+    let r = line-puts (omega (arith, p .1, p .0 .same)) (omega arith) (c .before .before .put-byte .ensures) in
     (then (p .0) r, omega (arith, p .1, r .next))
 
 pub put-gap-spec : {M : Type 1} → statement M
@@ -31,6 +31,6 @@ put-gap-spec =
     (tie.spec
     slice-aggregate-put-named
     put-named-requires
-    put-requires
+    put-byte-requires
     same-length
     returns)

@@ -1,5 +1,5 @@
 -- `layouttext::put_named` meets its contract. Assumes nothing.
-use Rattle.callfile.proofs.Parts.{then}
+use Rattle.callfile.proofs.Parts.{then, line-puts}
 use native.Mathlib.Omega.{arith}
 use borrow.Author.Needs.{needs}
 use Rattle.layouttext.proofs.put_named.Statement.{statement}
@@ -9,14 +9,14 @@ put-all-requires : tie.Need-put-all-requires
 put-all-requires c κs = search needs
 
 put-number-requires : tie.Need-put-number-requires
-put-number-requires c κs = search needs
+put-number-requires c κs = let p = line-puts (omega arith) (omega arith) (c .before .before .before .put-all .ensures) in omega (arith, p .next, p .same)
 
 same-length : tie.Need-same-length
 same-length c = search needs
 
 returns : tie.Need-returns
 returns c =
-    let p = c .before .before .before .before .before .before .put-all .ensures in
+    let p = line-puts (omega arith) (omega arith) (c .before .before .before .before .before .before .put-all .ensures) in
     let q = c .before .before .put-number .ensures in
     (then p (q .0), omega (arith, p .next, q .1))
 

@@ -1,6 +1,7 @@
 -- `layouttext::put_number` meets its contract. Assumes nothing.
 use mathlib.Core.Bool.{false}
-use Rattle.calltext.proofs.Showing.{line-puts, field-length}
+use Rattle.callfile.proofs.Parts.{line-puts}
+use Rattle.calltext.proofs.Showing.{field-length}
 use native.Mathlib.Omega.{arith}
 use borrow.Author.Needs.{needs}
 use Rattle.layouttext.proofs.put_number.Statement.{statement}

@@ -5,7 +5,7 @@ use lib.ListN.{length, drop, set, replicate, length-set}
 use Rattle.textwords.specs.declared.Stop.the-variants.{Blank, Word}
 use Rattle.textwords.specs.Text.{run, wordsOf}
 use Rattle.textwords.proofs.Words.{to-word, at-word, word-within, passed, no-words}
-use Rattle.layouttext.specs.Rows.{gather}
+use Rattle.layouttext.specs.Rows.{gatherRow}
 use Rattle.layouttext.proofs.Lines.{too-many, no-number, one-number}
 use native.Mathlib.Omega.{arith}
 use borrow.Author.Needs.{needs}
@@ -13,7 +13,7 @@ use Rattle.layouttext.proofs.row_in.Statement.{statement}
 use Rattle.layouttext.proofs.row_in.Tie as tie
 
 abbrev Inv-loop : tie.InvT-loop
-Inv-loop text row₀ n₀ i₀ row n i = (i ≤ length text) × (run Word (drop i text) ≡ 0) × (n ≤ 3) × (length row ≡ 3) × (gather n row (wordsOf (drop i text)) ≡ gather 0 (replicate 3 0) (wordsOf text))
+Inv-loop text row₀ n₀ i₀ row n i = (i ≤ length text) × (run Word (drop i text) ≡ 0) × (n ≤ 3) × (length row ≡ 3) × (gatherRow n row (wordsOf (drop i text)) ≡ gatherRow 0 (replicate 3 0) (wordsOf text))
 
 abbrev μ-loop : tie.MeasureT-loop
 μ-loop text row₀ n₀ i₀ row n i = length text - i
@@ -25,7 +25,7 @@ loop-holds : tie.Need-loop-holds Inv-loop μ-loop
 loop-holds c =
     let s = c .scan .ensures in
     let t = c .before .before .args .text .now in
-    (word-within t 0 (c .scan .result) (omega arith) s, at-word t 0 (c .scan .result) (omega arith) s, omega arith, search needs, ap (gather 0 (replicate 3 0)) (sym (to-word t 0 (c .scan .result) (omega arith) s)))
+    (word-within t 0 (c .scan .result) (omega arith) s, at-word t 0 (c .scan .result) (omega arith) s, omega arith, search needs, ap (gatherRow 0 (replicate 3 0)) (sym (to-word t 0 (c .scan .result) (omega arith) s)))
 
 without-row-requires : tie.Need-without-row-requires Inv-loop μ-loop
 without-row-requires c κs = search needs
@@ -36,7 +36,7 @@ returns c =
     let t = g .before .before .before .args .text .now in
     let v = g .loop .inv in
     let p = passed t (g .loop .i) (g .loop .i + run Blank (drop (g .loop .i) t)) (omega arith) (v .1) refl in
-    c .without-row .ensures ∙ sym (too-many (g .loop .n) (g .loop .row) _ _ (c .before .if1 .taken)) ∙ ap (gather (g .loop .n) (g .loop .row)) (sym (p .words)) ∙ v .4
+    c .without-row .ensures ∙ sym (too-many (g .loop .n) (g .loop .row) _ _ (c .before .if1 .taken)) ∙ ap (gatherRow (g .loop .n) (g .loop .row)) (sym (p .words)) ∙ v .4
 
 scan-requires-2 : tie.Need-scan-requires-2 Inv-loop μ-loop
 scan-requires-2 c κs = search needs
@@ -83,7 +83,7 @@ returns-2 c =
     let t = g .before .before .before .args .text .now in
     let v = g .loop .inv in
     let p = passed t (g .loop .i) (c .before .before .before .before .before .scan2 .result) (omega arith) (v .1) (c .before .before .before .before .before .scan2 .ensures) in
-    c .without-row2 .ensures ∙ sym (no-number (g .loop .n) (g .loop .row) _ _ (c .before .before .before .before .before .before .if1 .left) (sym (c .before .before .before .number-of .ensures) ∙ c .before .enum-told .given .1)) ∙ ap (gather (g .loop .n) (g .loop .row)) (sym (p .words)) ∙ v .4
+    c .without-row2 .ensures ∙ sym (no-number (g .loop .n) (g .loop .row) _ _ (c .before .before .before .before .before .before .if1 .left) (sym (c .before .before .before .number-of .ensures) ∙ c .before .enum-told .given .1)) ∙ ap (gatherRow (g .loop .n) (g .loop .row)) (sym (p .words)) ∙ v .4
 
 mul-row : tie.Need-mul-row Inv-loop μ-loop
 mul-row c = search needs
@@ -114,7 +114,7 @@ loop-again c =
     let s = c .scan3 .ensures in
     let e = c .before .before .before .before .before .before .scan2 .result in
     let w = c .before .before .v .given in
-    (word-within t e (c .scan3 .result) (p .within) s, at-word t e (c .scan3 .result) (p .within) s, omega arith, length-set (g .loop .row) (g .loop .n) (w .0 .0) ∙ v .3, ap (gather (g .loop .n + 1) (set (g .loop .row) (g .loop .n) (w .0 .0))) (sym (to-word t e (c .scan3 .result) (p .within) s)) ∙ sym (one-number (g .loop .n) (g .loop .row) _ _ (c .before .before .before .before .before .before .before .if1 .left) (w .0 .0) (sym (c .before .before .before .before .number-of .ensures) ∙ w .1)) ∙ ap (gather (g .loop .n) (g .loop .row)) (sym (p .words)) ∙ v .4)
+    (word-within t e (c .scan3 .result) (p .within) s, at-word t e (c .scan3 .result) (p .within) s, omega arith, length-set (g .loop .row) (g .loop .n) (w .0 .0) ∙ v .3, ap (gatherRow (g .loop .n + 1) (set (g .loop .row) (g .loop .n) (w .0 .0))) (sym (to-word t e (c .scan3 .result) (p .within) s)) ∙ sym (one-number (g .loop .n) (g .loop .row) _ _ (c .before .before .before .before .before .before .before .if1 .left) (w .0 .0) (sym (c .before .before .before .before .number-of .ensures) ∙ w .1)) ∙ ap (gatherRow (g .loop .n) (g .loop .row)) (sym (p .words)) ∙ v .4)
 
 end-of-words-requires : tie.Need-end-of-words-requires Inv-loop μ-loop
 end-of-words-requires c κs = search needs
@@ -123,7 +123,7 @@ returns-3 : tie.Need-returns-3 Inv-loop μ-loop
 returns-3 c =
     let g = c .before .before in
     let t = g .before .before .before .args .text .now in
-    c .end-of-words .ensures ∙ ap (gather (g .loop .n) (g .loop .row)) (sym (no-words t (g .loop .i) (omega arith))) ∙ g .loop .inv .4
+    c .end-of-words .ensures ∙ ap (gatherRow (g .loop .n) (g .loop .row)) (sym (no-words t (g .loop .i) (omega arith))) ∙ g .loop .inv .4
 
 pub row-in-spec : {M : Type 1} → statement M
 row-in-spec =

@@ -12,8 +12,8 @@ use mir.Val.{SFits}
 use Rattle.definition.specs.Destination.{isProducer}
 use Rattle.definition.specs.Calls.{adding}
 use Rattle.definition.specs.Layout.{idsAt}
-use Rattle.state.specs.State.{withProducers, notIdle, refusedAs, doneAs}
-use Rattle.producers.specs.Groups.{over, idWords}
+use Rattle.state.specs.State.{withProducerCount, notIdle, refusedAs, doneAs}
+use Rattle.producers.specs.Groups.{writtenFrom, idWords}
 use Rattle.producers.specs.Producers.{headFits, added}
 use Rattle.producers.proofs.Tables.{counts, producer-first}
 use Rattle.producers.proofs.Promises.{carried}
@@ -123,7 +123,7 @@ returns-4 c =
     let h : List ℕ = now (a .head) in
     let s = session-fits (e .before .before .before .before .before .before) in
     let v = value-fits (e .before .before .before .before .before .before) in
-    carried (adding (a .id)) (a .d) h (added (a .id) (a .d) h) (c .done2 .result) (doneAs 0 (notIdle (withProducers (a .d .producers + 1) (a .d)))) _ (over (17 + a .d .producers * 3) (idWords (a .id)) h)
+    carried (adding (a .id)) (a .d) h (added (a .id) (a .d) h) (c .done2 .result) (doneAs 0 (notIdle (withProducerCount (a .d .producers + 1) (a .d)))) _ (writtenFrom (17 + a .d .producers * 3) (idWords (a .id)) h)
     (c .done2 .ensures ∙ ap (doneAs 0) (c .before .not-idle2 .ensures)) (p .put-id .ensures)
     (added-new (a .id) (a .d) h (fit (e .before .before .before)) s v (missing e) (lt-leb _ _ (p .before .before .if3 .left)))
 

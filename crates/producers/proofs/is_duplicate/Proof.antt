@@ -10,9 +10,9 @@ use lib.ListN.{length, drop}
 use mir.Syntax.{w64}
 use mir.Val.{SFits}
 use Rattle.definition.specs.Calls.{testing}
-use Rattle.state.specs.State.{withAudits, refusedAs, doneAs}
+use Rattle.state.specs.State.{withAuditCount, refusedAs, doneAs}
 use Rattle.producers.specs.Groups.{hasId, firstOf}
-use Rattle.producers.specs.Producers.{headFits, Left, left, checkedAt, tested, Performs}
+use Rattle.producers.specs.Producers.{headFits, HeadLeft, headLeft, checkedAt, tested, PerformsInHead}
 use Rattle.producers.proofs.Tables.{counts}
 use Rattle.producers.proofs.Promises.{carried, promised}
 use Rattle.producers.proofs.Tested.{tested-unfit, tested-nobody, tested-at, found-performs, tested-full, tested-fresh, fresh-performs}
@@ -96,7 +96,7 @@ returns-3 c =
     let s = someone (f .before .before) in
     let all = tested-at i q d h (fit e) s b in
     promised (testing i q) d h (tested i q d h) _ _ (k .check-at .ensures ∙ ap (λ (m : ℕ). checkedAt m q d h) (f .find .ensures) ∙ sym all)
-    (subst (λ (x : Left). Performs (testing i q) d h (x .result) (x .words)) (sym all) (found-performs i q d h (fit e) s b))
+    (subst (λ (x : HeadLeft). PerformsInHead (testing i q) d h (x .result) (x .words)) (sym all) (found-performs i q d h (fit e) s b))
 
 refused-requires-2 : tie.Need-refused-requires-2
 refused-requires-2 c κs = search needs
@@ -149,8 +149,8 @@ returns-5 c =
     let s = someone (f .before .before) in
     let u = lt-leb _ _ (w .before .before .if4 .left) in
     let all = tested-fresh i q d h (fit e) s (missing t) (session-fits (e .before .before .before)) (value-fits (e .before .before .before)) u in
-    promised (testing i q) d h (tested i q d h) _ _ (k .check-at2 .ensures ∙ ap (checkedAt (d .audits) q (withAudits (d .audits + 1) d)) (w .new-audit .ensures) ∙ sym all)
-    (subst (λ (x : Left). Performs (testing i q) d h (x .result) (x .words)) (sym all) (fresh-performs i q d h (fit e) s (missing t) (session-fits (e .before .before .before)) (value-fits (e .before .before .before)) u))
+    promised (testing i q) d h (tested i q d h) _ _ (k .check-at2 .ensures ∙ ap (checkedAt (d .audits) q (withAuditCount (d .audits + 1) d)) (w .new-audit .ensures) ∙ sym all)
+    (subst (λ (x : HeadLeft). PerformsInHead (testing i q) d h (x .result) (x .words)) (sym all) (fresh-performs i q d h (fit e) s (missing t) (session-fits (e .before .before .before)) (value-fits (e .before .before .before)) u))
 
 pub is-duplicate-spec : {M : Type 1} → statement M
 is-duplicate-spec =

@@ -6,7 +6,7 @@ use denote.Ref.{now}
 use lib.ListN.{length, length-set}
 use lib.Seq.{slice}
 use Rattle.table.proofs.Lists.{written}
-use Rattle.producers.specs.Groups.{over}
+use Rattle.producers.specs.Groups.{writtenFrom}
 use Rattle.producers.proofs.Words.{moved-none, moved-turn, moved-all}
 use native.Mathlib.Omega.{arith}
 use borrow.Author.Needs.{needs}
@@ -58,7 +58,7 @@ returns c =
     let a = c .before .before .args in
     let h : List ℕ = now (a .head) in
     let e : l .i ≡ a .to = omega arith in
-    moved-all h (l .head) (a .at) (a .from) (l .i) (l .j) (l .inv .0) (l .inv .2) (search needs) (l .inv .4) ∙ ap (λ (m : ℕ). over (a .at) (slice (a .from) m h) h) e
+    moved-all h (l .head) (a .at) (a .from) (l .i) (l .j) (l .inv .0) (l .inv .2) (search needs) (l .inv .4) ∙ ap (λ (m : ℕ). writtenFrom (a .at) (slice (a .from) m h) h) e
 
 pub move-words-spec : {M : Type 1} → statement M
 move-words-spec =

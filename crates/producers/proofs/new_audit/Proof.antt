@@ -5,7 +5,7 @@ use Prim.Native.Nat.{ℕ, _+_, _*_}
 use denote.Ref.{now}
 use lib.ListN.{length-set}
 use Rattle.audit.specs.declared.Audit as Ring
-use Rattle.producers.specs.Groups.{over, idWords}
+use Rattle.producers.specs.Groups.{writtenFrom, idWords}
 use Rattle.producers.proofs.Words.{over-length, over-join, two-stores}
 use native.Mathlib.Omega.{arith}
 use borrow.Author.Needs.{needs}
@@ -52,7 +52,7 @@ returns c =
     let a = p .before .before .before .before .args in
     let h : List ℕ = now (a .head) in
     let place : ℕ = 113 + a .k * 1029 in
-    let k : List ℕ = over place (idWords (a .id)) h in
+    let k : List ℕ = writtenFrom place (idWords (a .id)) h in
     let l = over-length place (idWords (a .id)) h (omega arith) in
     rw (p .put-id .ensures, ap (λ (x : Ring.Audit). x .start) z, ap (λ (x : Ring.Audit). x .count) z)
     (two-stores k (place + 3) (place + 3) (place + 4) 0 0 refl (omega arith) (omega arith) ∙ over-join place (place + 3) (idWords (a .id)) (0 ∷ 0 ∷ []) h refl (omega arith))

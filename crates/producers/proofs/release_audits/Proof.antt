@@ -9,7 +9,7 @@ use lib.ListN.{length, drop}
 use Rattle.model.specs.declared.Id.{Id}
 use Rattle.model.specs.Model.{idOf}
 use Rattle.definition.specs.Calls.{forgetting}
-use Rattle.state.specs.State.{withAudits, refusedAs, doneAs}
+use Rattle.state.specs.State.{withAuditCount, refusedAs, doneAs}
 use Rattle.producers.specs.Groups.{stays, keptCount, packed}
 use Rattle.producers.specs.Producers.{headFits, released}
 use Rattle.producers.proofs.Tables.{counts}
@@ -63,8 +63,8 @@ returns-2 c =
     let same = n .new .ensures in
     let stay = stays false (idOf (a .conn) 0 0) in
     let audits : ℕ = keptCount stay 1029 (a .d .audits) (drop 113 h) in
-    carried (forgetting (a .conn)) (a .d) h (released (a .conn) (a .d) h) (c .done .result) (doneAs 0 (withAudits audits (a .d))) _ (packed stay 113 1029 (a .d .audits) h)
-    (c .done .ensures ∙ ap (λ (x : ℕ). doneAs 0 (withAudits x (a .d))) (p .pack .ensures .0 ∙ ap (λ (i : Id). keptCount (stays false i) 1029 (a .d .audits) (drop 113 h)) same))
+    carried (forgetting (a .conn)) (a .d) h (released (a .conn) (a .d) h) (c .done .result) (doneAs 0 (withAuditCount audits (a .d))) _ (packed stay 113 1029 (a .d .audits) h)
+    (c .done .ensures ∙ ap (λ (x : ℕ). doneAs 0 (withAuditCount x (a .d))) (p .pack .ensures .0 ∙ ap (λ (i : Id). keptCount (stays false i) 1029 (a .d .audits) (drop 113 h)) same))
     (p .pack .ensures .1 ∙ ap (λ (i : Id). packed (stays false i) 113 1029 (a .d .audits) h) same)
     (released-done (a .conn) (a .d) h (fit e))
 

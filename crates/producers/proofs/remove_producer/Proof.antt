@@ -7,9 +7,9 @@ use borrow.Author.Tests.{not-true, not-false}
 use denote.Ref.{now}
 use lib.ListN.{length, drop}
 use Rattle.definition.specs.Calls.{removing}
-use Rattle.state.specs.State.{withProducers, withAudits, touched, refusedAs, doneAs}
+use Rattle.state.specs.State.{withProducerCount, withAuditCount, touched, refusedAs, doneAs}
 use Rattle.producers.specs.Groups.{stays, keptCount, packed}
-use Rattle.producers.specs.Producers.{headFits, removed}
+use Rattle.producers.specs.Producers.{headFits, producerRemoved}
 use Rattle.producers.proofs.Tables.{counts}
 use Rattle.producers.proofs.Promises.{carried}
 use Rattle.producers.proofs.Removing.{removed-unfit, removed-done}
@@ -32,7 +32,7 @@ returns : tie.Need-returns
 returns c =
     let a = c .before .before .before .before .args in
     let h : List ℕ = now (a .head) in
-    carried (removing (a .id) (a .clock)) (a .d) h (removed (a .clock) (a .id) (a .d) h) (c .refused .result) (refusedAs 2 (a .d)) h h (c .refused .ensures) refl
+    carried (removing (a .id) (a .clock)) (a .d) h (producerRemoved (a .clock) (a .id) (a .d) h) (c .refused .result) (refusedAs 2 (a .d)) h h (c .refused .ensures) refl
     (removed-unfit (a .clock) (a .id) (a .d) h (sym (c .before .before .fits2 .ensures) ∙ not-true _ (c .before .if1 .taken)))
 
 pack-requires : tie.Need-pack-requires
@@ -68,9 +68,9 @@ returns-2 c =
     let producers : ℕ = keptCount gone 3 (a .d .producers) (drop 17 h) in
     let k₁ : List ℕ = packed gone 17 3 (a .d .producers) h in
     let audits : ℕ = keptCount gone 1029 (a .d .audits) (drop 113 k₁) in
-    carried (removing (a .id) (a .clock)) (a .d) h (removed (a .clock) (a .id) (a .d) h) (c .done .result) (doneAs 0 (touched (a .clock) (withAudits audits (withProducers producers (a .d))))) _ (packed gone 113 1029 (a .d .audits) k₁)
+    carried (removing (a .id) (a .clock)) (a .d) h (producerRemoved (a .clock) (a .id) (a .d) h) (c .done .result) (doneAs 0 (touched (a .clock) (withAuditCount audits (withProducerCount producers (a .d))))) _ (packed gone 113 1029 (a .d .audits) k₁)
     (c .done .ensures ∙ ap (doneAs 0) (c .before .touch-idle .ensures)
-    ∙ ap₂ (λ (x y : ℕ). doneAs 0 (touched (a .clock) (withAudits y (withProducers x (a .d))))) (p .pack .ensures .0) (s .pack2 .ensures .0 ∙ ap (λ (x : List ℕ). keptCount gone 1029 (a .d .audits) (drop 113 x)) (p .pack .ensures .1)))
+    ∙ ap₂ (λ (x y : ℕ). doneAs 0 (touched (a .clock) (withAuditCount y (withProducerCount x (a .d))))) (p .pack .ensures .0) (s .pack2 .ensures .0 ∙ ap (λ (x : List ℕ). keptCount gone 1029 (a .d .audits) (drop 113 x)) (p .pack .ensures .1)))
     (s .pack2 .ensures .1 ∙ ap (packed gone 113 1029 (a .d .audits)) (p .pack .ensures .1))
     (removed-done (a .clock) (a .id) (a .d) h (fit e))
 

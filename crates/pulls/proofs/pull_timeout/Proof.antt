@@ -1,10 +1,9 @@
 -- `pulls::pull_timeout` meets its contract. Assumes nothing.
 use mathlib.Core.Path.{sym, _∙_}
-use borrow.Author.Tests.{not-true, not-false}
+use borrow.Author.Tests.{not-true, not-false, eq-eqb, ne-eqb}
 use denote.Ref.{now}
 use lib.ListN.{length}
 use native.Mathlib.Omega.{arith}
-use borrow.Author.Tests.{eq-eqb, ne-eqb}
 use Rattle.state.proofs.Fitting.{fits-facts}
 use Rattle.state.proofs.Leaves.{unless-touched}
 use Rattle.state.proofs.Answers.{untouched}

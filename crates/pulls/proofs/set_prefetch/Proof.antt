@@ -9,7 +9,7 @@ use Rattle.definition.specs.Destination.{room}
 use Prim.Native.Nat.{ℕ}
 use Rattle.consumers.specs.declared.Sub.{Sub}
 use Rattle.consumers.specs.Consumers.{subWords}
-use Rattle.pulls.specs.Pulls.{withPrefetch}
+use Rattle.pulls.specs.Pulls.{subPrefetch}
 use Rattle.state.proofs.Leaves.{unless-touched}
 use Rattle.state.proofs.Answers.{untouched}
 use Rattle.pulls.proofs.Reword.{within-fits}
@@ -77,7 +77,7 @@ returns-3 c =
     let t = sym (e .before .fits2 .ensures) ∙ not-false _ (e .if1 .left) in
     let w = within-fits (now (a .subs)) (a .d) (length (now (a .rows))) (length (now (a .events))) t in
     let at = sym (p .position .ensures) ∙ m .i .given .1 in
-    let made = c .before .store .ensures ∙ ap (λ (y : Sub). set (now (a .subs)) (m .i .given .0 .0) (subWords y)) (c .before .before .with-prefetch .ensures ∙ ap (λ (n : ℕ). withPrefetch n (l .load .result)) (c .before .before .before .room .ensures ∙ ap room (toZ-ofZ w32 (a .prefetch) (e .before .before .before .fits .prefetch)))) in
+    let made = c .before .store .ensures ∙ ap (λ (y : Sub). set (now (a .subs)) (m .i .given .0 .0) (subWords y)) (c .before .before .with-prefetch .ensures ∙ ap (λ (n : ℕ). subPrefetch n (l .load .result)) (c .before .before .before .room .ensures ∙ ap room (toZ-ofZ w32 (a .prefetch) (e .before .before .before .fits .prefetch)))) in
     prefetch-put _ t (a .id) (a .d) (now (a .subs)) (now (a .rows)) (now (a .events)) w _ at (l .load .result) (l .load .ensures) refl (a .prefetch) _ made
 
 pub set-prefetch-spec : {M : Type 1} → statement M

@@ -2,7 +2,6 @@
 use mathlib.Core.Path.{sym, ap, _∙_}
 use mathlib.Core.Bool.{Bool}
 use Rattle.words.specs.Pick.{if_then_else_}
-use borrow.Author.Needs.{needs}
 use Rattle.queries.proofs.added.Statement.{statement}
 use Rattle.queries.proofs.added.Tie as tie
 

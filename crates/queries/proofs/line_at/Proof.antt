@@ -13,7 +13,7 @@ use borrow.Author.Needs.{needs}
 use Rattle.entry.specs.Entry.{entryOf}
 use Rattle.entry.specs.declared.Entry.{Entry}
 use Rattle.definition.specs.Queries.{lineOf}
-use Rattle.queries.specs.Pages.{rowLine, pageLine, lineAt}
+use Rattle.queries.specs.Pages.{rowLine, pageLine, pageLineAt}
 use Rattle.queries.proofs.line_at.Statement.{statement}
 use Rattle.queries.proofs.line_at.Tie as tie
 
@@ -33,15 +33,15 @@ entry-of-requires : tie.Need-entry-of-requires
 entry-of-requires c κs = search needs
 
 returns : tie.Need-returns
-unfolding lineAt
+unfolding pageLineAt
 returns c = let e = c .before .entry-of .result in
     let f : SFits w64 (e .expiration) = search needs in
     let g : SFits w32 (e .redelivery) = search needs in
     rw (toZ-ofZ w64 (e .expiration) f, toZ-ofZ w32 (e .redelivery) g) (ap (λ (e : Entry). pageLine (lineOf e)) (c .before .entry-of .ensures))
 
 -- past the rows
-past : (rows : List (List ℕ)) (from i : ℕ) → length rows ≤ from + i → pageLine (rowLine []) ≡ lineAt rows from i
-unfolding lineAt
+past : (rows : List (List ℕ)) (from i : ℕ) → length rows ≤ from + i → pageLine (rowLine []) ≡ pageLineAt rows from i
+unfolding pageLineAt
 past rows from i h = ap (λ (w : List ℕ). pageLine (rowLine w)) (sym (List·getD-eq-default rows [] {n = from + i} h))
 
 nought : pageLine (rowLine []) ≡ record { seq = 0; expiration = pos 0; redelivery = pos 0 }

@@ -13,19 +13,20 @@ use Rattle.model.specs.Model.{idOf}
 use Rattle.stats.specs.Counted.{withDispatched}
 use Rattle.entry.specs.declared.Entry.{Entry}
 use Rattle.entry.specs.Entry.{entryOf}
-use Rattle.entry.proofs.Rows.{EntryFits}
+use Rattle.entry.proofs.Rows.{EntryFits, redelivery-fits}
 use Rattle.definition.specs.Types.{message}
 use Rattle.definition.specs.Consumer.{inflightOf}
 use Rattle.definition.specs.Layout.{inflightAt, flyingStrict, subRows, eventWords}
 use Rattle.table.specs.Table.{insertRow}
 use Rattle.table.proofs.Strict.{sent-strict}
 use Rattle.consumers.specs.declared.Sub.{Sub}
-use Rattle.consumers.specs.Consumers.{subWords}
+use Rattle.consumers.specs.Consumers.{subWords, sentOf}
+use Rattle.consumers.proofs.Words.{sent-is}
 use Rattle.state.specs.declared.Head.{Head}
-use Rattle.state.specs.State.{withStats, withTurn, withWaiting, withEvents}
+use Rattle.state.specs.State.{withCounters, withTurn, withWaiting, withEvents}
 use Rattle.state.proofs.Events.{pushed-room}
-use Rattle.queues.specs.Give.{sentSub}
-use Rattle.queues.proofs.Giving.{flown, redelivery-fits}
+use Rattle.queues.specs.Give.{movedSub}
+use Rattle.queues.proofs.Giving.{flown}
 use Rattle.queues.proofs.give.Statement.{statement}
 use Rattle.queues.proofs.give.Tie as tie
 
@@ -119,9 +120,9 @@ returns c =
       flies = ap inflightAt (row .ensures) ∙ flown (e .result) (a .s .«next_dseq») fits ∙ ap (inflightOf (a .s .«next_dseq»)) was;
       strict = ap flyingStrict (row .ensures) ∙ sent-strict (e .result) (a .s .«next_dseq») (fits .redelivery);
       head = c .count-dispatched .ensures
-          ∙ ap (λ (n : ℕ). withStats (withDispatched (p .result .stats)) (withTurn n (withWaiting (p .result .waiting - 1) (p .result)))) (c .before .in-turn .ensures)
-          ∙ ap (λ (x : Head). withStats (withDispatched (x .stats)) (withTurn ((a .i + 1) % x .consumers) (withWaiting (x .waiting - 1) x))) is;
-      subs-is = c .before .before .before .before .store .ensures ∙ ap (λ (x : Sub). set (now (a .subs)) (a .i) (subWords x)) (c .before .before .before .before .before .sent .ensures ∙ ap (λ (x : Entry). sentSub (x .seq) (a .s)) was);
+          ∙ ap (λ (n : ℕ). withCounters (withDispatched (p .result .stats)) (withTurn n (withWaiting (p .result .waiting - 1) (p .result)))) (c .before .in-turn .ensures)
+          ∙ ap (λ (x : Head). withCounters (withDispatched (x .stats)) (withTurn ((a .i + 1) % x .consumers) (withWaiting (x .waiting - 1) x))) is;
+      subs-is = c .before .before .before .before .store .ensures ∙ ap (λ (x : Sub). set (now (a .subs)) (a .i) (subWords x)) (c .before .before .before .before .before .sent .ensures ∙ ap (λ (x : Entry). sentOf (movedSub (x .seq) (a .s))) was ∙ sent-is (movedSub (entryOf (getD (now (a .rows)) (a .at) []) .seq) (a .s)) (omega arith) (omega arith));
       rows-is = c .before .before .before .before .before .before .before .before .insert-row .ensures ∙ ap (λ (n : ℕ). insertRow (n + a .s .inflight) (a .at) (row .result) (now (a .rows))) from;
       events-is = p .ensures .1 ∙ ap (λ (z : ℤ). set (now (a .events)) (a .before .events) (eventWords (message (idOf (a .s .conn) (a .s .session) (a .s .value)) (e .result .seq) z))) (toZ-ofZ w32 (e .result .redelivery) (fits .redelivery))
           ∙ ap (λ (x : Entry). set (now (a .events)) (a .before .events) (eventWords (message (idOf (a .s .conn) (a .s .session) (a .s .value)) (x .seq) (x .redelivery)))) was;

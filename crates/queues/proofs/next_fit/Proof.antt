@@ -9,7 +9,7 @@ use lib.ListN.{take}
 use lib.Seq.{slice}
 use Rattle.definition.specs.Base.{all}
 use Rattle.consumers.proofs.Table.{all-next, all-not, all-none}
-use Rattle.queues.specs.Scan.{nextFits}
+use Rattle.consumers.specs.Table.{nextFits}
 use Rattle.queues.proofs.next_fit.Statement.{statement}
 use Rattle.queues.proofs.next_fit.Tie as tie
 

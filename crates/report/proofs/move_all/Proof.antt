@@ -8,19 +8,19 @@ use lib.ListN.{length, set, length-set}
 use Rattle.state.specs.State.{headView}
 use Rattle.consumers.specs.Table.{onFirst}
 use Rattle.consumers.proofs.Lists.{on-none, on-turn, on-all}
-use Rattle.fates.specs.Blocks.{moved}
+use Rattle.fates.specs.Blocks.{blockMoved}
 use borrow.Author.Needs.{needs}
 use Rattle.report.proofs.move_all.Statement.{statement}
 use Rattle.report.proofs.move_all.Tie as tie
 
 abbrev Inv-loop : tie.InvT-loop
-Inv-loop blocks₀ n code word d subs rows i₀ blocks i = (i ≤ n) × (length blocks ≡ length blocks₀) × (blocks ≡ onFirst (moved code word (headView d subs rows [] [])) i blocks₀)
+Inv-loop blocks₀ n code word d subs rows i₀ blocks i = (i ≤ n) × (length blocks ≡ length blocks₀) × (blocks ≡ onFirst (blockMoved code word (headView d subs rows [] [])) i blocks₀)
 
 abbrev μ-loop : tie.MeasureT-loop
 μ-loop blocks₀ n code word d subs rows i₀ blocks i = n - i
 
 loop-holds : tie.Need-loop-holds Inv-loop μ-loop
-loop-holds c = let a = c .args in (search needs, refl, on-none (moved (a .code) (a .word) (headView (a .d) (now (a .subs)) (now (a .rows)) [] [])) _)
+loop-holds c = let a = c .args in (search needs, refl, on-none (blockMoved (a .code) (a .word) (headView (a .d) (now (a .subs)) (now (a .rows)) [] [])) _)
 
 mul-moved : tie.Need-mul-moved Inv-loop μ-loop
 mul-moved c = search needs
@@ -49,7 +49,7 @@ loop-again c =
     let s = c .before .before .before .before in
     let a = s .args in
     let u = headView (a .d) (now (a .subs)) (now (a .rows)) [] [] in
-    (search needs, simp length-set (l .inv .1), ap (set (l .blocks) (l .i)) (c .moved .ensures) ∙ on-turn (moved (a .code) (a .word) u) (l .i) (now (a .blocks)) (l .blocks) (omega (arith, s .pre .0)) (l .inv .2))
+    (search needs, simp length-set (l .inv .1), ap (set (l .blocks) (l .i)) (c .moved .ensures) ∙ on-turn (blockMoved (a .code) (a .word) u) (l .i) (now (a .blocks)) (l .blocks) (omega (arith, s .pre .0)) (l .inv .2))
 
 same-length : tie.Need-same-length Inv-loop μ-loop
 same-length c = search needs
@@ -59,7 +59,7 @@ returns c =
     let l = c .before .loop in
     let s = c .before .before in
     let a = s .args in
-    l .inv .2 ∙ on-all (moved (a .code) (a .word) (headView (a .d) (now (a .subs)) (now (a .rows)) [] [])) (l .i) (a .n) (now (a .blocks)) (omega (arith, s .pre .0))
+    l .inv .2 ∙ on-all (blockMoved (a .code) (a .word) (headView (a .d) (now (a .subs)) (now (a .rows)) [] [])) (l .i) (a .n) (now (a .blocks)) (omega (arith, s .pre .0))
 
 pub move-all-spec : {M : Type 1} → statement M
 move-all-spec =

@@ -12,13 +12,13 @@ use lib.Seq.{slice}
 use Rattle.definition.specs.Base.{tally}
 use Rattle.definition.specs.Words.{at}
 use Rattle.consumers.proofs.Table.{tally-hit, tally-miss, tally-none}
-use Rattle.report.specs.Report.{isAt}
+use Rattle.report.specs.Report.{isAtPlace}
 use borrow.Author.Needs.{needs}
 use Rattle.report.proofs.total.Statement.{statement}
 use Rattle.report.proofs.total.Tie as tie
 
 abbrev Inv-loop : tie.InvT-loop
-Inv-loop blocks n place end count₀ i₀ count i = (i ≤ end) × (count ≤ i) × (count + tally (isAt place) (slice i n blocks) ≡ tally (isAt place) (take n blocks))
+Inv-loop blocks n place end count₀ i₀ count i = (i ≤ end) × (count ≤ i) × (count + tally (isAtPlace place) (slice i n blocks) ≡ tally (isAtPlace place) (take n blocks))
 
 abbrev μ-loop : tie.MeasureT-loop
 μ-loop blocks n place end count₀ i₀ count i = end - i
@@ -56,8 +56,8 @@ loop-again c =
       search needs,
       ⊎-elim (λ w. omega arith) (λ w. omega arith) (c .if1 .came),
       ⊎-elim
-          (λ x. omega (arith, tally-hit (l .i) (a .n) (now (a .blocks)) h (isAt (a .place)) (eq-eqb w (a .place) (x .0 .taken))))
-          (λ x. omega (arith, tally-miss (l .i) (a .n) (now (a .blocks)) h (isAt (a .place)) (ne-eqb w (a .place) (x .0 .left))))
+          (λ x. omega (arith, tally-hit (l .i) (a .n) (now (a .blocks)) h (isAtPlace (a .place)) (eq-eqb w (a .place) (x .0 .taken))))
+          (λ x. omega (arith, tally-miss (l .i) (a .n) (now (a .blocks)) h (isAtPlace (a .place)) (ne-eqb w (a .place) (x .0 .left))))
           (c .if1 .came),
     )
 
@@ -65,7 +65,7 @@ returns : tie.Need-returns Inv-loop μ-loop
 returns c =
     let l = c .before .loop in
     let a = c .before .before .before .args in
-    omega (arith, tally-none (l .i) (a .n) (now (a .blocks)) (omega arith) (isAt (a .place)), l .inv .2)
+    omega (arith, tally-none (l .i) (a .n) (now (a .blocks)) (omega arith) (isAtPlace (a .place)), l .inv .2)
 
 pub total-spec : {M : Type 1} → statement M
 total-spec =

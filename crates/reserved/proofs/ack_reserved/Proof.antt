@@ -11,7 +11,6 @@ use Rattle.state.proofs.Leaves.{when-leaves}
 use Rattle.state.proofs.Answers.{leaves-no}
 use Rattle.reserved.proofs.Taking.{holds, acks-reserved, acks-nothing}
 use borrow.Author.Needs.{needs}
-use borrow.Author.Needs.{needs}
 use Rattle.reserved.proofs.ack_reserved.Statement.{statement}
 use Rattle.reserved.proofs.ack_reserved.Tie as tie
 

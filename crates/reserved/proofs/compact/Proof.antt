@@ -6,8 +6,9 @@ use Prim.Native.Nat.{ℕ, _+_, _-_, _≤_}
 use denote.Ref.{now}
 use lib.ListN.{length, getD, length-set}
 use lib.Seq.{slice}
+use Rattle.definition.specs.Layout.{Row}
 use Rattle.definition.specs.Base.{tally}
-use Rattle.table.specs.Table.{Row, compacted}
+use Rattle.table.specs.Table.{compacted}
 use Rattle.table.proofs.Segments.{tally-none, count-turn, count-miss, compacted-none, compacted-at, compacted-gone, compacted-kept}
 use Rattle.reserved.specs.Reserved.{wantsRow}
 use native.Mathlib.Omega.{arith}

@@ -1,6 +1,5 @@
 -- `reserved::counted` meets its contract. Assumes nothing.
 use borrow.Author.Needs.{needs}
-use borrow.Author.Needs.{needs}
 use Rattle.reserved.proofs.counted.Statement.{statement}
 use Rattle.reserved.proofs.counted.Tie as tie
 

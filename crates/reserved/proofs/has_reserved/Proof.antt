@@ -29,20 +29,20 @@ loop-holds c =
     let a = c .before .before .before .args in
     seek-start (a .d) (a .id) (now (a .rows)) _ _ (c .first-reserved .ensures) (c .before .before .first-waiting .ensures) (c .before .if1 .left)
 
-mul-held-by : tie.Need-mul-held-by Inv-loop μ-loop
-mul-held-by c = search needs
+mul-is-for : tie.Need-mul-is-for Inv-loop μ-loop
+mul-is-for c = search needs
 
-shared-slice-copy-out-held-by : tie.Need-shared-slice-copy-out-held-by Inv-loop μ-loop
-shared-slice-copy-out-held-by c = search needs
+shared-slice-copy-out-is-for : tie.Need-shared-slice-copy-out-is-for Inv-loop μ-loop
+shared-slice-copy-out-is-for c = search needs
 
-held-by-requires : tie.Need-held-by-requires Inv-loop μ-loop
-held-by-requires c κs = search needs
+is-for-requires : tie.Need-is-for-requires Inv-loop μ-loop
+is-for-requires c κs = search needs
 
 returns-2 : tie.Need-returns-2 Inv-loop μ-loop
 returns-2 c =
     let a = c .before .before .before .before .before .before .before .before .args in
     let l = c .before .before .before .before .loop in
-    seek-found (a .d) (a .id) (now (a .rows)) _ _ (c .before .before .before .before .before .first-reserved .ensures) (c .before .before .before .before .before .before .before .first-waiting .ensures) (l .i) (l .inv) (c .before .before .before .loop-test .taken) (sym (c .before .held-by .ensures) ∙ c .if2 .taken)
+    seek-found (a .d) (a .id) (now (a .rows)) _ _ (c .before .before .before .before .before .first-reserved .ensures) (c .before .before .before .before .before .before .before .first-waiting .ensures) (l .i) (l .inv) (c .before .before .before .loop-test .taken) (sym (c .before .is-for .ensures) ∙ c .if2 .taken)
 
 add-i : tie.Need-add-i Inv-loop μ-loop
 add-i c = search needs
@@ -54,7 +54,7 @@ loop-again : tie.Need-loop-again Inv-loop μ-loop
 loop-again c =
     let a = c .before .before .before .before .before .before .before .before .args in
     let l = c .before .before .before .before .loop in
-    seek-on (a .d) (a .id) (now (a .rows)) _ _ (c .before .before .before .before .before .first-reserved .ensures) (c .before .before .before .before .before .before .before .first-waiting .ensures) (l .i) (l .inv) (c .before .before .before .loop-test .taken) (sym (c .before .held-by .ensures) ∙ c .if2 .left)
+    seek-on (a .d) (a .id) (now (a .rows)) _ _ (c .before .before .before .before .before .first-reserved .ensures) (c .before .before .before .before .before .before .before .first-waiting .ensures) (l .i) (l .inv) (c .before .before .before .loop-test .taken) (sym (c .before .is-for .ensures) ∙ c .if2 .left)
 
 returns-3 : tie.Need-returns-3 Inv-loop μ-loop
 returns-3 c =
@@ -72,9 +72,9 @@ has-reserved-spec =
     returns
     first-reserved-requires
     loop-holds
-    mul-held-by
-    shared-slice-copy-out-held-by
-    held-by-requires
+    mul-is-for
+    shared-slice-copy-out-is-for
+    is-for-requires
     returns-2
     add-i
     loop-less

@@ -1,6 +1,5 @@
 -- `reserved::numbers` meets its contract. Assumes nothing.
 use borrow.Author.Needs.{needs}
-use borrow.Author.Needs.{needs}
 use Rattle.reserved.proofs.numbers.Statement.{statement}
 use Rattle.reserved.proofs.numbers.Tie as tie
 

@@ -2,7 +2,7 @@
 use mathlib.Core.Bool.{Bool}
 use mathlib.Core.List.{List}
 use denote.Ref.{now}
-use Rattle.table.specs.Table.{Row}
+use Rattle.definition.specs.Layout.{Row}
 use Rattle.table.proofs.Segments.{tally-most, taken-out}
 use Rattle.reserved.specs.Reserved.{wantsRow}
 use native.Mathlib.Omega.{arith}

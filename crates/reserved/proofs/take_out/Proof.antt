@@ -7,7 +7,6 @@ use Rattle.reserved.specs.Reserved.{wantsRow}
 use Rattle.reserved.proofs.Taking.{gone-few, takes-at}
 use native.Mathlib.Omega.{arith}
 use borrow.Author.Needs.{needs}
-use borrow.Author.Needs.{needs}
 use Rattle.reserved.proofs.take_out.Statement.{statement}
 use Rattle.reserved.proofs.take_out.Tie as tie
 

@@ -6,7 +6,6 @@ use Rattle.acks.proofs.Telling.{told-none}
 use Rattle.reserved.specs.Reserved.{wantsRow}
 use Rattle.reserved.proofs.Taking.{tell-as}
 use borrow.Author.Needs.{needs}
-use borrow.Author.Needs.{needs}
 use Rattle.reserved.proofs.tell.Statement.{statement}
 use Rattle.reserved.proofs.tell.Tie as tie
 

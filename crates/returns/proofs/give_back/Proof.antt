@@ -7,7 +7,7 @@ use mir.Syntax.{w64}
 use mir.Val.{toZ, ofZ}
 use mir.ValLaws.{toZ-ofZ}
 use Rattle.model.specs.Model.{idOf}
-use Rattle.returns.specs.Gaps.{Gave}
+use Rattle.returns.specs.Gaps.{GaveBack}
 use Rattle.returns.proofs.Gap.{gap-open}
 use Rattle.returns.proofs.Giving.{Giving, giving-start, giving-turn, giving-end}
 use borrow.Author.Needs.{needs}
@@ -54,7 +54,7 @@ returns c =
     let l = c .before .loop in
     let a = c .before .before .args in
     let j = idOf (a .s .conn) (a .s .session) (a .s .value) in
-    subst (λ (x : ℤ). Gave (a .clock) x j (a .base) (a .s .inflight) (a .before) (l .d) (now (a .subs)) (now (a .rows)) (l .subs) (l .rows)) (toZ-ofZ w64 (a .last) (c .before .before .fits .last))
+    subst (λ (x : ℤ). GaveBack (a .clock) x j (a .base) (a .s .inflight) (a .before) (l .d) (now (a .subs)) (now (a .rows)) (l .subs) (l .rows)) (toZ-ofZ w64 (a .last) (c .before .before .fits .last))
     (giving-end (a .clock) (toZ w64 (ofZ w64 (a .last))) j (a .base) (a .before) (now (a .subs)) (now (a .rows)) (a .s .inflight) (l .left) (l .d) (l .subs) (l .rows) (l .inv) (c .loop-test .left))
 
 pub give-back-spec : {M : Type 1} → statement M

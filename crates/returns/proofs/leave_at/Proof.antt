@@ -9,9 +9,9 @@ use lib.ListN.{take, getD}
 use mir.Syntax.{w64}
 use mir.Val.{toZ, ofZ}
 use mir.ValLaws.{toZ-ofZ}
-use Rattle.definition.specs.Layout.{inflightOf, heldOf}
+use Rattle.definition.specs.Layout.{inflightCount, heldCount}
 use Rattle.consumers.specs.declared.Sub.{Sub}
-use Rattle.consumers.specs.Consumers.{subOf}
+use Rattle.consumers.specs.Consumers.{rowSub}
 use Rattle.consumers.proofs.View.{inflight-loaded, held-loaded}
 use Rattle.state.specs.declared.Head.{Head}
 use Rattle.state.specs.State.{withUsed}
@@ -43,10 +43,10 @@ add-forget c =
     let low = c .before .before .before .before .before .before .before .before .before .before .before .before .pre .1 in
     let w = getD (take (a .before .consumers) (now (a .subs))) (a .i) [] in
     let b = c .before .before .before .before .before .before .before .before .before .before .base-of .ensures ∙ seat-base (a .i) (a .before) (now (a .subs)) (now (a .rows)) f low in
-    let s : c .before .before .before .before .before .before .before .before .load .result ≡ subOf w = c .before .before .before .before .before .before .before .before .load .ensures ∙ ap subOf (seat-words (a .i) (a .before) (now (a .subs)) (now (a .rows)) f low) in
+    let s : c .before .before .before .before .before .before .before .before .load .result ≡ rowSub w = c .before .before .before .before .before .before .before .before .load .ensures ∙ ap rowSub (seat-words (a .i) (a .before) (now (a .subs)) (now (a .rows)) f low) in
     let g : c .before .before .before .before .dropped .result ≡ droppedHead (a .before) = c .before .before .before .before .dropped .ensures in
-    let m : c .before .before .before .before .before .before .before .before .load .result .inflight ≡ inflightOf w = ap (λ (x : Sub). x .inflight) s ∙ inflight-loaded w in
-    let k : c .before .before .before .before .before .before .before .before .load .result .held ≡ heldOf w = ap (λ (x : Sub). x .held) s ∙ held-loaded w in
+    let m : c .before .before .before .before .before .before .before .before .load .result .inflight ≡ inflightCount w = ap (λ (x : Sub). x .inflight) s ∙ inflight-loaded w in
+    let k : c .before .before .before .before .before .before .before .before .load .result .held ≡ heldCount w = ap (λ (x : Sub). x .held) s ∙ held-loaded w in
     let u : c .before .before .before .before .dropped .result .used ≡ a .before .used = ap (λ (x : Head). x .used) g in
     let r = seat-rows (a .i) (a .before) (now (a .subs)) (now (a .rows)) f low in
     record { fits = omega (arith, m, k, r, f .used) }
@@ -58,10 +58,10 @@ forget-requires c κs =
     let low = c .before .before .before .before .before .before .before .before .before .before .before .before .pre .1 in
     let w = getD (take (a .before .consumers) (now (a .subs))) (a .i) [] in
     let b = c .before .before .before .before .before .before .before .before .before .before .base-of .ensures ∙ seat-base (a .i) (a .before) (now (a .subs)) (now (a .rows)) f low in
-    let s : c .before .before .before .before .before .before .before .before .load .result ≡ subOf w = c .before .before .before .before .before .before .before .before .load .ensures ∙ ap subOf (seat-words (a .i) (a .before) (now (a .subs)) (now (a .rows)) f low) in
+    let s : c .before .before .before .before .before .before .before .before .load .result ≡ rowSub w = c .before .before .before .before .before .before .before .before .load .ensures ∙ ap rowSub (seat-words (a .i) (a .before) (now (a .subs)) (now (a .rows)) f low) in
     let g : c .before .before .before .before .dropped .result ≡ droppedHead (a .before) = c .before .before .before .before .dropped .ensures in
-    let m : c .before .before .before .before .before .before .before .before .load .result .inflight ≡ inflightOf w = ap (λ (x : Sub). x .inflight) s ∙ inflight-loaded w in
-    let k : c .before .before .before .before .before .before .before .before .load .result .held ≡ heldOf w = ap (λ (x : Sub). x .held) s ∙ held-loaded w in
+    let m : c .before .before .before .before .before .before .before .before .load .result .inflight ≡ inflightCount w = ap (λ (x : Sub). x .inflight) s ∙ inflight-loaded w in
+    let k : c .before .before .before .before .before .before .before .before .load .result .held ≡ heldCount w = ap (λ (x : Sub). x .held) s ∙ held-loaded w in
     let u : c .before .before .before .before .dropped .result .used ≡ a .before .used = ap (λ (x : Head). x .used) g in
     let r = seat-rows (a .i) (a .before) (now (a .subs)) (now (a .rows)) f low in
     omega (arith, m, k, r, u)
@@ -79,10 +79,10 @@ returns c =
     let low = c .before .before .before .before .before .before .before .before .before .before .before .before .before .before .pre .1 in
     let w = getD (take (a .before .consumers) (now (a .subs))) (a .i) [] in
     let b = c .before .before .before .before .before .before .before .before .before .before .before .before .base-of .ensures ∙ seat-base (a .i) (a .before) (now (a .subs)) (now (a .rows)) f low in
-    let s : c .before .before .before .before .before .before .before .before .before .before .load .result ≡ subOf w = c .before .before .before .before .before .before .before .before .before .before .load .ensures ∙ ap subOf (seat-words (a .i) (a .before) (now (a .subs)) (now (a .rows)) f low) in
+    let s : c .before .before .before .before .before .before .before .before .before .before .load .result ≡ rowSub w = c .before .before .before .before .before .before .before .before .before .before .load .ensures ∙ ap rowSub (seat-words (a .i) (a .before) (now (a .subs)) (now (a .rows)) f low) in
     let g : c .before .before .before .before .before .before .dropped .result ≡ droppedHead (a .before) = c .before .before .before .before .before .before .dropped .ensures in
-    let m : c .before .before .before .before .before .before .before .before .before .before .load .result .inflight ≡ inflightOf w = ap (λ (x : Sub). x .inflight) s ∙ inflight-loaded w in
-    let k : c .before .before .before .before .before .before .before .before .before .before .load .result .held ≡ heldOf w = ap (λ (x : Sub). x .held) s ∙ held-loaded w in
+    let m : c .before .before .before .before .before .before .before .before .before .before .load .result .inflight ≡ inflightCount w = ap (λ (x : Sub). x .inflight) s ∙ inflight-loaded w in
+    let k : c .before .before .before .before .before .before .before .before .before .before .load .result .held ≡ heldCount w = ap (λ (x : Sub). x .held) s ∙ held-loaded w in
     let u : c .before .before .before .before .before .before .dropped .result .used ≡ a .before .used = ap (λ (x : Head). x .used) g in
     let r = seat-rows (a .i) (a .before) (now (a .subs)) (now (a .rows)) f low in
     let v = c .before .forget in
@@ -99,10 +99,10 @@ add-forget-2 c =
     let low = c .before .before .before .before .before .before .before .before .before .before .before .before .pre .1 in
     let w = getD (take (a .before .consumers) (now (a .subs))) (a .i) [] in
     let b = c .before .before .before .before .before .before .before .before .before .before .base-of .ensures ∙ seat-base (a .i) (a .before) (now (a .subs)) (now (a .rows)) f low in
-    let s : c .before .before .before .before .before .before .before .before .load .result ≡ subOf w = c .before .before .before .before .before .before .before .before .load .ensures ∙ ap subOf (seat-words (a .i) (a .before) (now (a .subs)) (now (a .rows)) f low) in
+    let s : c .before .before .before .before .before .before .before .before .load .result ≡ rowSub w = c .before .before .before .before .before .before .before .before .load .ensures ∙ ap rowSub (seat-words (a .i) (a .before) (now (a .subs)) (now (a .rows)) f low) in
     let g : c .before .before .before .before .dropped .result ≡ droppedHead (a .before) = c .before .before .before .before .dropped .ensures in
-    let m : c .before .before .before .before .before .before .before .before .load .result .inflight ≡ inflightOf w = ap (λ (x : Sub). x .inflight) s ∙ inflight-loaded w in
-    let k : c .before .before .before .before .before .before .before .before .load .result .held ≡ heldOf w = ap (λ (x : Sub). x .held) s ∙ held-loaded w in
+    let m : c .before .before .before .before .before .before .before .before .load .result .inflight ≡ inflightCount w = ap (λ (x : Sub). x .inflight) s ∙ inflight-loaded w in
+    let k : c .before .before .before .before .before .before .before .before .load .result .held ≡ heldCount w = ap (λ (x : Sub). x .held) s ∙ held-loaded w in
     let u : c .before .before .before .before .dropped .result .used ≡ a .before .used = ap (λ (x : Head). x .used) g in
     let r = seat-rows (a .i) (a .before) (now (a .subs)) (now (a .rows)) f low in
     record { fits = omega (arith, b, m, k, r, f .used) }
@@ -114,10 +114,10 @@ forget-requires-2 c κs =
     let low = c .before .before .before .before .before .before .before .before .before .before .before .before .pre .1 in
     let w = getD (take (a .before .consumers) (now (a .subs))) (a .i) [] in
     let b = c .before .before .before .before .before .before .before .before .before .before .base-of .ensures ∙ seat-base (a .i) (a .before) (now (a .subs)) (now (a .rows)) f low in
-    let s : c .before .before .before .before .before .before .before .before .load .result ≡ subOf w = c .before .before .before .before .before .before .before .before .load .ensures ∙ ap subOf (seat-words (a .i) (a .before) (now (a .subs)) (now (a .rows)) f low) in
+    let s : c .before .before .before .before .before .before .before .before .load .result ≡ rowSub w = c .before .before .before .before .before .before .before .before .load .ensures ∙ ap rowSub (seat-words (a .i) (a .before) (now (a .subs)) (now (a .rows)) f low) in
     let g : c .before .before .before .before .dropped .result ≡ droppedHead (a .before) = c .before .before .before .before .dropped .ensures in
-    let m : c .before .before .before .before .before .before .before .before .load .result .inflight ≡ inflightOf w = ap (λ (x : Sub). x .inflight) s ∙ inflight-loaded w in
-    let k : c .before .before .before .before .before .before .before .before .load .result .held ≡ heldOf w = ap (λ (x : Sub). x .held) s ∙ held-loaded w in
+    let m : c .before .before .before .before .before .before .before .before .load .result .inflight ≡ inflightCount w = ap (λ (x : Sub). x .inflight) s ∙ inflight-loaded w in
+    let k : c .before .before .before .before .before .before .before .before .load .result .held ≡ heldCount w = ap (λ (x : Sub). x .held) s ∙ held-loaded w in
     let u : c .before .before .before .before .dropped .result .used ≡ a .before .used = ap (λ (x : Head). x .used) g in
     let r = seat-rows (a .i) (a .before) (now (a .subs)) (now (a .rows)) f low in
     omega (arith, m, k, r, u)
@@ -129,10 +129,10 @@ give-back-requires c κs =
     let low = c .before .before .before .before .before .before .before .before .before .before .before .before .before .before .before .before .pre .1 in
     let w = getD (take (a .before .consumers) (now (a .subs))) (a .i) [] in
     let b = c .before .before .before .before .before .before .before .before .before .before .before .before .before .before .base-of .ensures ∙ seat-base (a .i) (a .before) (now (a .subs)) (now (a .rows)) f low in
-    let s : c .before .before .before .before .before .before .before .before .before .before .before .before .load .result ≡ subOf w = c .before .before .before .before .before .before .before .before .before .before .before .before .load .ensures ∙ ap subOf (seat-words (a .i) (a .before) (now (a .subs)) (now (a .rows)) f low) in
+    let s : c .before .before .before .before .before .before .before .before .before .before .before .before .load .result ≡ rowSub w = c .before .before .before .before .before .before .before .before .before .before .before .before .load .ensures ∙ ap rowSub (seat-words (a .i) (a .before) (now (a .subs)) (now (a .rows)) f low) in
     let g : c .before .before .before .before .before .before .before .before .dropped .result ≡ droppedHead (a .before) = c .before .before .before .before .before .before .before .before .dropped .ensures in
-    let m : c .before .before .before .before .before .before .before .before .before .before .before .before .load .result .inflight ≡ inflightOf w = ap (λ (x : Sub). x .inflight) s ∙ inflight-loaded w in
-    let k : c .before .before .before .before .before .before .before .before .before .before .before .before .load .result .held ≡ heldOf w = ap (λ (x : Sub). x .held) s ∙ held-loaded w in
+    let m : c .before .before .before .before .before .before .before .before .before .before .before .before .load .result .inflight ≡ inflightCount w = ap (λ (x : Sub). x .inflight) s ∙ inflight-loaded w in
+    let k : c .before .before .before .before .before .before .before .before .before .before .before .before .load .result .held ≡ heldCount w = ap (λ (x : Sub). x .held) s ∙ held-loaded w in
     let u : c .before .before .before .before .before .before .before .before .dropped .result .used ≡ a .before .used = ap (λ (x : Head). x .used) g in
     let r = seat-rows (a .i) (a .before) (now (a .subs)) (now (a .rows)) f low in
     let v = c .before .before .before .forget2 in
@@ -151,10 +151,10 @@ returns-2 c =
     let low = c .before .before .before .before .before .before .before .before .before .before .before .before .before .before .before .before .before .before .before .pre .1 in
     let w = getD (take (a .before .consumers) (now (a .subs))) (a .i) [] in
     let b = c .before .before .before .before .before .before .before .before .before .before .before .before .before .before .before .before .before .base-of .ensures ∙ seat-base (a .i) (a .before) (now (a .subs)) (now (a .rows)) f low in
-    let s : c .before .before .before .before .before .before .before .before .before .before .before .before .before .before .before .load .result ≡ subOf w = c .before .before .before .before .before .before .before .before .before .before .before .before .before .before .before .load .ensures ∙ ap subOf (seat-words (a .i) (a .before) (now (a .subs)) (now (a .rows)) f low) in
+    let s : c .before .before .before .before .before .before .before .before .before .before .before .before .before .before .before .load .result ≡ rowSub w = c .before .before .before .before .before .before .before .before .before .before .before .before .before .before .before .load .ensures ∙ ap rowSub (seat-words (a .i) (a .before) (now (a .subs)) (now (a .rows)) f low) in
     let g : c .before .before .before .before .before .before .before .before .before .before .before .dropped .result ≡ droppedHead (a .before) = c .before .before .before .before .before .before .before .before .before .before .before .dropped .ensures in
-    let m : c .before .before .before .before .before .before .before .before .before .before .before .before .before .before .before .load .result .inflight ≡ inflightOf w = ap (λ (x : Sub). x .inflight) s ∙ inflight-loaded w in
-    let k : c .before .before .before .before .before .before .before .before .before .before .before .before .before .before .before .load .result .held ≡ heldOf w = ap (λ (x : Sub). x .held) s ∙ held-loaded w in
+    let m : c .before .before .before .before .before .before .before .before .before .before .before .before .before .before .before .load .result .inflight ≡ inflightCount w = ap (λ (x : Sub). x .inflight) s ∙ inflight-loaded w in
+    let k : c .before .before .before .before .before .before .before .before .before .before .before .before .before .before .before .load .result .held ≡ heldCount w = ap (λ (x : Sub). x .held) s ∙ held-loaded w in
     let u : c .before .before .before .before .before .before .before .before .before .before .before .dropped .result .used ≡ a .before .used = ap (λ (x : Head). x .used) g in
     let r = seat-rows (a .i) (a .before) (now (a .subs)) (now (a .rows)) f low in
     let v = c .before .before .before .before .before .before .forget2 in

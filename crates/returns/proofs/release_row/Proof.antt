@@ -7,7 +7,7 @@ use lib.ListN.{getD}
 use Rattle.entry.specs.Entry.{entryOf, redelivered}
 use Rattle.definition.specs.Types.{Entry}
 use Rattle.definition.specs.Destination.{reinsert}
-use Rattle.state.specs.State.{withReserved}
+use Rattle.state.specs.State.{withReservedCount}
 use Rattle.returns.proofs.Moving.{moves-as}
 use borrow.Author.Needs.{needs}
 use Rattle.returns.proofs.release_row.Statement.{statement}
@@ -45,7 +45,7 @@ returns c =
     let r = c .before .before .before .before .before .before .redelivered in
     let v = c .before .before .put-back in
     let e : r .result ≡ redelivered (entryOf (getD (now (a .rows)) (a .at) [])) = r .ensures ∙ ap redelivered (c .before .before .before .before .before .before .before .entry-of .ensures) in (
-      moves-as (a .at) (reinsert (a .clock) (r .result ∷ [])) (reinsert (a .clock) (redelivered (entryOf (getD (now (a .rows)) (a .at) [])) ∷ [])) (withReserved (a .d .reserved - 1) (a .d)) _ (now (a .subs)) (now (a .rows)) _ _
+      moves-as (a .at) (reinsert (a .clock) (r .result ∷ [])) (reinsert (a .clock) (redelivered (entryOf (getD (now (a .rows)) (a .at) [])) ∷ [])) (withReservedCount (a .d .reserved - 1) (a .d)) _ (now (a .subs)) (now (a .rows)) _ _
           (λ t. ap (λ (x : Entry). reinsert (a .clock) (x ∷ []) t) e) (v .ensures .0),
       v .ensures .1,
     )

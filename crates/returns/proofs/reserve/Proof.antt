@@ -8,7 +8,7 @@ use denote.Ref.{now}
 use Rattle.definition.specs.Layout.{Row}
 use Rattle.table.specs.Table.{closeGap}
 use Rattle.model.specs.Model.{idOf}
-use Rattle.returns.specs.Returns.{held}
+use Rattle.returns.specs.Returns.{heldFor}
 use Rattle.returns.proofs.Moving.{moves-reserved}
 use Rattle.returns.proofs.reserve.Statement.{statement}
 use Rattle.returns.proofs.reserve.Tie as tie
@@ -45,7 +45,7 @@ returns c =
     let n = c .before .before .before .before .before .first-waiting in
     let x = c .before .reserved-row in
     let q = ap (λ (y : List Row). set y (n .result - 1) (x .result)) (c .before .before .before .close-gap .ensures) ∙ ap (λ (m : ℕ). set (closeGap (a .from) 1 m l) (m - 1) (x .result)) (n .ensures) in
-    λ subs. moves-reserved (a .from) (a .d) subs l o _ _ (x .result) (held (idOf (a .s .conn) (a .s .session) (a .s .value)) (a .e)) (x .ensures .0) (x .ensures .1) refl q
+    λ subs. moves-reserved (a .from) (a .d) subs l o _ _ (x .result) (heldFor (idOf (a .s .conn) (a .s .session) (a .s .value)) (a .e)) (x .ensures .0) (x .ensures .1) refl q
 
 pub reserve-spec : {M : Type 1} → statement M
 reserve-spec =

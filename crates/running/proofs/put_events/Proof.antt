@@ -4,7 +4,7 @@ use Prim.Native.Nat.{ℕ, _-_, _≤_}
 use denote.Ref.{now}
 use lib.ListN.{take}
 use Rattle.callfile.specs.Placed.{Puts}
-use Rattle.running.specs.Running.{rowsText}
+use Rattle.running.specs.Running.{eventRowsText}
 use Rattle.running.proofs.Texts.{no-lines, one-more}
 use native.Mathlib.Omega.{arith}
 use borrow.Author.Needs.{needs}
@@ -12,7 +12,7 @@ use Rattle.running.proofs.put_events.Statement.{statement}
 use Rattle.running.proofs.put_events.Tie as tie
 
 abbrev Inv-loop : tie.InvT-loop
-Inv-loop out₀ from events n at₀ i₀ out at i = Puts (rowsText (take i events)) from out₀ at out × (i ≤ n)
+Inv-loop out₀ from events n at₀ i₀ out at i = Puts (eventRowsText (take i events)) from out₀ at out × (i ≤ n)
 
 abbrev μ-loop : tie.MeasureT-loop
 μ-loop out₀ from events n at₀ i₀ out at i = n - i
@@ -49,7 +49,7 @@ returns c =
     let l = c .before .loop in
     let a = c .before .before .before .args in
     let e : l .i ≡ a .n = omega (arith, l .inv .1, c .loop-test .left) in
-    subst (λ (k : ℕ). Puts (rowsText (take k (now (a .events)))) (a .from) (now (a .out)) (l .at) (l .out)) e (l .inv .0)
+    subst (λ (k : ℕ). Puts (eventRowsText (take k (now (a .events)))) (a .from) (now (a .out)) (l .at) (l .out)) e (l .inv .0)
 
 pub put-events-spec : {M : Type 1} → statement M
 put-events-spec =

@@ -3,7 +3,7 @@ use mathlib.Core.Path.{sym, ap, _∙_}
 use native.Mathlib.Omega.{arith}
 use borrow.Author.Needs.{needs}
 use denote.Ref.{now}
-use lib.ListN.{length, take}
+use lib.ListN.{take}
 use lib.Seq.{take-all, take-length, length-take-le}
 use Rattle.shares.specs.Shares.{withinEach}
 use Rattle.shares.proofs.Laws.{within-full}

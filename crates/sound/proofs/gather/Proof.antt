@@ -1,11 +1,10 @@
 -- `sound::gather` meets its contract. The loop's invariant: so many numbers are copied. Assumes nothing.
 use mathlib.Core.Path.{_≡_, refl, sym, ap, _∙_}
-use mathlib.Core.List.{[], _++_}
+use mathlib.Core.List.{[], _++_, append-nil}
 use Prim.Native.Nat.{ℕ, _+_, _-_, _≤_}
 use native.Mathlib.Nat.{add-zero}
 use lib.ListN.{length, take, drop, getD, length-set}
 use Rattle.definition.specs.Words.{at}
-use mathlib.Core.List.{append-nil}
 use Rattle.sound.specs.Sound.{seqsAt}
 use Rattle.sound.proofs.Gathered.{gather-turn}
 use native.Mathlib.Omega.{arith}

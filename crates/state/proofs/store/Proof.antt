@@ -8,12 +8,12 @@ use borrow.Author.Tests.{lt-ltb, le-ltb}
 use denote.Ref.{now}
 use lib.ListN.{set, length-set}
 use lib.Seq.{sets-eq}
-use Rattle.state.specs.State.{headWords, stored}
+use Rattle.state.specs.State.{headWords, storedHead}
 use Rattle.state.proofs.store.Statement.{statement}
 use Rattle.state.proofs.store.Tie as tie
 
 returns : tie.Need-returns
-unfolding stored
+unfolding storedHead
 returns c = rw (lt-ltb _ _ (c .if1 .taken))
 
 kind-word-requires : tie.Need-kind-word-requires
@@ -83,7 +83,7 @@ same-length : tie.Need-same-length
 same-length c = simp length-set
 
 returns-2 : tie.Need-returns-2
-unfolding stored headWords
+unfolding storedHead headWords
 returns-2 c =
     let a = c .before .before .before .before .args in
     let h : List ℕ = now (a .head) in

@@ -4,7 +4,8 @@ use mathlib.Core.List.{List, _++_}
 use Prim.Native.Nat.{ℕ, _+_, _-_, _≤_}
 use denote.Ref.{now}
 use lib.ListN.{length, take, drop, length-set}
-use Rattle.table.specs.Table.{Row, closed, closeGap}
+use Rattle.definition.specs.Layout.{Row}
+use Rattle.table.specs.Table.{closed, closeGap}
 use Rattle.table.proofs.Bounds.{close-in, close-low, close-high}
 use Rattle.table.proofs.Loops.{closed-none, closed-still, closed-turn, closed-part}
 use native.Mathlib.Omega.{arith}

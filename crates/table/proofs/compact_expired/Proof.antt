@@ -6,10 +6,11 @@ use mathlib.Core.List.{[]}
 use denote.Ref.{now}
 use lib.ListN.{length, getD, length-set}
 use lib.Seq.{slice}
+use Rattle.definition.specs.Layout.{Row}
 use Rattle.words.specs.Words.{signed}
-use Rattle.entry.specs.Entry.{expired}
+use Rattle.entry.specs.Entry.{expired, expiredRow}
 use Rattle.definition.specs.Base.{tally}
-use Rattle.table.specs.Table.{Row, expiredRow, compacted}
+use Rattle.table.specs.Table.{compacted}
 use Rattle.table.proofs.Segments.{tally-none, count-turn, count-miss, compacted-none, compacted-at, compacted-gone, compacted-kept, compacted-still}
 use native.Mathlib.Omega.{arith}
 use borrow.Author.Needs.{needs}

@@ -6,8 +6,9 @@ use mathlib.Core.List.{List, []}
 use denote.Ref.{now}
 use lib.ListN.{length, getD, length-set}
 use lib.Seq.{slice}
+use Rattle.definition.specs.Layout.{Row}
 use Rattle.definition.specs.Base.{tally}
-use Rattle.table.specs.Table.{Row, inRange, isFreed, compacted}
+use Rattle.table.specs.Table.{dseqBetween, isFreed, compacted}
 use Rattle.table.proofs.Lists.{and-on, and-off}
 use Rattle.table.proofs.Segments.{tally-none, count-turn, count-miss, compacted-none, compacted-at, compacted-gone, compacted-kept}
 use native.Mathlib.Omega.{arith}
@@ -17,7 +18,7 @@ use Rattle.table.proofs.compact_range.Tie as tie
 
 -- in the range, and freed
 abbrev freedIn : ℕ → ℕ → Row → Bool
-freedIn first last w = inRange first last w && isFreed w
+freedIn first last w = dseqBetween first last w && isFreed w
 
 abbrev Inv-loop : tie.InvT-loop
 Inv-loop rows₀ from to first last gone₀ freed₀ i₀ rows gone freed i = (from ≤ i)
@@ -25,9 +26,9 @@ Inv-loop rows₀ from to first last gone₀ freed₀ i₀ rows gone freed i = (f
     × (length rows ≡ length rows₀)
     × (from + gone ≤ i)
     × (from + freed ≤ i)
-    × (gone ≡ tally (inRange first last) (slice from i rows₀))
+    × (gone ≡ tally (dseqBetween first last) (slice from i rows₀))
     × (freed ≡ tally (freedIn first last) (slice from i rows₀))
-    × (rows ≡ compacted (inRange first last) from i rows₀)
+    × (rows ≡ compacted (dseqBetween first last) from i rows₀)
 
 abbrev μ-loop : tie.MeasureT-loop
 μ-loop rows₀ from to first last gone₀ freed₀ i₀ rows gone freed i = to - i
@@ -35,7 +36,7 @@ abbrev μ-loop : tie.MeasureT-loop
 loop-holds : tie.Need-loop-holds Inv-loop μ-loop
 loop-holds c = let a = c .args in
     let rs : List Row = now (a .rows) in
-    (search needs, search needs, refl, search needs, search needs, tally-none (inRange (a .first) (a .last)) (a .from) rs, tally-none (freedIn (a .first) (a .last)) (a .from) rs, compacted-none _ _ _)
+    (search needs, search needs, refl, search needs, search needs, tally-none (dseqBetween (a .first) (a .last)) (a .from) rs, tally-none (freedIn (a .first) (a .last)) (a .from) rs, compacted-none _ _ _)
 
 mul-row : tie.Need-mul-row Inv-loop μ-loop
 mul-row c = search needs
@@ -70,7 +71,7 @@ loop-less c = search needs
 loop-again : tie.Need-loop-again Inv-loop μ-loop
 loop-again c = let l = c .before .before .before .before .before .loop in
     let a = c .before .before .before .before .before .before .args in
-    let p : Row → Bool = inRange (a .first) (a .last) in
+    let p : Row → Bool = dseqBetween (a .first) (a .last) in
     let x : Row = getD (l .rows) (l .i) [] in
     let hit : p x ≡ true = sym (c .before .before .hit .ensures) ∙ c .before .if1 .taken in
     let at : x ≡ getD (now (a .rows)) (l .i) [] = compacted-at p (a .from) (l .i) _ (l .rows) (search needs) (search needs) (l .inv .7) in (
@@ -102,7 +103,7 @@ loop-less-2 c = search needs
 loop-again-2 : tie.Need-loop-again-2 Inv-loop μ-loop
 loop-again-2 c = let l = c .before .before .before .before .loop in
     let a = c .before .before .before .before .before .args in
-    let p : Row → Bool = inRange (a .first) (a .last) in
+    let p : Row → Bool = dseqBetween (a .first) (a .last) in
     let x : Row = getD (l .rows) (l .i) [] in
     let miss : p x ≡ false = sym (c .before .hit .ensures) ∙ c .if1 .left in
     let at : x ≡ getD (now (a .rows)) (l .i) [] = compacted-at p (a .from) (l .i) _ (l .rows) (search needs) (search needs) (l .inv .7) in (
@@ -124,7 +125,7 @@ returns c = let l = c .before .loop in
     let a = c .before .before .args in
     let e : l .i ≡ a .to = omega arith in
     let counted : (q : Row → Bool) → tally q (slice (a .from) (l .i) (now (a .rows))) ≡ tally q (slice (a .from) (a .to) (now (a .rows))) = λ q. ap (λ (m : ℕ). tally q (slice (a .from) m (now (a .rows)))) e in
-    (l .inv .5 ∙ counted (inRange (a .first) (a .last)), (l .inv .6 ∙ counted (freedIn (a .first) (a .last)), l .inv .7 ∙ ap (λ (m : ℕ). compacted (inRange (a .first) (a .last)) (a .from) m (now (a .rows))) e))
+    (l .inv .5 ∙ counted (dseqBetween (a .first) (a .last)), (l .inv .6 ∙ counted (freedIn (a .first) (a .last)), l .inv .7 ∙ ap (λ (m : ℕ). compacted (dseqBetween (a .first) (a .last)) (a .from) m (now (a .rows))) e))
 
 pub compact-range-spec : {M : Type 1} → statement M
 compact-range-spec =

@@ -6,9 +6,10 @@ use mathlib.Core.List.{[]}
 use denote.Ref.{now}
 use lib.ListN.{length, getD, length-set}
 use lib.Seq.{slice}
+use Rattle.definition.specs.Layout.{Row}
 use Rattle.definition.specs.Base.{tally}
 use borrow.Author.Tests.{eq-eqb, ne-eqb}
-use Rattle.table.specs.Table.{Row, hasSeq, compacted}
+use Rattle.table.specs.Table.{hasSeq, compacted}
 use Rattle.table.proofs.Segments.{tally-none, count-turn, count-miss, compacted-none, compacted-at, compacted-gone, compacted-kept}
 use native.Mathlib.Omega.{arith}
 use borrow.Author.Needs.{needs}

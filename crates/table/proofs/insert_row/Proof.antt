@@ -3,7 +3,7 @@ use mathlib.Core.Path.{sym, ap, _∙_}
 use mathlib.Core.List.{List}
 use denote.Ref.{now}
 use lib.ListN.{set}
-use Rattle.table.specs.Table.{Row}
+use Rattle.definition.specs.Layout.{Row}
 use Rattle.table.proofs.Bounds.{insert-in, insert-low, insert-high, open-in}
 use Rattle.table.proofs.Loops.{lifted-store}
 use borrow.Author.Needs.{needs}

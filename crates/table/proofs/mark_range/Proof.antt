@@ -1,15 +1,17 @@
 -- `table::mark_range` meets its contract. Assumes nothing.
 use mathlib.Core.Path.{_≡_, refl, sym, ap, _∙_}
 use Prim.Native.Nat.{ℕ, _+_, _-_, _≤_}
-use mathlib.Core.Bool.{Bool, true, false, not, _&&_}
+use mathlib.Core.Bool.{Bool, true, false, not, _&&_, Bool·not-not}
 use mathlib.Core.List.{[]}
 use denote.Ref.{now}
 use lib.Dec.{eqb}
 use lib.ListN.{length, getD, length-set}
 use lib.Seq.{slice}
-use Rattle.definition.specs.Base.{if_then_else_, tally}
-use Rattle.table.specs.Table.{Row, inRange, isFreed, markRow, freedRow, mapped}
-use Rattle.table.proofs.Lists.{if-true, if-false, and-on, and-off, not-twice}
+use Rattle.definition.specs.Layout.{Row}
+use Rattle.definition.specs.Base.{tally}
+use Rattle.definition.proofs.Tests.{if-true, if-false}
+use Rattle.table.specs.Table.{dseqBetween, isFreed, markRow, freedRow, mapped}
+use Rattle.table.proofs.Lists.{and-on, and-off}
 use Rattle.table.proofs.Bounds.{count-in, count-low, count-high, map-in, map-low, map-high}
 use Rattle.table.proofs.Segments.{tally-none, count-turn, count-miss, mapped-none, mapped-at, mapped-store, mapped-same}
 use native.Mathlib.Omega.{arith}
@@ -19,7 +21,7 @@ use Rattle.table.proofs.mark_range.Tie as tie
 
 -- in the range and not freed yet
 abbrev unfreed : ℕ → ℕ → Row → Bool
-unfreed first last w = inRange first last w && not (isFreed w)
+unfreed first last w = dseqBetween first last w && not (isFreed w)
 
 abbrev Inv-loop : tie.InvT-loop
 Inv-loop rows₀ from to first last tx fresh₀ i₀ rows fresh i = (from ≤ i) × (i ≤ to) × (length rows ≡ length rows₀) × (from + fresh ≤ i) × (fresh ≡ tally (unfreed first last) (slice from i rows₀)) × (rows ≡ mapped (markRow first last tx) from i rows₀)
@@ -84,14 +86,14 @@ loop-again c = let l = c .before .before .before .before .before .before .before
     let a = c .before .before .before .before .before .before .before .before .before .before .args in
     let f : Row → Row = markRow (a .first) (a .last) (a .tx) in
     let x : Row = getD (l .rows) (l .i) [] in
-    let hit : inRange (a .first) (a .last) x ≡ true = sym (c .before .before .before .before .hit .ensures) ∙ c .before .before .before .if3 .taken in
+    let hit : dseqBetween (a .first) (a .last) x ≡ true = sym (c .before .before .before .before .hit .ensures) ∙ c .before .before .before .if3 .taken in
     let at : x ≡ getD (now (a .rows)) (l .i) [] = mapped-at f (a .from) (l .i) _ (l .rows) (search needs) (search needs) (l .inv .5) in (
       search needs,
       search needs,
       simp length-set (search needs),
       search needs,
-      count-turn (unfreed (a .first) (a .last)) (a .from) (l .i) (now (a .rows)) x _ (l .fresh) _ (search needs) (search needs) at (and-on _ _ hit ∙ not-twice (eqb (getD x 7 0) 0)) (c .counted .ensures .0) (l .inv .4),
-      mapped-store f (a .from) (l .i) _ (l .rows) (search needs) (search needs) (l .inv .5) _ (c .before .freed-row .ensures ∙ sym (if-true _ (freedRow (a .tx) x) x hit)),
+      count-turn (unfreed (a .first) (a .last)) (a .from) (l .i) (now (a .rows)) x _ (l .fresh) _ (search needs) (search needs) at (and-on _ _ hit ∙ Bool·not-not (eqb (getD x 7 0) 0)) (c .counted .ensures .0) (l .inv .4),
+      mapped-store f (a .from) (l .i) _ (l .rows) (search needs) (search needs) (l .inv .5) _ (c .before .freed-row .ensures ∙ sym (if-true (freedRow (a .tx) x) x hit)),
     )
 
 add-i-2 : tie.Need-add-i-2 Inv-loop μ-loop
@@ -105,14 +107,14 @@ loop-again-2 c = let l = c .before .before .before .before .loop in
     let a = c .before .before .before .before .before .before .before .args in
     let f : Row → Row = markRow (a .first) (a .last) (a .tx) in
     let x : Row = getD (l .rows) (l .i) [] in
-    let miss : inRange (a .first) (a .last) x ≡ false = sym (c .before .hit .ensures) ∙ c .if3 .left in
+    let miss : dseqBetween (a .first) (a .last) x ≡ false = sym (c .before .hit .ensures) ∙ c .if3 .left in
     let at : x ≡ getD (now (a .rows)) (l .i) [] = mapped-at f (a .from) (l .i) _ (l .rows) (search needs) (search needs) (l .inv .5) in (
       search needs,
       search needs,
       search needs,
       search needs,
       count-miss (unfreed (a .first) (a .last)) (a .from) (l .i) (now (a .rows)) x (l .fresh) (search needs) (search needs) at (and-off _ (not (isFreed x)) miss) (l .inv .4),
-      mapped-same f (a .from) (l .i) _ (l .rows) (search needs) (search needs) (l .inv .5) (if-false _ (freedRow (a .tx) x) x miss),
+      mapped-same f (a .from) (l .i) _ (l .rows) (search needs) (search needs) (l .inv .5) (if-false (freedRow (a .tx) x) x miss),
     )
 
 same-length : tie.Need-same-length Inv-loop μ-loop

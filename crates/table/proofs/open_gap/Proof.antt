@@ -4,7 +4,8 @@ use mathlib.Core.List.{List, _++_}
 use Prim.Native.Nat.{ℕ, _+_, _-_, _≤_}
 use denote.Ref.{now}
 use lib.ListN.{length, take, drop, length-set}
-use Rattle.table.specs.Table.{Row, lifted, openGap}
+use Rattle.definition.specs.Layout.{Row}
+use Rattle.table.specs.Table.{lifted, openGap}
 use Rattle.table.proofs.Bounds.{open-in, open-low, open-high}
 use Rattle.table.proofs.Loops.{lifted-none, lifted-turn, lifted-part}
 use native.Mathlib.Omega.{arith}

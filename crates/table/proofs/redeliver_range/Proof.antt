@@ -5,9 +5,9 @@ use mathlib.Core.Bool.{true, false}
 use mathlib.Core.List.{[]}
 use denote.Ref.{now}
 use lib.ListN.{length, getD, length-set}
-use Rattle.definition.specs.Base.{if_then_else_}
-use Rattle.table.specs.Table.{Row, inRange, redeliverRow, raisedRow, mapped}
-use Rattle.table.proofs.Lists.{if-true, if-false}
+use Rattle.definition.specs.Layout.{Row}
+use Rattle.definition.proofs.Tests.{if-true, if-false}
+use Rattle.table.specs.Table.{dseqBetween, redeliverRow, raisedRow, mapped}
 use Rattle.table.proofs.Bounds.{map-in, map-low, map-high}
 use Rattle.table.proofs.Segments.{mapped-none, mapped-store, mapped-same}
 use native.Mathlib.Omega.{arith}
@@ -67,11 +67,11 @@ loop-again : tie.Need-loop-again Inv-loop μ-loop
 loop-again c = let l = c .before .before .before .before .before .before .loop in
     let a = c .before .before .before .before .before .before .before .before .before .args in
     let x : Row = getD (l .rows) (l .i) [] in
-    let hit : inRange (a .first) (a .last) x ≡ true = sym (c .before .before .before .hit .ensures) ∙ c .before .before .if3 .taken in (
+    let hit : dseqBetween (a .first) (a .last) x ≡ true = sym (c .before .before .before .hit .ensures) ∙ c .before .before .if3 .taken in (
       search needs,
       search needs,
       simp length-set (search needs),
-      mapped-store (redeliverRow (a .first) (a .last)) (a .from) (l .i) _ (l .rows) (search needs) (search needs) (l .inv .3) _ (c .raised-row .ensures ∙ sym (if-true _ (raisedRow x) x hit)),
+      mapped-store (redeliverRow (a .first) (a .last)) (a .from) (l .i) _ (l .rows) (search needs) (search needs) (l .inv .3) _ (c .raised-row .ensures ∙ sym (if-true (raisedRow x) x hit)),
     )
 
 add-i-2 : tie.Need-add-i-2 Inv-loop μ-loop
@@ -84,11 +84,11 @@ loop-again-2 : tie.Need-loop-again-2 Inv-loop μ-loop
 loop-again-2 c = let l = c .before .before .before .before .loop in
     let a = c .before .before .before .before .before .before .before .args in
     let x : Row = getD (l .rows) (l .i) [] in
-    let miss : inRange (a .first) (a .last) x ≡ false = sym (c .before .hit .ensures) ∙ c .if3 .left in (
+    let miss : dseqBetween (a .first) (a .last) x ≡ false = sym (c .before .hit .ensures) ∙ c .if3 .left in (
       search needs,
       search needs,
       search needs,
-      mapped-same (redeliverRow (a .first) (a .last)) (a .from) (l .i) _ (l .rows) (search needs) (search needs) (l .inv .3) (if-false _ (raisedRow x) x miss),
+      mapped-same (redeliverRow (a .first) (a .last)) (a .from) (l .i) _ (l .rows) (search needs) (search needs) (l .inv .3) (if-false (raisedRow x) x miss),
     )
 
 same-length : tie.Need-same-length Inv-loop μ-loop

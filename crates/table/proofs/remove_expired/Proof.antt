@@ -3,7 +3,8 @@ use mathlib.Core.Path.{sym, _∙_}
 use mathlib.Core.Bool.{Bool}
 use mathlib.Core.List.{List}
 use denote.Ref.{now}
-use Rattle.table.specs.Table.{Row, expiredRow}
+use Rattle.definition.specs.Layout.{Row}
+use Rattle.entry.specs.Entry.{expiredRow}
 use Rattle.table.proofs.Bounds.{remove-low, remove-past, remove-high, gone-in, gone-low, gone-past, gone-high}
 use Rattle.table.proofs.Segments.{tally-most, taken-out}
 use native.Mathlib.Omega.{arith}

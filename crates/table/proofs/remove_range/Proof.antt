@@ -4,8 +4,9 @@ use mathlib.Core.Bool.{Bool, _&&_}
 use mathlib.Core.List.{List}
 use Prim.Native.Nat.{ℕ}
 use denote.Ref.{now}
+use Rattle.definition.specs.Layout.{Row}
 use Rattle.table.specs.declared.Removed.{Removed}
-use Rattle.table.specs.Table.{Row, inRange, isFreed}
+use Rattle.table.specs.Table.{dseqBetween, isFreed}
 use Rattle.table.proofs.Bounds.{remove-low, remove-past, remove-high, gone-in, gone-low, gone-past, gone-high}
 use Rattle.table.proofs.Segments.{tally-most, taken-out}
 use native.Mathlib.Omega.{arith}
@@ -31,7 +32,7 @@ compact-range-requires c κs = search needs
 
 sub-close-gap : tie.Need-sub-close-gap
 sub-close-gap c = let a = c .before .before .before .before .before .before .before .args in
-    omega (arith, tally-most (inRange (a .first) (a .last)) (a .from) (a .to) (now (a .rows)) (omega arith) (omega arith), c .before .before .compact-range .ensures .0)
+    omega (arith, tally-most (dseqBetween (a .first) (a .last)) (a .from) (a .to) (now (a .rows)) (omega arith) (omega arith), c .before .before .compact-range .ensures .0)
 
 close-gap-requires : tie.Need-close-gap-requires
 close-gap-requires c κs = search needs
@@ -42,7 +43,7 @@ same-length c = search needs
 returns-4 : tie.Need-returns-4
 returns-4 c = let a = c .before .before .before .before .before .before .before .before .before .args in
     let s = c .before .before .before .before .compact-range .ensures in
-    let p : Row → Bool = inRange (a .first) (a .last) in
+    let p : Row → Bool = dseqBetween (a .first) (a .last) in
     let rs : List Row = now (a .rows) in (
       both _ _ _ _ (s .0 ∙ sym (gone-in p (a .from) (a .to) (a .n) rs (omega arith) (omega arith) (omega arith)))
           (s .1 .0 ∙ sym (gone-in (λ r. p r && isFreed r) (a .from) (a .to) (a .n) rs (omega arith) (omega arith) (omega arith))),

@@ -1,7 +1,7 @@
 -- `texting::message_text` meets its contract. Assumes nothing.
 use mathlib.Core.Bool.{false}
-use Rattle.callfile.proofs.Parts.{then}
-use Rattle.calltext.proofs.Showing.{line-puts, field-length}
+use Rattle.callfile.proofs.Parts.{then, line-puts}
+use Rattle.calltext.proofs.Showing.{field-length}
 use Rattle.texting.specs.Lines.{message}
 use native.Mathlib.Omega.{arith}
 use borrow.Author.Needs.{needs}
@@ -20,7 +20,7 @@ put-word-requires c κs = search needs
 put-complaint-requires : tie.Need-put-complaint-requires
 put-complaint-requires c κs =
     let a = c .before .before .before .before .before .before .before .before .before .before .before .args in
-    let p = c .before .before .before .before .before .before .before .put-all .ensures in
+    let p = line-puts (omega arith) (omega arith) (c .before .before .before .before .before .before .before .put-all .ensures) in
     let q = line-puts (omega (arith, p .next, p .same)) (omega (arith, field-length false (a .line))) (c .before .before .before .put-word .ensures) in
     omega (arith, p .next, p .same, q .next, q .same, field-length false (a .line))
 
@@ -31,7 +31,7 @@ returns : tie.Need-returns
 unfolding message
 returns c =
     let a = c .before .before .before .before .before .before .before .before .before .before .before .before .before .before .args in
-    let p = c .before .before .before .before .before .before .before .before .before .before .put-all .ensures in
+    let p = line-puts (omega arith) (omega arith) (c .before .before .before .before .before .before .before .before .before .before .put-all .ensures) in
     let q = line-puts (omega (arith, p .next, p .same)) (omega (arith, field-length false (a .line))) (c .before .before .before .before .before .before .put-word .ensures) in
     let r = c .before .before .put-complaint .ensures in
     (then p (then q (r .0)), omega (arith, p .next, q .next, r .1, field-length false (a .line)))

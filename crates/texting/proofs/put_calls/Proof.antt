@@ -3,9 +3,9 @@ use Prim.Native.Nat.{_-_, _*_, _≤_}
 use mathlib.Core.Path.{_≡_}
 use Rattle.callfile.specs.Placed.{Puts}
 use Rattle.callfile.specs.Blocks.{callAt}
-use Rattle.callfile.proofs.Parts.{then, nothing}
+use Rattle.callfile.proofs.Parts.{then, nothing, line-puts}
 use Rattle.texting.specs.Shown.{callTexts}
-use Rattle.texting.proofs.Showing.{text-length, text-puts, no-texts, one-text}
+use Rattle.texting.proofs.Showing.{text-length, no-texts, one-text}
 use native.Mathlib.Omega.{arith}
 use borrow.Author.Needs.{needs}
 use Rattle.texting.proofs.put_calls.Statement.{statement}
@@ -38,7 +38,7 @@ loop-again c =
     let a = g .before .before .before .args in
     let v = g .loop .inv in
     let d = callAt (g .loop .k) (a .block .now) in
-    let p = text-puts (omega (arith, v .2 .same)) (text-length d) (rw (c .before .before .before .before .call-at .ensures) at (c .before .before .put-text .ensures)) in
+    let p = line-puts (omega (arith, v .2 .same)) (text-length d) (rw (c .before .before .before .before .call-at .ensures) at (c .before .before .put-text .ensures)) in
     (omega arith, omega (arith, p .next, text-length d), rw (one-text (g .loop .k) (a .block .now)) (then (v .2) p))
 
 same-length : tie.Need-same-length Inv-loop μ-loop

@@ -1,4 +1,5 @@
 -- `texting::put_complaint` meets its contract. Assumes nothing.
+use Rattle.callfile.proofs.Parts.{line-puts}
 use Rattle.texting.proofs.Showing.{says-unknown, says-number, says-many}
 use native.Mathlib.Omega.{arith}
 use borrow.Author.Needs.{needs}
@@ -27,19 +28,19 @@ same-length : tie.Need-same-length
 same-length c = search needs
 
 returns : tie.Need-returns
-returns c = let a = c .before .before .before .before .before .before .before .args in let p = c .before .before .put-all .ensures in (rw (says-unknown (a .kind) (c .before .before .before .before .before .match .keys1)) at p, omega (arith, p .next))
+returns c = let a = c .before .before .before .before .before .before .before .args in let p = line-puts (omega arith) (omega arith) (c .before .before .put-all .ensures) in (rw (says-unknown (a .kind) (c .before .before .before .before .before .match .keys1)) at p, omega (arith, p .next))
 
 same-length-2 : tie.Need-same-length-2
 same-length-2 c = search needs
 
 returns-2 : tie.Need-returns-2
-returns-2 c = let a = c .before .before .before .before .before .before .before .args in let p = c .before .before .put-all2 .ensures in (rw (says-number (a .kind) (c .before .before .before .before .before .match .keys2)) at p, omega (arith, p .next))
+returns-2 c = let a = c .before .before .before .before .before .before .before .args in let p = line-puts (omega arith) (omega arith) (c .before .before .put-all2 .ensures) in (rw (says-number (a .kind) (c .before .before .before .before .before .match .keys2)) at p, omega (arith, p .next))
 
 same-length-3 : tie.Need-same-length-3
 same-length-3 c = search needs
 
 returns-3 : tie.Need-returns-3
-returns-3 c = let a = c .before .before .before .before .before .before .before .args in let n = c .before .before .before .before .before .match .rest in let p = c .before .before .put-all3 .ensures in (rw (says-many (a .kind) (n .0 .1) (n .1)) at p, omega (arith, p .next))
+returns-3 c = let a = c .before .before .before .before .before .before .before .args in let n = c .before .before .before .before .before .match .rest in let p = line-puts (omega arith) (omega arith) (c .before .before .put-all3 .ensures) in (rw (says-many (a .kind) (n .0 .1) (n .1)) at p, omega (arith, p .next))
 
 pub put-complaint-spec : {M : Type 1} → statement M
 put-complaint-spec =

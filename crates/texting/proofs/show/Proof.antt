@@ -1,13 +1,15 @@
 -- `texting::show` meets its contract. Assumes nothing.
-use Rattle.calltext.proofs.Showing.{line-puts}
-use Rattle.texting.proofs.Showing.{in-front, too-short, calls-few, bad-block, good-block, bad-short}
+use mathlib.Core.Path.{sym}
+use borrow.Author.Tests.{le-leb, lt-leb}
+use Rattle.callfile.proofs.Parts.{whole-line, no-room, line-puts}
+use Rattle.texting.proofs.Showing.{calls-few, bad-block, good-block, bad-short}
 use native.Mathlib.Omega.{arith}
 use borrow.Author.Needs.{needs}
 use Rattle.texting.proofs.show.Statement.{statement}
 use Rattle.texting.proofs.show.Tie as tie
 
 returns : tie.Need-returns
-returns c = too-short 3584 _ (c .before .before .before .args .out .now) (c .if1 .taken)
+returns c = no-room _ (c .before .before .before .args .out .now) 0 (lt-leb 3584 _ (c .if1 .taken))
 
 calls-in-requires : tie.Need-calls-in-requires
 calls-in-requires c κs = search needs
@@ -23,7 +25,7 @@ returns-2 c =
     let a = c .before .before .before .before .before .before .before .before .before .args in
     let h = bad-short (a .number) in
     let p = line-puts (omega arith) (omega arith) (c .before .before .put-bad .ensures) in
-    rw (bad-block (a .number) (a .block .now) (a .got) (c .before .before .before .before .before .calls-in .result) (c .before .before .before .before .before .calls-in .ensures) (c .before .before .before .before .if2 .taken)) at (in-front 3584 (c .before .before .before .before .before .before .if1 .left) (p, omega (arith, p .next)))
+    rw (sym (bad-block (a .number) (a .block .now) (a .got) (c .before .before .before .before .before .calls-in .result) (c .before .before .before .before .before .calls-in .ensures) (c .before .before .before .before .if2 .taken))) (whole-line (le-leb 3584 _ (c .before .before .before .before .before .before .if1 .left)) (p, omega (arith, p .next)))
 
 put-calls-requires : tie.Need-put-calls-requires
 put-calls-requires c κs = let a = c .before .before .before .before .before .before .args in (c .before .before .before .if1 .left, omega (arith, c .before .before .calls-in .ensures, calls-few (a .block .now) (a .got)))
@@ -34,7 +36,7 @@ same-length-2 c = search needs
 returns-3 : tie.Need-returns-3
 returns-3 c =
     let a = c .before .before .before .before .before .before .before .before .before .args in
-    rw (good-block (a .number) (a .block .now) (a .got) (c .before .before .before .before .before .calls-in .result) (c .before .before .before .before .before .calls-in .ensures) (c .before .before .before .before .if2 .left)) at (in-front 3584 (c .before .before .before .before .before .before .if1 .left) (c .before .before .put-calls .ensures))
+    rw (sym (good-block (a .number) (a .block .now) (a .got) (c .before .before .before .before .before .calls-in .result) (c .before .before .before .before .before .calls-in .ensures) (c .before .before .before .before .if2 .left))) (whole-line (le-leb 3584 _ (c .before .before .before .before .before .before .if1 .left)) (c .before .before .put-calls .ensures))
 
 pub show-spec : {M : Type 1} → statement M
 show-spec =

@@ -14,15 +14,16 @@ use Rattle.words.proofs.Words.{signed-pos}
 use Rattle.stats.specs.Counted.{withDispatched}
 use Rattle.entry.specs.declared.Entry.{Entry}
 use Rattle.entry.specs.Entry.{entryOf}
+use Rattle.entry.proofs.Rows.{redelivery-fits}
 use Rattle.definition.specs.Types.{message}
 use Rattle.definition.specs.Layout.{eventWords}
 use Rattle.consumers.specs.declared.Sub.{Sub}
 use Rattle.state.specs.declared.Head.{Head}
-use Rattle.state.specs.State.{withStats}
+use Rattle.state.specs.State.{withCounters}
 use Rattle.state.proofs.Events.{pushed-room}
 use denote.Ref.{now}
-use Rattle.consumers.specs.Consumers.{creditOf}
-use Rattle.topics.proofs.Serve.{redelivery-fits}
+use Rattle.consumers.specs.Consumers.{creditOf, withHeld}
+use Rattle.consumers.proofs.Words.{sent-is}
 use Rattle.topics.proofs.Turn.{Going, going-start, going-none, going-stop, going-lost, going-sent}
 use native.Mathlib.Omega.{arith}
 use borrow.Author.Needs.{needs}
@@ -126,37 +127,39 @@ slice-set-from-rows c =
     let h = c .before .before .before .before .before .before .before .before .before .before .before .before .before .if1 .taken in
     search needs
 
+sub-s-2 : tie.Need-sub-s-2 Inv-loop μ-loop
+sub-s-2 c =
+    let h = c .before .before .before .before .before .before .before .before .before .before .before .before .before .before .if1 .taken in
+    omega arith
+
 sent-requires : tie.Need-sent-requires Inv-loop μ-loop
-sent-requires c κs =
-    let l = c .before .before .before .before .before .before .before .before .before .before .before .before .before .before .before .loop in
-    let f = l .inv .fine in
-    let h = c .before .before .before .before .before .before .before .before .before .before .before .before .before .if1 .taken in
-    (omega arith, omega arith, omega arith)
+sent-requires c κs = search needs
 
 loop-less-2 : tie.Need-loop-less-2 Inv-loop μ-loop
 loop-less-2 c =
-    let l = c .before .before .before .before .before .before .before .before .before .before .before .before .before .before .before .before .loop in
-    let h : 0 < l .s .held = c .before .before .before .before .before .before .before .before .before .before .before .before .before .before .if1 .taken in
-    let e : c .sent .result .held ≡ l .s .held - 1 = ap (λ (x : Sub). x .held) (c .sent .ensures) in
+    let l = c .before .before .before .before .before .before .before .before .before .before .before .before .before .before .before .before .before .loop in
+    let h : 0 < l .s .held = c .before .before .before .before .before .before .before .before .before .before .before .before .before .before .before .if1 .taken in
+    let f = l .inv .fine in
+    let e : c .sent .result .held ≡ l .s .held - 1 = ap (λ (x : Sub). x .held) (c .sent .ensures ∙ sent-is (withHeld (l .s .held - 1) (l .s)) (omega arith) (omega arith)) in
     omega arith
 
 loop-again-2 : tie.Need-loop-again-2 Inv-loop μ-loop
 loop-again-2 c =
-    let l = c .before .before .before .before .before .before .before .before .before .before .before .before .before .before .before .before .loop in
-    let a = c .before .before .before .before .before .before .before .before .before .before .before .before .before .before .before .before .before .args in
+    let l = c .before .before .before .before .before .before .before .before .before .before .before .before .before .before .before .before .before .loop in
+    let a = c .before .before .before .before .before .before .before .before .before .before .before .before .before .before .before .before .before .before .args in
     let g = l .inv .fine in
-    let some : 0 < l .s .held = c .before .before .before .before .before .before .before .before .before .before .before .before .before .before .if1 .taken in
-    let yes : creditOf (l .s) ≡ true = sym (c .before .before .before .before .before .before .before .before .before .before .before .before .before .has-credit .ensures) ∙ not-false _ (c .before .before .before .before .before .before .before .before .before .before .before .before .if2 .left) in
-    let fresh = sym (c .before .before .before .before .before .before .before .before .expired-by .ensures) ∙ c .before .before .before .before .before .before .before .if3 .left in
-    let e : Entry = c .before .before .before .before .before .before .before .before .before .entry-of .result in
-    let is : e ≡ entryOf (getD (l .rows) (a .base + l .s .inflight) []) = c .before .before .before .before .before .before .before .before .before .entry-of .ensures in
+    let some : 0 < l .s .held = c .before .before .before .before .before .before .before .before .before .before .before .before .before .before .before .if1 .taken in
+    let yes : creditOf (l .s) ≡ true = sym (c .before .before .before .before .before .before .before .before .before .before .before .before .before .before .has-credit .ensures) ∙ not-false _ (c .before .before .before .before .before .before .before .before .before .before .before .before .before .if2 .left) in
+    let fresh = sym (c .before .before .before .before .before .before .before .before .before .expired-by .ensures) ∙ c .before .before .before .before .before .before .before .before .if3 .left in
+    let e : Entry = c .before .before .before .before .before .before .before .before .before .before .entry-of .result in
+    let is : e ≡ entryOf (getD (l .rows) (a .base + l .s .inflight) []) = c .before .before .before .before .before .before .before .before .before .before .entry-of .ensures in
     let f : SFits w32 (e .redelivery) = rw is (redelivery-fits (getD (l .rows) (a .base + l .s .inflight) [])) in
-    let p = c .before .before .before .before .push-message in
+    let p = c .before .before .before .before .before .push-message in
     let room : l .d .events < length (l .events) = omega arith in
-    let head = c .before .before .count-dispatched .ensures ∙ ap (λ (x : Head). withStats (withDispatched (x .stats)) x) (p .ensures .0 ∙ pushed-room (l .d) (length (l .events)) room) in
+    let head = c .before .before .before .count-dispatched .ensures ∙ ap (λ (x : Head). withCounters (withDispatched (x .stats)) x) (p .ensures .0 ∙ pushed-room (l .d) (length (l .events)) room) in
     let said = p .ensures .1 ∙ ap (λ (z : ℤ). set (l .events) (l .d .events) (eventWords (message (idOf (l .s .conn) (l .s .session) (l .s .value)) (e .seq) z))) (toZ-ofZ w32 (e .redelivery) f)
     ∙ ap (λ (x : Entry). set (l .events) (l .d .events) (eventWords (message (idOf (l .s .conn) (l .s .session) (l .s .value)) (x .seq) (x .redelivery)))) is in
-    going-sent (a .clock) (a .base) (now (a .rows)) (now (a .events)) (a .start) (a .before) (l .rows) (l .events) (l .s) (l .d) (l .inv) some yes _ _ _ _ (c .sent .ensures) head said (c .before .flown .ensures .0) (c .before .flown .ensures .1) (rw (is, signed-pos (a .clock) (omega (arith, g .clock))) at fresh)
+    going-sent (a .clock) (a .base) (now (a .rows)) (now (a .events)) (a .start) (a .before) (l .rows) (l .events) (l .s) (l .d) (l .inv) some yes _ _ _ _ (c .sent .ensures ∙ sent-is (withHeld (l .s .held - 1) (l .s)) (omega arith) (omega arith)) head said (c .before .before .flown .ensures .0) (c .before .before .flown .ensures .1) (rw (is, signed-pos (a .clock) (omega (arith, g .clock))) at fresh)
 
 same-length-3 : tie.Need-same-length-3 Inv-loop μ-loop
 same-length-3 c = search needs
@@ -197,6 +200,7 @@ serve-topic-spec =
     flown-requires
     mul-t24
     slice-set-from-rows
+    sub-s-2
     sent-requires
     loop-less-2
     loop-again-2

@@ -57,7 +57,7 @@ use Rattle.sound.specs.Sound.{lent}
 use Rattle.queries.specs.declared.PagePlan.{PagePlan}
 use Rattle.queries.specs.declared.Paged.{Paged}
 use Rattle.queries.specs.declared.PageLine.{PageLine}
-use Rattle.queries.specs.Pages.{firstWaiting, asPlan, Planned, lineAt}
+use Rattle.queries.specs.Pages.{bufferFirstWaiting, asPlan, PagePlanned, pageLineAt}
 use Rattle.queries.proofs.Filled.{filled, filled-none, filled-more, length-filled, filled-is}
 use Rattle.destination.proofs.Sources.{val, RowWords, Words16, RowsOwn, Own as OwnOf, again}
 use Rattle.queries.proofs.PagePlan as P
@@ -143,17 +143,17 @@ module _ {M : Type 1} (𝓤 : URA M) (H : Heap 𝓤) (A : Atoms 𝓤) (W : Given
 
   -- what `plan` says of its result
   abbrev Is-plan : PagePlan → Type 0
-  Is-plan p = p ≡ asPlan (firstWaiting buffers + off) asked
+  Is-plan p = p ≡ asPlan (bufferFirstWaiting buffers + off) asked
 
   abbrev Lists : PagePlan → Type 0
-  Lists p = Planned asked (now rs) (length ys) p
+  Lists p = PagePlanned asked (now rs) (length ys) p
 
   abbrev answered : PagePlan → Paged
   answered p = record { refusal = p .refusal; total = p .total; count = p .count }
 
   -- the line at a place, and the list once m lines are put
   abbrev line : PagePlan → ℕ → PageLine
-  line p = lineAt (now rs) (p .from)
+  line p = pageLineAt (now rs) (p .from)
 
   abbrev page : PagePlan → ℕ → List PageLine
   page p m = filled (line p) ys m

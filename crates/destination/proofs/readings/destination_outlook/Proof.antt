@@ -58,7 +58,7 @@ use Rattle.queries.specs.declared.PageLine.{PageLine}
 use Rattle.queries.proofs.Filled.{filled, filled-none, filled-more, length-filled}
 use Rattle.outlooks.specs.declared.Span.{Span}
 use Rattle.outlooks.specs.declared.OutlookPlan.{OutlookPlan as PlanOf}
-use Rattle.outlooks.specs.Plans.{Planned, planLine}
+use Rattle.outlooks.specs.Plans.{OutlookPlanned, planLine}
 use Rattle.outlooks.proofs.Filled.{answered, answer-is, filled-plan}
 use Rattle.destination.proofs.Sources.{val, RowWords, Words16, RowsOwn, Own as OwnOf, again}
 use Rattle.outlooks.proofs.Span as S
@@ -158,7 +158,7 @@ module _ {M : Type 1} (𝓤 : URA M) (H : Heap 𝓤) (A : Atoms 𝓤) (W : Given
 
   -- what `plan` says of its result
   abbrev Lists : PlanOf → Type 0
-  Lists p = Planned asked (now rs) (length ys) p
+  Lists p = OutlookPlanned asked (now rs) (length ys) p
 
   -- the line at a place, and the list once m lines are put
   abbrev line : PlanOf → ℕ → PageLine

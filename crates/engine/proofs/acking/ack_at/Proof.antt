@@ -3,7 +3,6 @@ use denote.Ref.{now}
 use Rattle.acks.specs.Acks.{ackOf}
 use Rattle.acks.proofs.Whole.{own-at, acked-at}
 use borrow.Author.Needs.{needs}
-use borrow.Author.Needs.{needs}
 use Rattle.engine.proofs.acking.ack_at.Statement.{statement}
 use Rattle.engine.proofs.acking.ack_at.Tie as tie
 

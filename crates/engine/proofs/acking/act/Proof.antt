@@ -4,7 +4,6 @@ use Rattle.state.specs.State.{kindBy}
 use Rattle.acks.specs.Rules.{inSpan}
 use Rattle.acks.proofs.Parts.{acts-stays, acts-frees, acts-marks, acts-redelivers, acts-removes}
 use borrow.Author.Needs.{needs}
-use borrow.Author.Needs.{needs}
 use Rattle.engine.proofs.acking.act.Statement.{statement}
 use Rattle.engine.proofs.acking.act.Tie as tie
 

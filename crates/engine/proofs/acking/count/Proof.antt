@@ -7,14 +7,13 @@ use denote.Ref.{now}
 use Rattle.model.specs.declared.AckCount.the-variants.{Uncounted, Dequeue, Expiry, DeadLetter}
 use Rattle.definition.specs.Consumer.{_⊕_, addDequeued, addExpired}
 use Rattle.definition.specs.Layout.{inflightAt}
-use Rattle.table.specs.Table.{inRange}
+use Rattle.table.specs.Table.{dseqBetween}
 use Rattle.state.specs.State.{kindBy}
 use Rattle.state.proofs.Counts.{dequeued-plain, expired-plain}
 use Rattle.acks.specs.Rules.{inSpan}
 use Rattle.acks.proofs.Parts.{count-few, count-is}
 use Rattle.acks.proofs.Telling.{told-counted, told-none, told-browsing, told-as}
 use native.Mathlib.Omega.{arith}
-use borrow.Author.Needs.{needs}
 use borrow.Author.Needs.{needs}
 use Rattle.engine.proofs.acking.count.Statement.{statement}
 use Rattle.engine.proofs.acking.count.Tie as tie
@@ -64,7 +63,7 @@ returns-3 c =
     let a = c .before .before .before .before .before .before .args in
     let own = c .before .before .before .before .before .before .pre .0 in
     let k = c .before .count-range .result in
-    let few : k ≤ a .s .inflight = omega (arith, c .before .count-range .ensures, count-few (kindBy (a .d .queue)) (a .base) (a .s) (a .d) (now (a .rows)) own (inRange (a .p .first) (a .p .last))) in
+    let few : k ≤ a .s .inflight = omega (arith, c .before .count-range .ensures, count-few (kindBy (a .d .queue)) (a .base) (a .s) (a .d) (now (a .rows)) own (dseqBetween (a .p .first) (a .p .last))) in
     let is = c .before .count-range .ensures ∙ count-is (kindBy (a .d .queue)) (a .base) (a .s) (a .d) (now (a .rows)) own (a .p) in
     told-as (a .counts) (a .s .browser) (a .cause) (inSpan (a .p)) (map inflightAt (slice (a .base) (a .base + a .s .inflight) (now (a .rows)))) _ (a .d) _ (now (a .events)) _ Dequeue (c .before .before .before .before .before .if1 .left) (c .before .before .enum-told2 .given .1)
     (told-counted _ _ _ (a .d) _ (now (a .events)) (c .count-dequeued .ensures) (dequeued-plain (a .d .stats) k (omega (arith, own .dequeued, own .rows, own .used)) ∙ ap (λ (n : ℕ). a .d .stats ⊕ addDequeued n) is))
@@ -74,7 +73,7 @@ returns-4 c =
     let a = c .before .before .before .before .before .before .args in
     let own = c .before .before .before .before .before .before .pre .0 in
     let k = c .before .count-range2 .result in
-    let few : k ≤ a .s .inflight = omega (arith, c .before .count-range2 .ensures, count-few (kindBy (a .d .queue)) (a .base) (a .s) (a .d) (now (a .rows)) own (inRange (a .p .first) (a .p .last))) in
+    let few : k ≤ a .s .inflight = omega (arith, c .before .count-range2 .ensures, count-few (kindBy (a .d .queue)) (a .base) (a .s) (a .d) (now (a .rows)) own (dseqBetween (a .p .first) (a .p .last))) in
     let is = c .before .count-range2 .ensures ∙ count-is (kindBy (a .d .queue)) (a .base) (a .s) (a .d) (now (a .rows)) own (a .p) in
     told-as (a .counts) (a .s .browser) (a .cause) (inSpan (a .p)) (map inflightAt (slice (a .base) (a .base + a .s .inflight) (now (a .rows)))) _ (a .d) _ (now (a .events)) _ Expiry (c .before .before .before .before .before .if1 .left) (c .before .before .enum-told3 .given .1)
     (told-counted _ _ _ (a .d) _ (now (a .events)) (c .count-expired .ensures) (expired-plain (a .d .stats) k (omega (arith, own .expired, own .rows, own .used)) ∙ ap (λ (n : ℕ). a .d .stats ⊕ addExpired n) is))

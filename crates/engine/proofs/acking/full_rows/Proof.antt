@@ -4,7 +4,7 @@ use Prim.Native.Nat.{ℕ, _-_}
 use lib.Seq.{slice}
 use denote.Ref.{now}
 use Rattle.definition.specs.Base.{all}
-use Rattle.acks.specs.Parts.{full}
+use Rattle.acks.specs.Parts.{fullRow}
 use Rattle.acks.proofs.Telling.{Full, full-none, full-turn}
 use native.Mathlib.Omega.{arith}
 use borrow.Author.Needs.{needs}
@@ -47,7 +47,7 @@ returns c =
     let a = c .before .before .args in
     let l = c .before .loop in
     let e : l .i ≡ a .to = omega (arith, c .loop-test .left) in
-    ap (λ (n : ℕ). all full (slice (a .from) n (now (a .rows)))) (sym e) ∙ l .inv .done
+    ap (λ (n : ℕ). all fullRow (slice (a .from) n (now (a .rows)))) (sym e) ∙ l .inv .done
 
 pub full-rows-spec : {M : Type 1} → statement M
 full-rows-spec =

@@ -1,11 +1,10 @@
 -- `engine::acking::mark` meets its contract. Assumes nothing.
 use mathlib.Core.Bool.{not, _&&_}
 use denote.Ref.{now}
-use Rattle.table.specs.Table.{inRange, isFreed}
+use Rattle.table.specs.Table.{dseqBetween, isFreed}
 use Rattle.state.specs.State.{kindBy}
 use Rattle.acks.proofs.Parts.{count-few, acted-mark}
 use native.Mathlib.Omega.{arith}
-use borrow.Author.Needs.{needs}
 use borrow.Author.Needs.{needs}
 use Rattle.engine.proofs.acking.mark.Statement.{statement}
 use Rattle.engine.proofs.acking.mark.Tie as tie
@@ -22,7 +21,7 @@ mark-range-requires c κs = search needs
 add-s : tie.Need-add-s
 add-s c =
     let a = c .before .before .before .before .before .before .before .args in
-    let n = count-few (kindBy (a .d .queue)) (a .base) (a .s) (a .d) (now (a .rows)) (c .before .before .before .before .before .before .before .pre) (λ w. inRange (a .p .first) (a .p .last) w && not (isFreed w)) in
+    let n = count-few (kindBy (a .d .queue)) (a .base) (a .s) (a .d) (now (a .rows)) (c .before .before .before .before .before .before .before .pre) (λ w. dseqBetween (a .p .first) (a .p .last) w && not (isFreed w)) in
     let e = c .before .before .mark-range .ensures .0 in
     omega (arith, c .before .before .before .before .before .before .before .pre .freed, c .before .before .before .before .before .before .before .pre .rows, c .before .before .before .before .before .before .before .pre .used)
 

@@ -3,7 +3,6 @@ use denote.Ref.{now}
 use Rattle.state.specs.State.{kindBy}
 use Rattle.acks.proofs.Parts.{acted-raise}
 use borrow.Author.Needs.{needs}
-use borrow.Author.Needs.{needs}
 use Rattle.engine.proofs.acking.raise.Statement.{statement}
 use Rattle.engine.proofs.acking.raise.Tie as tie
 

@@ -7,7 +7,6 @@ use Rattle.state.specs.State.{kindBy}
 use Rattle.acks.proofs.Parts.{gone-few, gone-is, acted-remove}
 use native.Mathlib.Omega.{arith}
 use borrow.Author.Needs.{needs}
-use borrow.Author.Needs.{needs}
 use Rattle.engine.proofs.acking.remove.Statement.{statement}
 use Rattle.engine.proofs.acking.remove.Tie as tie
 

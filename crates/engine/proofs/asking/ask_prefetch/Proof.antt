@@ -5,7 +5,7 @@ use lib.IntN.{ℤ}
 use mir.Syntax.{w32}
 use mir.Val.{SFits}
 use mir.ValLaws.{toZ-ofZ}
-use Rattle.definition.specs.Calls.{within}
+use Rattle.definition.specs.Calls.{signedWithin}
 use Rattle.engine.proofs.Worded.{prefetch-clock, prefetch-within, prefetch-int, prefetch-performs}
 use borrow.Author.Needs.{needs}
 use Rattle.engine.proofs.asking.ask_prefetch.Statement.{statement}
@@ -51,7 +51,7 @@ set-prefetch-requires c κs =
     let x = c .before .before .before .int-of .result in
     let f : SFits w32 x = search needs in
     let e = c .before .before .before .int-of .ensures ∙ prefetch-int (a .t5) (c .before .before .before .before .words-fit .ensures .word 3) (p .1) in
-    (p .0, prefetch-clock (a .t5) (p .1), ap (λ (z : ℤ). within 2147483648 z) (toZ-ofZ w32 x f ∙ e) ∙ prefetch-within (a .t5) (p .1))
+    (p .0, prefetch-clock (a .t5) (p .1), ap (λ (z : ℤ). signedWithin 2147483648 z) (toZ-ofZ w32 x f ∙ e) ∙ prefetch-within (a .t5) (p .1))
 
 -- src/asking.rt:104:5
 done-requires : tie.Need-done-requires

@@ -12,7 +12,7 @@ use Rattle.state.specs.State.{headView}
 use Rattle.state.specs.Leaves.{silent}
 use Rattle.state.proofs.Leaves.{leaves-when}
 use Rattle.state.proofs.Ready.{ready-test}
-use Rattle.returns.specs.Returns.{left}
+use Rattle.returns.specs.Returns.{departed}
 use Rattle.returns.proofs.Answers.{bounds-fit}
 use Rattle.engine.specs.Requests.{sentOn}
 use Rattle.engine.proofs.Parts.{rest-sends, then-on}
@@ -79,7 +79,7 @@ returns-2 c =
     let h = not-false _ (c .before .before .before .before .before .before .before .before .before .before .before .before .before .before .before .if1 .left) in
     let k = c .before .before .before .before .before .before .before .before .before .before .before .leave in
     let s = c .before .before .before .before .dispatch in
-    let f = silent (left (a .clock) (a .id) (a .last)) in
+    let f = silent (departed (a .clock) (a .id) (a .last)) in
     let z : toZ w64 (ofZ w64 (a .last)) ≡ a .last = toZ-ofZ w64 (a .last) (c .before .before .before .before .before .before .before .before .before .before .before .before .before .before .before .before .before .before .fits .last) in
     let t = bounds-fit (a .clock) (now (a .subs)) (a .d) (length (now (a .rows))) (length (now (a .events))) (ready-test (a .d) (now (a .subs)) (now (a .rows)) (now (a .events)) (p .0)) (p .1) in
     let l = leaves-when _ _ f (a .d) (k .result) (now (a .subs)) (now (a .rows)) (now (a .events)) (k .last .0) (k .last .1 .0) (now (a .events)) t (rw z at (k .ensures)) in

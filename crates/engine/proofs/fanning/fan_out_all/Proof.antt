@@ -4,7 +4,7 @@ use Prim.Native.Nat.{_-_}
 use denote.Ref.{now}
 use Rattle.stats.specs.Counted.{withDiscardedBy}
 use Rattle.state.specs.declared.Head.{Head}
-use Rattle.state.specs.State.{withStats}
+use Rattle.state.specs.State.{withCounters}
 use Rattle.engine.specs.Storing.{spread}
 use Rattle.engine.specs.Arrivals.{Arrived}
 use Rattle.engine.proofs.Round.{Round, round-first, round-fine, round-few, round-turn, round-end}
@@ -98,7 +98,7 @@ returns c =
     let l = c .before .before .before .loop in
     let a = c .before .before .before .before .args in
     let pre = c .before .before .before .before .pre in
-    let counted = c .count-discarded .ensures ∙ ap (λ (x : Head). withStats (withDiscardedBy (x .stats) (l .over)) x) (c .before .count-expired .ensures) in
+    let counted = c .count-discarded .ensures ∙ ap (λ (x : Head). withCounters (withDiscardedBy (x .stats) (l .over)) x) (c .before .count-expired .ensures) in
     subst (λ (x : Head). Arrived (spread (a .clock) (a .e)) (a .before) x (now (a .subs)) (now (a .rows)) (l .subs) (l .rows)) (sym counted)
     (round-end (a .clock) (a .e) (now (a .subs)) (now (a .rows)) (a .before) (pre .0) (pre .1) (pre .2) (l .subs) (l .rows) (l .used) (l .expired) (l .over) (l .base) (l .i) (l .inv) (c .before .before .loop-test .left))
 

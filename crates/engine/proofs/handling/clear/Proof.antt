@@ -10,7 +10,7 @@ use Rattle.definition.specs.Types.{Id, Entry}
 use Rattle.definition.specs.Destination.{Spec}
 use Rattle.words.specs.Words.{signed}
 use Rattle.definition.specs.Calls.{Call, enqueuing, joining, leaving, releasing, sweeping, clearing, argumentsOk}
-use Rattle.definition.specs.Words.{at, idOf, entryOf, decode}
+use Rattle.definition.specs.Words.{at, idIn, entryIn, decode}
 use Rattle.engine.proofs.Performed.{performs-by, performs-as}
 use Rattle.engine.proofs.Handled.{clear-decoded}
 use borrow.Author.Needs.{needs}

@@ -10,7 +10,7 @@ use Rattle.definition.specs.Types.{Id, Entry}
 use Rattle.definition.specs.Destination.{Spec}
 use Rattle.words.specs.Words.{signed}
 use Rattle.definition.specs.Calls.{Call, enqueuing, joining, leaving, releasing, sweeping, clearing, argumentsOk}
-use Rattle.definition.specs.Words.{at, idOf, entryOf, decode}
+use Rattle.definition.specs.Words.{at, idIn, entryIn, decode}
 use Rattle.engine.proofs.Performed.{performs-by, performs-as}
 use Rattle.calls.specs.declared.Call as Declared
 use Rattle.engine.proofs.Handled.{enqueue-decoded, enqueue-clock}
@@ -36,7 +36,7 @@ enqueue-requires c κs =
     let a = c .before .before .before .before .before .args in
     let p = c .before .before .before .before .before .pre in
     let q : c .before .before .before .before .new .result .words ≡ a .t5 = ap (λ (x : Declared.Call). x .words) (c .before .before .before .before .new .ensures) in
-    let e : c .before .before .before .entry-of .result ≡ entryOf (a .t5) = c .before .before .before .entry-of .ensures .1 (ap (λ (l : List ℕ). is-some (decode 1 l)) q ∙ p .1) ∙ ap entryOf q in
+    let e : c .before .before .before .entry-of .result ≡ entryIn (a .t5) = c .before .before .before .entry-of .ensures .1 (ap (λ (l : List ℕ). is-some (decode 1 l)) q ∙ p .1) ∙ ap entryIn q in
     (p .0, enqueue-clock (a .t5) (p .1), ap (λ (x : Entry). argumentsOk (enqueuing x (at 6 (a .t5)))) e ∙ enqueue-decoded (a .t5) (p .1) .arguments)
 
 -- src/handling.rt:22:1
@@ -58,8 +58,8 @@ returns c =
     let p = c .before .before .before .before .before .before .before .before .before .pre in
     let k = c .before .before .before .enqueue in
     let q : c .before .before .before .before .before .before .before .before .new .result .words ≡ a .t5 = ap (λ (x : Declared.Call). x .words) (c .before .before .before .before .before .before .before .before .new .ensures) in
-    let e : c .before .before .before .before .before .before .before .entry-of .result ≡ entryOf (a .t5) = c .before .before .before .before .before .before .before .entry-of .ensures .1 (ap (λ (l : List ℕ). is-some (decode 1 l)) q ∙ p .1) ∙ ap entryOf q in
-    performs-as (enqueuing (entryOf (a .t5)) (at 6 (a .t5))) (a .d) (k .result) (now (a .subs)) (now (a .rows)) (now (a .events)) (k .last .0) (k .last .1 .0) (k .last .1 .1 .0) (decode 1 (a .t5)) (enqueuing (c .before .before .before .before .before .before .before .entry-of .result) (at 6 (a .t5)))
+    let e : c .before .before .before .before .before .before .before .entry-of .result ≡ entryIn (a .t5) = c .before .before .before .before .before .before .before .entry-of .ensures .1 (ap (λ (l : List ℕ). is-some (decode 1 l)) q ∙ p .1) ∙ ap entryIn q in
+    performs-as (enqueuing (entryIn (a .t5)) (at 6 (a .t5))) (a .d) (k .result) (now (a .subs)) (now (a .rows)) (now (a .events)) (k .last .0) (k .last .1 .0) (k .last .1 .1 .0) (decode 1 (a .t5)) (enqueuing (c .before .before .before .before .before .before .before .entry-of .result) (at 6 (a .t5)))
     (ap (λ (x : Entry). enqueuing x (at 6 (a .t5))) e) (enqueue-decoded (a .t5) (p .1) .call) (k .ensures)
 
 pub enqueue-spec : {M : Type 1} → statement M

@@ -10,7 +10,7 @@ use Rattle.definition.specs.Types.{Id, Entry}
 use Rattle.definition.specs.Destination.{Spec}
 use Rattle.words.specs.Words.{signed}
 use Rattle.definition.specs.Calls.{Call, enqueuing, joining, leaving, releasing, sweeping, clearing, argumentsOk}
-use Rattle.definition.specs.Words.{at, idOf, entryOf, decode}
+use Rattle.definition.specs.Words.{at, idIn, entryIn, decode}
 use Rattle.engine.proofs.Performed.{performs-by, performs-as}
 use Rattle.joins.specs.Joins as Joins
 use Rattle.definition.specs.Words as Words
@@ -52,7 +52,7 @@ returns c =
     let a = c .before .before .before .before .before .before .before .before .args in
     let p = c .before .before .before .before .before .before .before .before .pre in
     let k = c .before .before .before .join in
-    performs-as (joining (Words.specOf (a .t5)) (at 6 (a .t5))) (a .d) (k .result) (now (a .subs)) (now (a .rows)) (now (a .events)) (k .last .0) (k .last .1 .0) (k .last .1 .1 .0) (decode 2 (a .t5)) (joining (Joins.specOf (c .before .before .before .before .before .before .before .spec-of .result)) (at 6 (a .t5)))
+    performs-as (joining (Words.specIn (a .t5)) (at 6 (a .t5))) (a .d) (k .result) (now (a .subs)) (now (a .rows)) (now (a .events)) (k .last .0) (k .last .1 .0) (k .last .1 .1 .0) (decode 2 (a .t5)) (joining (Joins.specOf (c .before .before .before .before .before .before .before .spec-of .result)) (at 6 (a .t5)))
     (ap (λ (x : Spec). joining x (at 6 (a .t5))) (c .before .before .before .before .before .before .before .spec-of .ensures)) (join-decoded (a .t5) (p .1) .call) (k .ensures)
 
 pub join-spec : {M : Type 1} → statement M

@@ -10,7 +10,7 @@ use Rattle.definition.specs.Types.{Id, Entry}
 use Rattle.definition.specs.Destination.{Spec}
 use Rattle.words.specs.Words.{signed}
 use Rattle.definition.specs.Calls.{Call, enqueuing, joining, leaving, releasing, sweeping, clearing, argumentsOk}
-use Rattle.definition.specs.Words.{at, idOf, entryOf, decode}
+use Rattle.definition.specs.Words.{at, idIn, entryIn, decode}
 use Rattle.engine.proofs.Performed.{performs-by, performs-as}
 use mir.Syntax.{w64}
 use mir.Val.{SFits}
@@ -76,7 +76,7 @@ returns c =
     let x = c .before .before .before .before .before .before .before .signed-of .result in
     let f : SFits w64 x = search needs in
     let e = rw (toZ-ofZ w64 x f) at (k .ensures) in
-    performs-as (leaving (idOf (a .t5)) (signed (at 3 (a .t5))) (at 4 (a .t5))) (a .d) (k .result) (now (a .subs)) (now (a .rows)) (now (a .events)) (k .last .0) (k .last .1 .0) (k .last .1 .1 .0) (decode 3 (a .t5)) (leaving (c .before .before .before .before .before .before .before .before .of-words .result) x (at 4 (a .t5)))
+    performs-as (leaving (idIn (a .t5)) (signed (at 3 (a .t5))) (at 4 (a .t5))) (a .d) (k .result) (now (a .subs)) (now (a .rows)) (now (a .events)) (k .last .0) (k .last .1 .0) (k .last .1 .1 .0) (decode 3 (a .t5)) (leaving (c .before .before .before .before .before .before .before .before .of-words .result) x (at 4 (a .t5)))
     (ap₂ (λ (i : Id) (z : ℤ). leaving i z (at 4 (a .t5))) (c .before .before .before .before .before .before .before .before .of-words .ensures) (c .before .before .before .before .before .before .before .signed-of .ensures)) (leave-decoded (a .t5) (p .1) .call) e
 
 pub leave-spec : {M : Type 1} → statement M

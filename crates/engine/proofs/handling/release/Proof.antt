@@ -10,7 +10,7 @@ use Rattle.definition.specs.Types.{Id, Entry}
 use Rattle.definition.specs.Destination.{Spec}
 use Rattle.words.specs.Words.{signed}
 use Rattle.definition.specs.Calls.{Call, enqueuing, joining, leaving, releasing, sweeping, clearing, argumentsOk}
-use Rattle.definition.specs.Words.{at, idOf, entryOf, decode}
+use Rattle.definition.specs.Words.{at, idIn, entryIn, decode}
 use Rattle.engine.proofs.Performed.{performs-by, performs-as}
 use Rattle.engine.proofs.Handled.{release-decoded, release-clock}
 use borrow.Author.Needs.{needs}
@@ -52,7 +52,7 @@ returns c =
     let a = c .before .before .before .before .before .before .before .before .args in
     let p = c .before .before .before .before .before .before .before .before .pre in
     let k = c .before .before .before .release in
-    performs-as (releasing (idOf (a .t5)) (at 3 (a .t5))) (a .d) (k .result) (now (a .subs)) (now (a .rows)) (now (a .events)) (k .last .0) (k .last .1 .0) (k .last .1 .1 .0) (decode 15 (a .t5)) (releasing (c .before .before .before .before .before .before .before .of-words .result) (at 3 (a .t5)))
+    performs-as (releasing (idIn (a .t5)) (at 3 (a .t5))) (a .d) (k .result) (now (a .subs)) (now (a .rows)) (now (a .events)) (k .last .0) (k .last .1 .0) (k .last .1 .1 .0) (decode 15 (a .t5)) (releasing (c .before .before .before .before .before .before .before .of-words .result) (at 3 (a .t5)))
     (ap (λ (i : Id). releasing i (at 3 (a .t5))) (c .before .before .before .before .before .before .before .of-words .ensures)) (release-decoded (a .t5) (p .1) .call) (k .ensures)
 
 pub release-spec : {M : Type 1} → statement M

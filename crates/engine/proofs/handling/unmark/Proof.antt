@@ -2,7 +2,7 @@
 use mathlib.Core.Path.{ap}
 use denote.Ref.{now}
 use Rattle.definition.specs.Calls.{unmarking}
-use Rattle.definition.specs.Words.{idOf, decode}
+use Rattle.definition.specs.Words.{idIn, decode}
 use Rattle.engine.proofs.Performed.{performs-as}
 use Rattle.engine.proofs.Handled.{unmark-decoded}
 use borrow.Author.Needs.{needs}
@@ -33,7 +33,7 @@ returns c =
     let p = c .before .before .before .before .pre in
     let k = c .before .unmark in
     let i = c .before .before .before .of-words in
-    performs-as (unmarking (idOf (a .t5))) (a .d) (k .result) (now (a .subs)) (now (a .rows)) (now (a .events)) (now (a .subs)) (k .last .1 .0) (now (a .events)) (decode 8 (a .t5)) (unmarking (i .result)) (ap unmarking (i .ensures)) (unmark-decoded (a .t5) (p .1) .call) (k .ensures)
+    performs-as (unmarking (idIn (a .t5))) (a .d) (k .result) (now (a .subs)) (now (a .rows)) (now (a .events)) (now (a .subs)) (k .last .1 .0) (now (a .events)) (decode 8 (a .t5)) (unmarking (i .result)) (ap unmarking (i .ensures)) (unmark-decoded (a .t5) (p .1) .call) (k .ensures)
 
 pub unmark-spec : {M : Type 1} → statement M
 unmark-spec =

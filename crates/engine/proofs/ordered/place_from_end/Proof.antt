@@ -10,13 +10,13 @@ use lib.Seq.{slice}
 use Rattle.table.specs.Table.{placeFrom, placeOf}
 use Rattle.table.proofs.Bounds.{place-in}
 use Rattle.table.proofs.Loops.{place-none}
-use Rattle.engine.specs.Arrivals.{inOrder}
+use Rattle.engine.specs.Arrivals.{rowsInOrder}
 use Rattle.engine.proofs.Ascending.{place-down, order-down, place-here}
 use Rattle.engine.proofs.ordered.place_from_end.Statement.{statement}
 use Rattle.engine.proofs.ordered.place_from_end.Tie as tie
 
 abbrev Inv-loop : tie.InvT-loop
-Inv-loop rows from to seq i₀ i = (from ≤ i) × (i ≤ to) × (inOrder (slice from i rows) ≡ true) × (placeFrom from seq (slice from i rows) ≡ placeOf from to seq rows)
+Inv-loop rows from to seq i₀ i = (from ≤ i) × (i ≤ to) × (rowsInOrder (slice from i rows) ≡ true) × (placeFrom from seq (slice from i rows) ≡ placeOf from to seq rows)
 
 abbrev μ-loop : tie.MeasureT-loop
 μ-loop rows from to seq i₀ i = i

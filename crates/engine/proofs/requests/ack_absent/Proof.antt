@@ -86,7 +86,7 @@ returns-3 c =
     (λ ps us. sym (ack-reserved (a .clock) (a .id) (ackOf (a .a)) (headView (a .d) (now (a .subs)) (now (a .rows)) ps us) (p .2 ps us)
     (neither (a .a .transacted) (empty (reservedOf (a .id) (headView (a .d) (now (a .subs)) (now (a .rows)) ps us))) (c .before .before .before .before .before .before .before .before .before .before .before .before .before .before .before .before .before .if1 .left) (not-true _ (sym (has-reserved-view (now (a .subs)) (now (a .rows)) (a .d) (length (now (a .events))) (a .id) ps us f) ∙ h)))))
     (then-on (a .d) (now (a .subs)) (now (a .rows)) (now (a .events)) (p .0) (a .clock) (p .1) g 512 (omega arith) (reserved-keeps (a .clock) (a .id) (ackOf (a .a)))
-    (k .result) (now (a .subs)) (k .last .1 .0) (k .last .1 .1 .0) (l .0) (l .1 .events)
+    (k .result) (now (a .subs)) (k .last .1 .0) (k .last .1 .1 .0) (l .0) (l .1 .room)
     (c .before .before .before .before .touch-idle .result) (c .before .before .before .before .touch-idle .ensures) (s .result) (s .last .0) (s .last .1 .0) (s .last .1 .1 .0) (s .ensures))
 
 pub ack-absent-spec : {M : Type 1} → statement M

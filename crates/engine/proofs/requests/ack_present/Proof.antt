@@ -46,7 +46,7 @@ returns c =
     λ id e.
     let l = k .ensures id e in
     then-on (a .d) (now (a .subs)) (now (a .rows)) (now (a .events)) (p .0) (a .clock) (p .1) (acked id (ackOf (a .a))) 513 (omega arith) (acked-keeps (a .clock) id (ackOf (a .a)))
-    (k .result) (k .last .0) (k .last .1 .0) (k .last .1 .1 .0) (l .0) (l .1 .events) (t .result) (t .ensures) (t .result) (k .last .0) (k .last .1 .0) (k .last .1 .1 .0)
+    (k .result) (k .last .0) (k .last .1 .0) (k .last .1 .1 .0) (l .0) (l .1 .room) (t .result) (t .ensures) (t .result) (k .last .0) (k .last .1 .0) (k .last .1 .1 .0)
     (goes-not (a .clock) (t .result) (k .last .0) (k .last .1 .0) (k .last .1 .1 .0) quiet)
 
 dispatch-requires : tie.Need-dispatch-requires
@@ -71,7 +71,7 @@ returns-2 c =
     λ id e.
     let l = k .ensures id e in
     then-on (a .d) (now (a .subs)) (now (a .rows)) (now (a .events)) (p .0) (a .clock) (p .1) (acked id (ackOf (a .a))) 513 (omega arith) (acked-keeps (a .clock) id (ackOf (a .a)))
-    (k .result) (k .last .0) (k .last .1 .0) (k .last .1 .1 .0) (l .0) (l .1 .events) (t .result) (t .ensures) (s .result) (s .last .0) (s .last .1 .0) (s .last .1 .1 .0) (s .ensures)
+    (k .result) (k .last .0) (k .last .1 .0) (k .last .1 .1 .0) (l .0) (l .1 .room) (t .result) (t .ensures) (s .result) (s .last .0) (s .last .1 .0) (s .last .1 .1 .0) (s .ensures)
 
 pub ack-present-spec : {M : Type 1} → statement M
 ack-present-spec =

@@ -10,7 +10,7 @@ use Rattle.definition.specs.Layout.{subRows}
 use Rattle.state.specs.Fits.{Fits}
 use Rattle.state.proofs.Fitting.{fits-facts}
 use Rattle.engine.specs.Storing.{holds}
-use Rattle.engine.specs.Arrivals.{inOrder}
+use Rattle.engine.specs.Arrivals.{rowsInOrder}
 use Rattle.engine.proofs.storing.is_held.Statement.{statement}
 use Rattle.engine.proofs.storing.is_held.Tie as tie
 
@@ -27,7 +27,7 @@ is-queued-requires c κs =
     let e = c .first-waiting .ensures in (
       omega (arith, e),
       omega (arith, f .used, f .rows-long),
-      ap (λ (n : ℕ). inOrder (slice n (b .args .d .used) (now (b .args .rows)))) e ∙ b .pre .order .waiting,
+      ap (λ (n : ℕ). rowsInOrder (slice n (b .args .d .used) (now (b .args .rows)))) e ∙ b .pre .order .waiting,
     )
 
 returns : tie.Need-returns

@@ -6,7 +6,7 @@ use denote.Ref.{now}
 use lib.Seq.{slice}
 use Rattle.definition.specs.Layout.{Row}
 use Rattle.table.specs.Table.{placeOf, insertRow}
-use Rattle.engine.specs.Arrivals.{inOrder}
+use Rattle.engine.specs.Arrivals.{rowsInOrder}
 use borrow.Author.Needs.{needs}
 use Rattle.engine.proofs.storing.queued.Statement.{statement}
 use Rattle.engine.proofs.storing.queued.Tie as tie
@@ -21,7 +21,7 @@ place-from-end-requires : tie.Need-place-from-end-requires
 place-from-end-requires c κs =
     let b = c .before .before .before .before .before in
     let e = c .first-waiting .ensures in
-    (omega (arith, e), b .pre .1, ap (λ (n : ℕ). inOrder (slice n (b .args .d .used) (now (b .args .rows)))) e ∙ b .pre .3)
+    (omega (arith, e), b .pre .1, ap (λ (n : ℕ). rowsInOrder (slice n (b .args .d .used) (now (b .args .rows)))) e ∙ b .pre .3)
 
 held-row-requires : tie.Need-held-row-requires
 held-row-requires c κs = search needs

@@ -1,7 +1,7 @@
 -- `leafcases::cases::audit_compared` meets its contract. Assumes nothing.
 use mathlib.Core.Path.{ap}
-use Rattle.leafcases.specs.Compare.{auditCompared, replayed, duplicateSame, word}
-use Rattle.audit.specs.Audit.{Left}
+use Rattle.leafcases.specs.Compare.{auditCompared, replayed, duplicateSame, valueWord}
+use Rattle.audit.specs.Audit.{RingLeft}
 use borrow.Author.Needs.{needs}
 use Rattle.leafcases.proofs.cases.audit_compared.Statement.{statement}
 use Rattle.leafcases.proofs.cases.audit_compared.Tie as tie
@@ -26,7 +26,7 @@ unfolding auditCompared
 returns c =
     let v = c .before .before .before .before .before .before .before .args .t3 in
     rw (c .duplicate-same .ensures)
-    (ap (λ (l : Left). replayed (l .checked .audit) (duplicateSame (l .checked) (word v 1)) (l .words)) (c .before .before .before .before .check-and-record .ensures .exact))
+    (ap (λ (l : RingLeft). replayed (l .checked .audit) (duplicateSame (l .checked) (valueWord v 1)) (l .words)) (c .before .before .before .before .check-and-record .ensures .exact))
 
 pub audit-compared-spec : {M : Type 1} → statement M
 audit-compared-spec =

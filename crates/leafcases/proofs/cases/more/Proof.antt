@@ -1,6 +1,6 @@
 -- `leafcases::cases::more` meets its contract. Assumes nothing.
 use borrow.Author.Tests.{lt-ltb, le-ltb}
-use Rattle.leafcases.specs.Compare.{oneMore}
+use Rattle.leafcases.specs.Compare.{countMore}
 use borrow.Author.Needs.{needs}
 use Rattle.leafcases.proofs.cases.more.Statement.{statement}
 use Rattle.leafcases.proofs.cases.more.Tie as tie
@@ -9,11 +9,11 @@ add-result : tie.Need-add-result
 add-result c = search needs
 
 returns : tie.Need-returns
-unfolding oneMore
+unfolding countMore
 returns c = rw (lt-ltb _ _ (c .if1 .taken))
 
 returns-2 : tie.Need-returns-2
-unfolding oneMore
+unfolding countMore
 returns-2 c = rw (le-ltb _ _ (c .if1 .left))
 
 pub more-spec : {M : Type 1} → statement M

@@ -3,14 +3,14 @@ use mathlib.Core.Path.{_≡_, sym, _∙_}
 use Prim.Native.Nat.{_≤_, _-_}
 use borrow.Author.Needs.{needs}
 use lib.ListN.{length, drop}
-use Rattle.leafcases.specs.Parse.{digitsAfter}
+use Rattle.leafcases.specs.Parse.{spelledAfter}
 use Rattle.leafcases.proofs.Text.{digits-step, digits-done, some-digits, no-digits}
 use Rattle.leafcases.proofs.parse.digits_of.Statement.{statement}
 use Rattle.leafcases.proofs.parse.digits_of.Tie as tie
 
 -- what is read of the rest is what is read of all
 abbrev Inv-loop : tie.InvT-loop
-Inv-loop s value₀ i₀ value i = (i ≤ length s) × (digitsAfter 0 s ≡ digitsAfter value (drop i s))
+Inv-loop s value₀ i₀ value i = (i ≤ length s) × (spelledAfter 0 s ≡ spelledAfter value (drop i s))
 
 abbrev μ-loop : tie.MeasureT-loop
 μ-loop s value₀ i₀ value i = length s - i

@@ -1,7 +1,7 @@
 -- `leafcases::parse::kind_of` meets its contract. Assumes nothing.
 use mathlib.Core.Path.{sym, _∙_}
 use borrow.Author.Needs.{needs}
-use Rattle.leafcases.specs.Parse.{kindOf}
+use Rattle.leafcases.specs.Parse.{kindNamed}
 use Rattle.leafcases.proofs.parse.kind_of.Statement.{statement}
 use Rattle.leafcases.proofs.parse.kind_of.Tie as tie
 
@@ -12,7 +12,7 @@ same-bytes-requires : tie.Need-same-bytes-requires
 same-bytes-requires c κs = search needs
 
 returns : tie.Need-returns
-unfolding kindOf
+unfolding kindNamed
 returns c = simp (sym (c .before .same-bytes .ensures) ∙ c .if1 .taken)
 
 slice-aggregate-same-bytes-2 : tie.Need-slice-aggregate-same-bytes-2
@@ -22,7 +22,7 @@ same-bytes-requires-2 : tie.Need-same-bytes-requires-2
 same-bytes-requires-2 c κs = search needs
 
 returns-2 : tie.Need-returns-2
-unfolding kindOf
+unfolding kindNamed
 returns-2 c = simp (sym (c .before .before .before .before .same-bytes .ensures) ∙ c .before .before .before .if1 .left, sym (c .before .same-bytes2 .ensures) ∙ c .if2 .taken)
 
 slice-aggregate-same-bytes-3 : tie.Need-slice-aggregate-same-bytes-3
@@ -32,7 +32,7 @@ same-bytes-requires-3 : tie.Need-same-bytes-requires-3
 same-bytes-requires-3 c κs = search needs
 
 returns-3 : tie.Need-returns-3
-unfolding kindOf
+unfolding kindNamed
 returns-3 c = simp (sym (c .before .before .before .before .before .before .before .same-bytes .ensures) ∙ c .before .before .before .before .before .before .if1 .left, sym (c .before .before .before .before .same-bytes2 .ensures) ∙ c .before .before .before .if2 .left, sym (c .before .same-bytes3 .ensures) ∙ c .if3 .taken)
 
 slice-aggregate-same-bytes-4 : tie.Need-slice-aggregate-same-bytes-4
@@ -42,7 +42,7 @@ same-bytes-requires-4 : tie.Need-same-bytes-requires-4
 same-bytes-requires-4 c κs = search needs
 
 returns-4 : tie.Need-returns-4
-unfolding kindOf
+unfolding kindNamed
 returns-4 c = simp (sym (c .before .before .before .before .before .before .before .before .before .before .same-bytes .ensures) ∙ c .before .before .before .before .before .before .before .before .before .if1 .left, sym (c .before .before .before .before .before .before .before .same-bytes2 .ensures) ∙ c .before .before .before .before .before .before .if2 .left, sym (c .before .before .before .before .same-bytes3 .ensures) ∙ c .before .before .before .if3 .left, sym (c .before .same-bytes4 .ensures) ∙ c .if4 .taken)
 
 slice-aggregate-same-bytes-5 : tie.Need-slice-aggregate-same-bytes-5
@@ -52,7 +52,7 @@ same-bytes-requires-5 : tie.Need-same-bytes-requires-5
 same-bytes-requires-5 c κs = search needs
 
 returns-5 : tie.Need-returns-5
-unfolding kindOf
+unfolding kindNamed
 returns-5 c = simp (sym (c .before .before .before .before .before .before .before .before .before .before .before .before .before .same-bytes .ensures) ∙ c .before .before .before .before .before .before .before .before .before .before .before .before .if1 .left, sym (c .before .before .before .before .before .before .before .before .before .before .same-bytes2 .ensures) ∙ c .before .before .before .before .before .before .before .before .before .if2 .left, sym (c .before .before .before .before .before .before .before .same-bytes3 .ensures) ∙ c .before .before .before .before .before .before .if3 .left, sym (c .before .before .before .before .same-bytes4 .ensures) ∙ c .before .before .before .if4 .left, sym (c .before .same-bytes5 .ensures) ∙ c .if5 .taken)
 
 slice-aggregate-same-bytes-6 : tie.Need-slice-aggregate-same-bytes-6
@@ -62,11 +62,11 @@ same-bytes-requires-6 : tie.Need-same-bytes-requires-6
 same-bytes-requires-6 c κs = search needs
 
 returns-6 : tie.Need-returns-6
-unfolding kindOf
+unfolding kindNamed
 returns-6 c = simp (sym (c .before .before .before .before .before .before .before .before .before .before .before .before .before .before .before .before .same-bytes .ensures) ∙ c .before .before .before .before .before .before .before .before .before .before .before .before .before .before .before .if1 .left, sym (c .before .before .before .before .before .before .before .before .before .before .before .before .before .same-bytes2 .ensures) ∙ c .before .before .before .before .before .before .before .before .before .before .before .before .if2 .left, sym (c .before .before .before .before .before .before .before .before .before .before .same-bytes3 .ensures) ∙ c .before .before .before .before .before .before .before .before .before .if3 .left, sym (c .before .before .before .before .before .before .before .same-bytes4 .ensures) ∙ c .before .before .before .before .before .before .if4 .left, sym (c .before .before .before .before .same-bytes5 .ensures) ∙ c .before .before .before .if5 .left, sym (c .before .same-bytes6 .ensures) ∙ c .if6 .taken)
 
 returns-7 : tie.Need-returns-7
-unfolding kindOf
+unfolding kindNamed
 returns-7 c = simp (sym (c .before .before .before .before .before .before .before .before .before .before .before .before .before .before .before .before .same-bytes .ensures) ∙ c .before .before .before .before .before .before .before .before .before .before .before .before .before .before .before .if1 .left, sym (c .before .before .before .before .before .before .before .before .before .before .before .before .before .same-bytes2 .ensures) ∙ c .before .before .before .before .before .before .before .before .before .before .before .before .if2 .left, sym (c .before .before .before .before .before .before .before .before .before .before .same-bytes3 .ensures) ∙ c .before .before .before .before .before .before .before .before .before .if3 .left, sym (c .before .before .before .before .before .before .before .same-bytes4 .ensures) ∙ c .before .before .before .before .before .before .if4 .left, sym (c .before .before .before .before .same-bytes5 .ensures) ∙ c .before .before .before .if5 .left, sym (c .before .same-bytes6 .ensures) ∙ c .if6 .left)
 
 pub kind-of-spec : {M : Type 1} → statement M

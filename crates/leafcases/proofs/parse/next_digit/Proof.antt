@@ -33,7 +33,7 @@ add-t9 c = omega (arith, ltb-false)
 returns-2 : tie.Need-returns-2
 unfolding nextDigit
 returns-2 c =
-    simp (le-ltb _ _ (c .before .before .before .if1 .left), c .before .before .if2 .left, c .before .if3 .left, c .wide .ensures)
+    simp (le-ltb _ _ (c .before .before .before .if1 .left), c .before .before .if2 .left, c .before .if3 .left, c .wide .ensures .0)
 
 pub next-digit-spec : {M : Type 1} → statement M
 next-digit-spec = tie.close (tie.spec returns mul-t6 wide-requires sub-t8 add-t9 returns-2)

@@ -4,7 +4,7 @@ use mathlib.Core.Path.{sym}
 use native.Mathlib.Nat.{zero-add}
 use borrow.Author.Needs.{needs}
 use lib.Seq.{length-take-le}
-use Rattle.leafcases.specs.Parse.{wordLength, lineOf}
+use Rattle.leafcases.specs.Parse.{wordLength, parsedLine}
 use Rattle.leafcases.proofs.Text.{split-word, word-within}
 use Rattle.leafcases.proofs.parse.parsed.Statement.{statement}
 use Rattle.leafcases.proofs.parse.parsed.Tie as tie
@@ -27,7 +27,7 @@ kind-with-requires : tie.Need-kind-with-requires
 kind-with-requires c κs = search needs
 
 returns : tie.Need-returns
-unfolding lineOf
+unfolding parsedLine
 returns c =
     let s = c .before .before .before .before .before .before .before .args .s .now in
     let e = rw (zero-add (wordLength s)) at (c .before .before .before .before .before .word-end .ensures) in

@@ -1,6 +1,6 @@
 -- `model::AckRule::packed` meets its contract: the table's rule is one equation over all its entries, which antt computes; no type from 7 on has a name.
 -- Assumes nothing.
-use mathlib.Core.Path.{refl, sym, _∙_}
+use mathlib.Core.Path.{refl, sym}
 use mathlib.Core.List.{List, [], _∷_}
 use Prim.Native.Nat.{ℕ}
 use borrow.Author.Needs.{needs}

@@ -2,7 +2,7 @@
 use mathlib.Core.Path.{ap}
 use borrow.Author.Needs.{needs}
 use Rattle.stats.specs.declared.Stats.{Stats}
-use Rattle.state.specs.State.{withStats}
+use Rattle.state.specs.State.{withCounters}
 use Rattle.state.proofs.Head.count_discarded.Statement.{statement}
 use Rattle.state.proofs.Head.count_discarded.Tie as tie
 
@@ -10,7 +10,7 @@ counted-discarded-by-requires : tie.Need-counted-discarded-by-requires
 counted-discarded-by-requires c κs = search needs
 
 returns : tie.Need-returns
-returns c = ap (λ (s : Stats). withStats s (c .before .args .self)) (c .counted-discarded-by .ensures)
+returns c = ap (λ (s : Stats). withCounters s (c .before .args .self)) (c .counted-discarded-by .ensures)
 
 pub count-discarded-spec : {M : Type 1} → statement M
 count-discarded-spec = tie.close (tie.spec counted-discarded-by-requires returns)

@@ -2,7 +2,7 @@
 use mathlib.Core.Path.{ap}
 use borrow.Author.Needs.{needs}
 use Rattle.stats.specs.declared.Stats.{Stats}
-use Rattle.state.specs.State.{withStats}
+use Rattle.state.specs.State.{withCounters}
 use Rattle.state.proofs.Head.count_expired.Statement.{statement}
 use Rattle.state.proofs.Head.count_expired.Tie as tie
 
@@ -10,7 +10,7 @@ counted-expired-by-requires : tie.Need-counted-expired-by-requires
 counted-expired-by-requires c κs = search needs
 
 returns : tie.Need-returns
-returns c = ap (λ (s : Stats). withStats s (c .before .args .self)) (c .counted-expired-by .ensures)
+returns c = ap (λ (s : Stats). withCounters s (c .before .args .self)) (c .counted-expired-by .ensures)
 
 pub count-expired-spec : {M : Type 1} → statement M
 count-expired-spec = tie.close (tie.spec counted-expired-by-requires returns)

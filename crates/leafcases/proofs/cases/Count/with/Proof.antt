@@ -1,5 +1,5 @@
 -- `leafcases::cases::Count::with` meets its contract. Assumes nothing.
-use Rattle.leafcases.specs.Compare.{counted}
+use Rattle.leafcases.specs.Compare.{countedCase}
 use borrow.Author.Needs.{needs}
 use Rattle.leafcases.proofs.cases.Count.with.Statement.{statement}
 use Rattle.leafcases.proofs.cases.Count.with.Tie as tie
@@ -14,11 +14,11 @@ more-requires-3 : tie.Need-more-requires-3
 more-requires-3 c κs = search needs
 
 returns : tie.Need-returns
-unfolding counted
+unfolding countedCase
 returns c = rw (c .before .if1 .taken, c .more .ensures)
 
 returns-2 : tie.Need-returns-2
-unfolding counted
+unfolding countedCase
 returns-2 c = rw (c .before .before .if1 .left, c .before .more2 .ensures, c .more3 .ensures)
 
 pub with-spec : {M : Type 1} → statement M

@@ -1,12 +1,12 @@
--- `queues::tables_fit` meets its contract. Assumes nothing.
+-- `queues::scan_tables` meets its contract. Assumes nothing.
 use mathlib.Core.Path.{_∙_}
 use mathlib.Core.Bool.{and-true}
 use Prim.Native.Nat.{_+_, _<_}
 use native.Mathlib.Omega.{arith}
 use borrow.Author.Tests.{le-leb, lt-leb}
-use Rattle.queues.proofs.Guard.{leb-less}
-use Rattle.queues.proofs.tables_fit.Statement.{statement}
-use Rattle.queues.proofs.tables_fit.Tie as tie
+use Rattle.words.proofs.Tests.{leb-less}
+use Rattle.queues.proofs.scan_tables.Statement.{statement}
+use Rattle.queues.proofs.scan_tables.Tie as tie
 
 returns : tie.Need-returns
 returns c =
@@ -36,5 +36,5 @@ returns-6 c =
     leb-less (a .d .events) (a .events) (a .d .waiting) (c .before .before .if5 .left)
     ∙ rw (le-leb _ _ (c .before .before .before .before .before .before .before .before .before .if1 .left), le-leb _ _ (c .before .before .before .before .before .before .before .before .if2 .left), le-leb _ _ (c .before .before .before .before .before .before .if3 .left), le-leb _ _ (c .before .before .before .before .if4 .left), and-true)
 
-pub tables-fit-spec : {M : Type 1} → statement M
-tables-fit-spec = tie.close (tie.spec returns returns-2 returns-3 returns-4 returns-5 returns-6)
+pub scan-tables-spec : {M : Type 1} → statement M
+scan-tables-spec = tie.close (tie.spec returns returns-2 returns-3 returns-4 returns-5 returns-6)

@@ -1,11 +1,11 @@
--- `queues::counters_fit` meets its contract. Assumes nothing.
+-- `queues::scan_counters` meets its contract. Assumes nothing.
 use mathlib.Core.Path.{_∙_}
 use Prim.Native.Nat.{_+_, _≤_, _<_, _^_}
 use native.Mathlib.Omega.{arith}
 use borrow.Author.Tests.{le-leb, lt-leb}
-use Rattle.queues.proofs.Guard.{leb-less}
-use Rattle.queues.proofs.counters_fit.Statement.{statement}
-use Rattle.queues.proofs.counters_fit.Tie as tie
+use Rattle.words.proofs.Tests.{leb-less}
+use Rattle.queues.proofs.scan_counters.Statement.{statement}
+use Rattle.queues.proofs.scan_counters.Tie as tie
 
 returns : tie.Need-returns
 returns c =
@@ -19,5 +19,5 @@ returns-2 c =
     let h : s .expired + 512 ≤ 2 ^ 63 = omega (arith, c .before .if1 .left) in
     leb-less (s .dispatched) (2 ^ 63) 512 (omega arith) ∙ rw (le-leb (s .expired + 512) (2 ^ 63) h)
 
-pub counters-fit-spec : {M : Type 1} → statement M
-counters-fit-spec = tie.close (tie.spec returns returns-2)
+pub scan-counters-spec : {M : Type 1} → statement M
+scan-counters-spec = tie.close (tie.spec returns returns-2)

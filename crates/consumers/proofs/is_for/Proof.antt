@@ -1,11 +1,11 @@
--- `returns::is_for` meets its contract. Assumes nothing.
+-- `consumers::is_for` meets its contract. Assumes nothing.
 use mathlib.Core.Path.{sym, ap, _∙_}
-use Rattle.model.specs.declared.Id as Model
+use Rattle.model.specs.declared.Id.{Id}
 use Rattle.model.specs.Model.{sameId}
-use Rattle.returns.proofs.Unmarking.{held-id}
+use Rattle.consumers.proofs.Words.{holder-words}
 use borrow.Author.Needs.{needs}
-use Rattle.returns.proofs.is_for.Statement.{statement}
-use Rattle.returns.proofs.is_for.Tie as tie
+use Rattle.consumers.proofs.is_for.Statement.{statement}
+use Rattle.consumers.proofs.is_for.Tie as tie
 
 array-read-of-words : tie.Need-array-read-of-words
 array-read-of-words c = search needs
@@ -25,7 +25,7 @@ same-requires c κs = search needs
 returns : tie.Need-returns
 returns c =
     let a = c .before .before .args in
-    c .same .ensures ∙ ap (λ (x : Model.Id). sameId x (a .id)) (c .before .of-words .ensures ∙ sym (held-id (a .t1)))
+    c .same .ensures ∙ ap (λ (x : Id). sameId x (a .id)) (c .before .of-words .ensures ∙ sym (holder-words (a .t1)))
 
 pub is-for-spec : {M : Type 1} → statement M
 is-for-spec =

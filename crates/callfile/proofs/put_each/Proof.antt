@@ -1,15 +1,14 @@
--- `layouttext::put_all` meets its contract. Assumes nothing.
+-- `callfile::put_each` meets its contract. Assumes nothing.
 use Prim.Native.Nat.{_+_, _-_, _≤_}
 use mathlib.Core.Path.{_≡_}
 use lib.ListN.{length, take}
 use lib.Seq.{take-all}
 use Rattle.callfile.specs.Placed.{Puts}
-use Rattle.callfile.proofs.Parts.{then, nothing}
-use Rattle.calltext.proofs.Showing.{name-more}
+use Rattle.callfile.proofs.Parts.{then, nothing, take-more}
 use native.Mathlib.Omega.{arith}
 use borrow.Author.Needs.{needs}
-use Rattle.layouttext.proofs.put_all.Statement.{statement}
-use Rattle.layouttext.proofs.put_all.Tie as tie
+use Rattle.callfile.proofs.put_each.Statement.{statement}
+use Rattle.callfile.proofs.put_each.Tie as tie
 
 abbrev Inv-loop : tie.InvT-loop
 Inv-loop out₀ at part next₀ i₀ out next i = (i ≤ length part) × (next ≡ at + i) × Puts (take i part) at out₀ next out
@@ -38,7 +37,7 @@ loop-again c =
     let a = g .before .before .before .args in
     let v = g .loop .inv in
     let p = c .before .before .put .ensures in
-    (omega arith, omega (arith, p .next), rw (name-more (a .part .now) (g .loop .i) (c .before .before .before .before .before .loop-test .taken)) (then (v .2) p))
+    (omega arith, omega (arith, p .next), rw (take-more (a .part .now) (g .loop .i) (c .before .before .before .before .before .loop-test .taken)) (then (v .2) p))
 
 same-length : tie.Need-same-length Inv-loop μ-loop
 same-length c = search needs
@@ -50,8 +49,8 @@ returns c =
     let v = g .loop .inv in
     rw (take-all (g .loop .i) (a .part .now) (omega arith)) at (v .2)
 
-pub put-all-spec : {M : Type 1} → statement M
-put-all-spec =
+pub put-each-spec : {M : Type 1} → statement M
+put-each-spec =
     tie.close
     (tie.spec
     Inv-loop
