@@ -9,15 +9,15 @@ use lib.ListN.{length, take, drop, getD, set, length-append, length-take, length
 use lib.Seq.{slice, drop-drop, take-add, take-suc, take-suc-set, getD-drop}
 use Rattle.words.specs.Pick.{if_then_else_}
 use Rattle.entry.specs.Entry.{entryOf}
-use Rattle.definition.specs.Types.{Kind, queue, topic, Entry, Sub, Dest}
+use Rattle.definition.specs.Types.{Kind, queue, Entry}
 use Rattle.definition.specs.Consumer.{isBrowser}
-use Rattle.definition.specs.Calls.{flying, consumerRows, taken, held, allRows, ownRows, withinShare}
+use Rattle.definition.specs.Calls.{flying, consumerRows, taken, withinShare}
 use Rattle.definition.specs.Words.{at}
 use Rattle.definition.specs.Layout.{Row, flag, subAt, eachSub, subsAt, subRows}
+use Rattle.definition.proofs.Stored.{flying-rows}
 use Rattle.definition.proofs.Thin.{map-append}
-use Rattle.sound.specs.Sound.{kindBy, reservedAt, waitingAt, connsAt, ownConns, sharesAt}
+use Rattle.sound.specs.Sound.{reservedAt, waitingAt, connsAt, ownConns, sharesAt}
 use Rattle.sound.proofs.Tests.{part-turn, part-end}
-use Rattle.sound.proofs.Subs.{flying-rows}
 use Rattle.sound.proofs.Gathered.{browses, taken-small}
 use Rattle.sound.proofs.Sizes.{used-parts}
 use Rattle.shares.specs.Shares.{withinEach, conns}

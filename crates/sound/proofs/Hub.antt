@@ -7,18 +7,18 @@ use native.Mathlib.Omega.{arith}
 use borrow.Author.Tests.{eqb-true, eqb-false, eq-eqb}
 use lib.Dec.{eqb}
 use lib.ListN.{length, take, drop, getD, length-take, length-drop}
-use lib.Seq.{drop-drop, take-add, take-take, getD-drop, getD-take}
+use lib.Seq.{slice, take-add, getD-drop, getD-take}
 use Rattle.words.proofs.Tests.{by-test}
 use Rattle.entry.specs.Entry.{entryOf}
 use Rattle.definition.specs.Base.{all, member, distinct}
 use Rattle.definition.specs.Types.{topic}
 use Rattle.definition.specs.Words.{at}
-use Rattle.definition.specs.Layout.{Row, subAt, eachSub, subsAt, subRows}
+use Rattle.definition.specs.Layout.{Row, subAt, subsAt, subRows}
 use Rattle.definition.proofs.Tests.{and-left, and-right, and-both}
 use Rattle.copies.specs.Copies.{alike, agreeAt}
 use Rattle.copies.proofs.Laws.{agree-means, alike-at, member-at}
-use Rattle.sound.specs.Sound.{seqsAt, apartBy, SameRows, sizesAt}
-use Rattle.sound.proofs.Subs.{seqs-rows, all-append}
+use Rattle.sound.specs.Sound.{seqsAt, apartBy, HubAt, SameRows, sizesAt}
+use Rattle.sound.proofs.Subs.{seqs-rows, all-append, rows-turn, walk-turn}
 use Rattle.sound.proofs.Gathered.{apart-here}
 use Rattle.sound.proofs.Sizes.{distinct-agree}
 
@@ -94,54 +94,55 @@ all-below p l zero h f = refl
 all-below p [] (suc k) h f = refl
 all-below p (w ∷ l) (suc k) h f = and-both (p w) (all p (take k l)) (f 0 (omega arith)) (all-below p l k (omega arith) (λ i t. f (suc i) (omega arith)))
 
-module _ (rows : List Row) (start most : ℕ) (d : distinct (seqsAt (take most (drop start rows))) ≡ true) (b : start + most ≤ length rows) where
-  abbrev pub hub : List Row
-  hub = take most (drop start rows)
+-- the rows that others are compared with
+abbrev pub hub : ℕ → ℕ → List Row → List Row
+hub end many rows = take many (drop (end - many) rows)
 
-  -- one consumer's rows more
-  pub more-copies : (base k end : ℕ) → end ≡ start + most → k ≤ most → base + k ≤ length rows → SameRows base (end - k) k rows → all (copy hub) (take base rows) ≡ true → all (copy hub) (take (base + k) rows) ≡ true
-  more-copies base k end q h m s e =
-      ap (all (copy hub)) (take-add base k rows)
-      ∙ all-append (copy hub) (take base rows) (take k (drop base rows))
-      ∙ and-both (all (copy hub) (take base rows)) (all (copy hub) (take k (drop base rows))) e
-      (all-below (copy hub) (drop base rows) k (simp length-drop (omega arith)) (λ i t.
-      let j : ℕ = most - k + i in
-      let n : start + j ≡ end - k + i = omega arith in
-      let g : getD hub j [] ≡ getD rows (end - k + i) [] = getD-take most (drop start rows) j [] (omega arith) ∙ getD-drop start rows j [] ∙ ap (λ (x : ℕ). getD rows x []) n in
-      let f : getD (drop base rows) i [] ≡ getD rows (base + i) [] = getD-drop base rows i [] in
-      copy-at hub (getD (drop base rows) i []) j d (simp (length-take, length-drop) (omega arith)) (ap (at 0) f ∙ s i t .0 ∙ sym (ap (at 0) g)) (ap (at 9) f ∙ s i t .1 ∙ sym (ap (at 9) g))))
+-- one consumer's rows more
+pub more-copies : (rows : List Row) (base k end many : ℕ) → distinct (seqsAt (hub end many rows)) ≡ true → many ≤ end → end ≤ length rows → base + k ≤ length rows
+    → (k ≤ many) × SameRows base (end - k) k rows → all (copy (hub end many rows)) (take base rows) ≡ true → all (copy (hub end many rows)) (take (base + k) rows) ≡ true
+more-copies rows base k end many d b l m s e =
+    let h : List Row = hub end many rows in
+    ap (all (copy h)) (take-add base k rows)
+    ∙ all-append (copy h) (take base rows) (take k (drop base rows))
+    ∙ and-both (all (copy h) (take base rows)) (all (copy h) (take k (drop base rows))) e
+    (all-below (copy h) (drop base rows) k (simp length-drop (omega arith)) (λ i t.
+    let j : ℕ = many - k + i in
+    let n : end - many + j ≡ end - k + i = omega arith in
+    let g : getD h j [] ≡ getD rows (end - k + i) [] = getD-take many (drop (end - many) rows) j [] (omega arith) ∙ getD-drop (end - many) rows j [] ∙ ap (λ (x : ℕ). getD rows x []) n in
+    let f : getD (drop base rows) i [] ≡ getD rows (base + i) [] = getD-drop base rows i [] in
+    copy-at h (getD (drop base rows) i []) j d (simp (length-take, length-drop) (omega arith)) (ap (at 0) f ∙ s .1 i t .0 ∙ sym (ap (at 0) g)) (ap (at 9) f ∙ s .1 i t .1 ∙ sym (ap (at 9) g))))
 
--- ---- where a consumer's rows stand
+-- ---- one consumer's rows among all
 
-rows-fit : (h : ℕ) (ws : List Row) → h < length ws → subRows (take h ws) + (at 14 (getD ws h []) + at 15 (getD ws h [])) ≤ subRows ws
-unfolding subRows
-rows-fit h [] b = absurd (omega arith)
-rows-fit zero (w ∷ ws) b = omega arith
-rows-fit (suc h) (w ∷ ws) b = omega (arith, rows-fit h ws (omega arith))
+-- where each consumer's rows are different, so are those of each that is left
+abbrev pub ApartFrom : List Row → ℕ → ℕ → ℕ → Type 0
+ApartFrom subs n base i = (rows : List Row) → all (apartBy topic) (subsAt topic (take n subs) rows) ≡ true → all (apartBy topic) (subsAt topic (slice i n subs) (drop base rows)) ≡ true
 
-rows-apart : (h : ℕ) (ws rows : List Row) → h < length ws → all (apartBy topic) (subsAt topic ws rows) ≡ true
-    → distinct (seqsAt (take (at 14 (getD ws h []) + at 15 (getD ws h [])) (drop (subRows (take h ws)) rows))) ≡ true
-unfolding eachSub subRows
-rows-apart h [] rows b a = absurd (omega arith)
-rows-apart zero (w ∷ ws) rows b a =
-    apart-here w rows 0 false ∙ and-left (apartBy topic (subAt topic w (take (at 14 w) rows) (take (at 15 w) (drop (at 14 w) rows)))) (all (apartBy topic) (subsAt topic ws (drop (at 15 w) (drop (at 14 w) rows)))) a
-rows-apart (suc h) (w ∷ ws) rows b a =
-    let v = getD ws h [] in
-    let s : ℕ = subRows (take h ws) in
-    let rest : List Row = drop (at 15 w) (drop (at 14 w) rows) in
-    sym (ap (λ (l : List Row). distinct (seqsAt (take (at 14 v + at 15 v) l))) (drop-drop s (at 15 w) (drop (at 14 w) rows) ∙ drop-drop (at 15 w + s) (at 14 w) rows))
-    ∙ rows-apart h ws rest (omega arith) (and-right (apartBy topic (subAt topic w (take (at 14 w) rows) (take (at 15 w) (drop (at 14 w) rows)))) (all (apartBy topic) (subsAt topic ws rest)) a)
+pub no-hub : (ws : List Row) → HubAt ws 0 0
+no-hub ws = record { room = omega arith; within = omega arith; apart = λ rows a. refl }
 
-module _ (subs : List Row) (h n : ℕ) (b : n ≤ length subs) (t : h < n) where
-  abbrev pub hubRows : ℕ
-  hubRows = at 14 (getD subs h []) + at 15 (getD subs h [])
+module _ (subs : List Row) (i n : ℕ) (b : n ≤ length subs) (base : ℕ) (h : i < n) (g : ApartFrom subs n base i) where
+  abbrev pub own : ℕ
+  own = at 14 (getD subs i []) + at 15 (getD subs i [])
 
-  pub hub-fits : subRows (take h subs) + hubRows ≤ subRows (take n subs)
-  hub-fits =
-      let r = rows-fit h (take n subs) (simp length-take (omega arith)) in
-      rw (take-take h n subs (omega arith), getD-take n subs h [] t) at r
+  abbrev ownApart : List Row → Bool
+  ownApart rows = let w = getD subs i [] in apartBy topic (subAt topic w (take (at 14 w) (drop base rows)) (take (at 15 w) (drop (at 14 w) (drop base rows))))
 
-  pub hub-apart : (rows : List Row) → all (apartBy topic) (subsAt topic (take n subs) rows) ≡ true → distinct (seqsAt (take hubRows (drop (subRows (take h subs)) rows))) ≡ true
-  hub-apart rows a =
-      let r = rows-apart h (take n subs) rows (simp length-take (omega arith)) a in
-      rw (take-take h n subs (omega arith), getD-take n subs h [] t) at r
+  abbrev nextApart : List Row → Bool
+  nextApart rows = all (apartBy topic) (subsAt topic (slice (i + 1) n subs) (drop (base + own) rows))
+
+  apart-turn : (rows : List Row) → all (apartBy topic) (subsAt topic (take n subs) rows) ≡ true → (ownApart rows && nextApart rows) ≡ true
+  apart-turn rows a = walk-turn subs i n b (apartBy topic) (subAt topic) rows base true (g rows a) h
+
+  pub apart-next : ApartFrom subs n (base + own) (i + 1)
+  apart-next rows a = and-right (ownApart rows) (nextApart rows) (apart-turn rows a)
+
+  pub hub-here : base + subRows (slice i n subs) ≡ subRows (take n subs) → HubAt (take n subs) (base + own) own
+  hub-here e =
+      let q : base + own - own ≡ base = omega arith in
+      record {
+        room = omega arith;
+        within = omega (arith, rows-turn subs i n b h);
+        apart = λ rows a. ap (λ (j : ℕ). distinct (seqsAt (take own (drop j rows)))) q ∙ apart-here (getD subs i []) rows base false ∙ and-left (ownApart rows) (nextApart rows) (apart-turn rows a);
+      }

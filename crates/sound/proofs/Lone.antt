@@ -1,38 +1,35 @@
 -- Where no entry can have two rows, all numbers are different, and so the sizes agree. Assumes nothing.
 use mathlib.Core.Path.{_≡_, refl, sym, ap, ap₂, _∙_}
-use mathlib.Core.Bool.{Bool, true, false, not, _&&_, true≢false}
+use mathlib.Core.Bool.{Bool, true, false, not, _&&_}
 use mathlib.Core.List.{List, [], _∷_, _++_, map, append-nil}
 use Prim.Native.Nat.{ℕ, _+_, _≤_}
 use native.Mathlib.Omega.{arith}
-use borrow.Author.Tests.{eqb-true, leb-false, not-false, not-true}
-use lib.Dec.{leb, eqb}
+use borrow.Author.Tests.{eqb-true, leb-false, not-false}
+use lib.Dec.{eqb}
 use lib.ListN.{take, drop}
 use Rattle.words.specs.Pick.{if_then_else_}
 use Rattle.words.proofs.Tests.{by-test}
 use Rattle.entry.specs.Entry.{entryOf}
-use Rattle.definition.specs.Base.{all, is-some, tally, distinct}
+use Rattle.definition.specs.Base.{all, tally, distinct}
 use Rattle.definition.specs.Types.{Kind, queue, topic, Entry, Sub}
 use Rattle.definition.specs.Consumer.{isBrowser}
 use Rattle.definition.specs.Calls.{seqs, flying, rowsOf, taken, consumerRows, sizesAgree}
 use Rattle.definition.specs.Words.{at}
-use Rattle.definition.specs.Layout.{Row, flag, browserAt, subAt, eachSub, subsAt, subRows, subsStrict}
+use Rattle.definition.specs.Layout.{Row, flag, subAt, eachSub, subsAt, subRows, subsStrict}
 use Rattle.definition.proofs.Tests.{and-left, and-right}
 use Rattle.definition.proofs.Thin.{map-append}
 use Rattle.copies.specs.Copies.{mayCopy, sharedBy}
 use Rattle.sound.specs.Sound.{ownSound, eachOk, kindBy, apartBy, emptyBy, reservedAt, waitingAt, queueApart, sizesAt}
 use Rattle.sound.proofs.Subs.{seqs-rows, rows-of-sub}
+use Rattle.sound.proofs.Gathered.{browses}
 use Rattle.sound.proofs.Sizes.{agree-turned, used-parts, distinct-agree}
 use Rattle.sound.proofs.Meaning.{plain-rows, each-parts}
 
 -- ---- one consumer
 
-browses : (w : Row) (f h : List Row) → isBrowser (subAt queue w f h) ≡ flag (at 6 w)
+browses-sub : (w : Row) (f h : List Row) → isBrowser (subAt queue w f h) ≡ flag (at 6 w)
 unfolding isBrowser subAt
-browses w f h = by (flag (at 6 w)) (map entryOf h)
-  where
-    by : (b : Bool) (l : List Entry) → is-some (browserAt queue b l) ≡ b
-    by true l = refl
-    by false l = refl
+browses-sub w f h = browses (flag (at 6 w)) (map entryOf h)
 
 -- one without rows
 no-rows : (k : Kind) (w : Row) (rows : List Row) → (eqb (at 14 w) 0 && eqb (at 15 w) 0) ≡ true → rowsOf (subAt k w (take (at 14 w) rows) (take (at 15 w) (drop (at 14 w) rows))) ≡ []
@@ -49,9 +46,9 @@ module _ (most : ℕ) (w : Row) (rows : List Row) where
   plain-sub o h = by-test (flag (at 6 w))
       (λ t.
       let e : (eqb (at 14 w) 0 && eqb (at 15 w) 0) ≡ true = not-false (eqb (at 14 w) 0 && eqb (at 15 w) 0) (sym (ap (λ (b : Bool). b && not (eqb (at 14 w) 0 && eqb (at 15 w) 0)) t) ∙ h) in
-      ap (λ (b : Bool). if b then [] else flying s) (browses w (take (at 14 w) rows) (take (at 15 w) (drop (at 14 w) rows)) ∙ t) ∙ sym (no-rows queue w rows e))
+      ap (λ (b : Bool). if b then [] else flying s) (browses-sub w (take (at 14 w) rows) (take (at 15 w) (drop (at 14 w) rows)) ∙ t) ∙ sym (no-rows queue w rows e))
       (λ t.
-      let n : isBrowser s ≡ false = browses w (take (at 14 w) rows) (take (at 15 w) (drop (at 14 w) rows)) ∙ t in
+      let n : isBrowser s ≡ false = browses-sub w (take (at 14 w) rows) (take (at 15 w) (drop (at 14 w) rows)) ∙ t in
       ap (λ (b : Bool). if b then [] else flying s) n ∙ sym (plain-rows most s o n))
 
 -- ---- all of them

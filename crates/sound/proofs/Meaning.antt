@@ -4,12 +4,12 @@ use mathlib.Core.Path.{_≡_, refl, sym, ap, ap₂, _∙_}
 use mathlib.Core.Bool.{Bool, true, false, not, _&&_, _||_, and-true, or-true}
 use mathlib.Core.List.{List, [], _∷_, _++_, map, append-nil}
 use mathlib.Core.Option.{Option, none, some}
-use Prim.Native.Nat.{ℕ, zero, suc, _+_, _≤_, _<_, _^_}
+use Prim.Native.Nat.{ℕ, zero, suc, _+_, _≤_, _^_}
 use native.Mathlib.Omega.{arith}
 use borrow.Author.Tests.{eq-eqb, ltb-true, leb-true, eqb-true, lt-ltb, le-leb}
 use lib.Dec.{leb, ltb, eqb}
 use lib.ListN.{length, take, drop, length-append, length-take, length-drop, length-map}
-use lib.Seq.{drop-drop, getD-drop, length-take-le, take-add}
+use lib.Seq.{drop-drop, length-take-le, take-add}
 use Rattle.words.specs.Pick.{if_then_else_}
 use Rattle.words.proofs.Tests.{by-test}
 use Rattle.audit.specs.Audit as Ring
@@ -22,38 +22,18 @@ use Rattle.definition.specs.Calls.{word, idOk, entryOk, clockOk, bound, seqs, f
 use Rattle.definition.specs.Words.{at, kindOf}
 use Rattle.definition.specs.Layout.{Row, Buffers, idAt, heldAt, subAt, eachSub, subsAt, subRows, idsAt, ringAt, auditsAt, view, usedRows, ringsFormed, isMark, entryStrict, subStrict, subsStrict, tablesStrict, strict, formed, soundBuffers}
 use Rattle.definition.proofs.Tests.{and-left, and-right, and-both}
+use Rattle.definition.proofs.Lists.{empty-nil, empty-map, all-first, all-rest, all-weaker}
+use Rattle.definition.proofs.Stored.{held-rows, ids-length, audits-length}
 use Rattle.definition.proofs.Thin.{every-all, all-every, map-append}
 use Rattle.distinct.proofs.Laws.{iff, distinct-left, distinct-right}
 use Rattle.sound.specs.Sound.{limitsOk, countsOk, marksOk, headOk, rowOk, holderOk, ownTests, ownSound, ownOk, eachOk, kindBy, seqsAt, apartBy, emptyBy, reservedAt, waitingAt, queueApart, sizesAt, tableTests, tablesOk, sharesAt, lent, restOk}
 use Rattle.sound.proofs.Tests.{swap-inner, empty-take, all-map}
-use Rattle.sound.proofs.Rows.{id-fits}
+use Rattle.sound.proofs.Rows.{Words, words-drop, id-fits}
 use Rattle.sound.proofs.Subs.{seqs-rows, rows-ok, sorted-means, all-append, rows-of-sub, optional-test, ids-means}
 use Rattle.sound.proofs.Sizes.{agree-turned, used-parts}
 use Rattle.sound.proofs.Connected.{own-queue, own-topic}
 
--- ---- lists
-
-all-mono : {A : Type 0} (p q : A → Bool) → ((a : A) → p a ≡ true → q a ≡ true) → (l : List A) → all p l ≡ true → all q l ≡ true
-all-mono p q f [] e = refl
-all-mono p q f (x ∷ l) e = and-both (q x) (all q l) (f x (and-left (p x) (all p l) e)) (all-mono p q f l (and-right (p x) (all p l) e))
-
-all-take : {A : Type 0} (p : A → Bool) (n : ℕ) (l : List A) → all p l ≡ true → all p (take n l) ≡ true
-all-take p zero l e = refl
-all-take p (suc n) [] e = refl
-all-take p (suc n) (x ∷ l) e = and-both (p x) (all p (take n l)) (and-left (p x) (all p l) e) (all-take p n l (and-right (p x) (all p l) e))
-
-all-drop : {A : Type 0} (p : A → Bool) (n : ℕ) (l : List A) → all p l ≡ true → all p (drop n l) ≡ true
-all-drop p zero l e = e
-all-drop p (suc n) [] e = refl
-all-drop p (suc n) (x ∷ l) e = all-drop p n l (and-right (p x) (all p l) e)
-
-empty-nil : {A : Type 0} (l : List A) → empty l ≡ true → l ≡ []
-empty-nil [] e = refl
-empty-nil (x ∷ l) e = absurd (let z : _≡_ {A = ℕ} 0 1 = cc in omega arith)
-
-empty-mapped : {A B : Type 0} (f : A → B) (l : List A) → empty (map f l) ≡ empty l
-empty-mapped f [] = refl
-empty-mapped f (x ∷ l) = refl
+-- ---- numbers
 
 both-zero : (m n : ℕ) → (eqb n 0 && eqb m 0) ≡ eqb (m + n) 0
 both-zero m n = iff (eqb n 0 && eqb m 0) (eqb (m + n) 0)
@@ -62,31 +42,14 @@ both-zero m n = iff (eqb n 0 && eqb m 0) (eqb (m + n) 0)
 
 -- ---- words
 
--- every word of a list is one
-abbrev pub Words : List ℕ → Type 0
-Words l = (k : ℕ) → at k l < 2 ^ 64
-
-words-drop : (n : ℕ) (l : List ℕ) → Words l → Words (drop n l)
-words-drop n l h k = rw (getD-drop n l k 0) (h (n + k))
-
 words-all : (l : List ℕ) → Words l → all word l ≡ true
 words-all [] h = refl
 words-all (x ∷ l) h = and-both (word x) (all word l) (lt-ltb x (2 ^ 64) (h 0)) (words-all l (λ k. h (suc k)))
-
-ids-count : (n : ℕ) (l : List ℕ) → length (idsAt n l) ≡ n
-unfolding idsAt
-ids-count zero l = refl
-ids-count (suc n) l = ap suc (ids-count n (drop 3 l))
 
 ids-fit : (n : ℕ) (l : List ℕ) → Words l → all idOk (idsAt n l) ≡ true
 unfolding idsAt
 ids-fit zero l h = refl
 ids-fit (suc n) l h = and-both (idOk (idAt l)) (all idOk (idsAt n (drop 3 l))) (id-fits l (h 0)) (ids-fit n (drop 3 l) (words-drop 3 l h))
-
-audits-count : (n : ℕ) (l : List ℕ) → length (auditsAt n l) ≡ n
-unfolding auditsAt
-audits-count zero l = refl
-audits-count (suc n) l = ap suc (audits-count n (drop 1029 l))
 
 ring-count : (a : RingState.Audit) → Ring.ringSound a ≡ true → a .count ≤ 1024
 unfolding Ring.ringSound
@@ -103,8 +66,8 @@ ring-fits a l h e =
     let m = drop (a .start) (take 1024 l) ++ take (a .start) l in
     let all-m : all word m ≡ true =
     all-append word (drop (a .start) (take 1024 l)) (take (a .start) l)
-    ∙ and-both (all word (drop (a .start) (take 1024 l))) (all word (take (a .start) l)) (all-drop word (a .start) (take 1024 l) (all-take word 1024 l w)) (all-take word (a .start) l w) in
-    (le-leb (length (take (a .count) m)) 1024 (omega (arith, length-take (a .count) m, ring-count a e)), all-take word (a .count) m all-m)
+    ∙ and-both (all word (drop (a .start) (take 1024 l))) (all word (take (a .start) l)) (all-rest word (a .start) (take 1024 l) (all-first word 1024 l w)) (all-first word (a .start) l w) in
+    (le-leb (length (take (a .count) m)) 1024 (omega (arith, length-take (a .count) m, ring-count a e)), all-first word (a .count) m all-m)
 
 audits-fit : (n : ℕ) (l : List ℕ) → Words l → ringsFormed n l ≡ true → all auditOk (auditsAt n l) ≡ true
 unfolding auditsAt ringsFormed
@@ -258,10 +221,6 @@ each-parts k most (w ∷ ws) rows =
 
 -- ---- places
 
-held-rows : (l : List Row) → map (λ x. x .entry) (map heldAt l) ≡ map entryOf l
-held-rows [] = refl
-held-rows (w ∷ l) = ap (λ (m : List Entry). entryOf w ∷ m) (held-rows l)
-
 module _ (others reserved waiting : ℕ) (us rows : List Row) (b : others + (reserved + waiting) ≤ length rows) where
   -- where the rows of a destination stand
   pub record Stands (k : Kind) (t : Dest) : Type 0 where
@@ -286,7 +245,7 @@ module _ (others reserved waiting : ℕ) (us rows : List Row) (b : others + (res
       let r = reservedAt others reserved rows in
       let ew : eqb waiting 0 ≡ empty w = empty-take waiting (drop (others + reserved) rows) (simp length-drop (omega arith)) in
       let er : eqb reserved 0 ≡ empty r = empty-take reserved (drop others rows) (simp length-drop (omega arith)) in
-      ap₂ _&&_ (ap empty (s .waits) ∙ empty-mapped entryOf w ∙ sym ew) (ap empty (s .kept) ∙ empty-mapped heldAt r ∙ sym er)
+      ap₂ _&&_ (ap empty (s .waits) ∙ empty-map entryOf w ∙ sym ew) (ap empty (s .kept) ∙ empty-map heldAt r ∙ sym er)
       ∙ both-zero reserved waiting ∙ sym (and-true (eqb (reserved + waiting) 0))
 
   taken-means : (k : Kind) → queueApart k others reserved waiting us rows ≡ true → takenApart k (subsAt k us rows) ≡ true
@@ -423,7 +382,7 @@ module _ (h : List ℕ) (subs rows : List Row) (ls : 32 ≤ length subs) (lr : 5
         and-left (emptyBy k (at 15 h + at 16 h)) (queueApart k (subRows us) (at 15 h) (at 16 h) us rows) place,
         (
           each-parts k (bound (at 3 h)) us rows
-              ∙ and-both (all (ownSound k (bound (at 3 h))) (subsAt k us rows)) _ (all-mono (subSound k (at 3 h)) (ownSound k (bound (at 3 h))) (λ s t. sub-own k (at 3 h) s t .0) (subsAt k us rows) subs-ok) (and-left (subsStrict us rows) _ t),
+              ∙ and-both (all (ownSound k (bound (at 3 h))) (subsAt k us rows)) _ (all-weaker (subSound k (at 3 h)) (ownSound k (bound (at 3 h))) (λ s t. sub-own k (at 3 h) s t .0) (subsAt k us rows) subs-ok) (and-left (subsStrict us rows) _ t),
           (
             sym (ids-means k us rows) ∙ p .1 .1 .1 .1 .1 .1 .1 .1 .1 .1 .1 .1 .0,
             (
@@ -432,7 +391,7 @@ module _ (h : List ℕ) (subs rows : List Row) (ls : 32 ≤ length subs) (lr : 5
                 sorted-means waiting-rows ∙ and-both (all entryOk w && all entryStrict waiting-rows) (ascending (seqs w)) (and-both (all entryOk w) _ (and-left (all entryOk w) (all entryOk r) ok) (and-right (all entryStrict kept-rows) _ o)) risen,
                 (
                   and-both (queueApart k (subRows us) (at 15 h) (at 16 h) us rows) _ (and-right (emptyBy k (at 15 h + at 16 h)) (queueApart k (subRows us) (at 15 h) (at 16 h) us rows) place)
-                      (all-mono (subSound k (at 3 h)) (apartBy k) (λ s t. apart-of k s (sub-own k (at 3 h) s t .1)) (subsAt k us rows) subs-ok),
+                      (all-weaker (subSound k (at 3 h)) (apartBy k) (λ s t. apart-of k s (sub-own k (at 3 h) s t .1)) (subsAt k us rows) subs-ok),
                   (sym (sizes-same u) ∙ p .1 .1 .1 .1 .1 .1 .1 .1 .1 .1 .1 .1 .1 .1 .1 .1 .1 .1 .1 .1 .0, tt),
                 ),
               ),
@@ -504,7 +463,7 @@ module _ (h : List ℕ) (subs rows : List Row) (ls : 32 ≤ length subs) (lr : 5
                 (
                   le-leb (length (subsAt k us rows)) 32 (omega (arith, subs-many n)),
                   (
-                    le-leb (length (idsAt (at 13 h) (drop 17 h))) 32 (omega (arith, ids-count (at 13 h) (drop 17 h), leb-true (at 13 h) 32 f2)),
+                    le-leb (length (idsAt (at 13 h) (drop 17 h))) 32 (omega (arith, ids-length (at 13 h) (drop 17 h), leb-true (at 13 h) 32 f2)),
                     (
                       ids-fit (at 13 h) (drop 17 h) (words-drop 17 h words),
                       (
@@ -528,7 +487,7 @@ module _ (h : List ℕ) (subs rows : List Row) (ls : 32 ≤ length subs) (lr : 5
                                         (
                                           optional-test clockOk (at 5 h) (at 6 h) ∙ and-right (isMark (at 5 h)) _ m2,
                                           (
-                                            le-leb (length (auditsAt (at 14 h) (drop 113 h))) 8 (omega (arith, audits-count (at 14 h) (drop 113 h), leb-true (at 14 h) 8 f3)),
+                                            le-leb (length (auditsAt (at 14 h) (drop 113 h))) 8 (omega (arith, audits-length (at 14 h) (drop 113 h), leb-true (at 14 h) 8 f3)),
                                             (audits-fit (at 14 h) (drop 113 h) (words-drop 113 h words) f5, (and-left (leb (at 8345 h) 86400000) _ l5, (sizes-same u ∙ p .1 .1 .1 .1 .1 .1 .0, (and-left (leb 1 (at 8346 h)) _ l6, (and-right (leb 1 (at 8346 h)) _ l6, (shares-same u ∙ shared, tt)))))),
                                           ),
                                         ),

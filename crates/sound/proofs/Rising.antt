@@ -13,17 +13,10 @@ use Rattle.definition.specs.Base.{member, distinct, rising, ascending}
 use Rattle.definition.specs.Words.{at}
 use Rattle.definition.specs.Layout.{Row}
 use Rattle.definition.proofs.Tests.{and-left, and-right, and-both}
+use Rattle.definition.proofs.Thin.{ascending-tail, ascending-distinct}
 use Rattle.distinct.proofs.Laws.{eqb-comm, apart, apart-swap, distinct-append, rising-new, rising-distinct}
 use Rattle.sound.specs.Sound.{seqsAt, heldRise, SameFrom}
 use Rattle.sound.proofs.Tests.{part-turn, part-end, part-of}
-
-ascending-rest : (x : ℕ) (l : List ℕ) → rising x l ≡ true → ascending l ≡ true
-ascending-rest x [] e = refl
-ascending-rest x (y ∷ l) e = and-right (ltb x y) (rising y l) e
-
-ascending-distinct : (l : List ℕ) → ascending l ≡ true → distinct l ≡ true
-ascending-distinct [] e = refl
-ascending-distinct (x ∷ l) e = rw (rising-new x x l e (omega arith)) (rising-distinct x l e)
 
 -- numbers that rise, and others: only these are compared, and looked for among those
 pub rising-apart : (l others : List ℕ) → ascending l ≡ true → distinct (l ++ others) ≡ (distinct others && apart others l)
@@ -40,7 +33,7 @@ module _ (rows : List Row) (i to : ℕ) (b : to ≤ length rows) where
 
   module _ (e : ascending (seqsAt (slice i to rows)) ≡ true) where
     pub ascends-next : i < to → ascending (seqsAt (slice (i + 1) to rows)) ≡ true
-    ascends-next h = ascending-rest (at 0 (getD rows i [])) (seqsAt (slice (i + 1) to rows)) (sym (ap ascending (seqs-turn h)) ∙ e)
+    ascends-next h = ascending-tail (at 0 (getD rows i [])) (seqsAt (slice (i + 1) to rows)) (sym (ap ascending (seqs-turn h)) ∙ e)
 
     later-new : (x : ℕ) → i < to → x ≤ at 0 (getD rows i []) → member x (seqsAt (slice (i + 1) to rows)) ≡ false
     later-new x h q = rising-new (at 0 (getD rows i [])) x (seqsAt (slice (i + 1) to rows)) (sym (ap ascending (seqs-turn h)) ∙ e) q

@@ -2,19 +2,19 @@
 use mathlib.Core.Path.{_≡_, refl, sym, ap, ap₂, _∙_}
 use mathlib.Core.Bool.{Bool, true, false, not, _&&_, _||_, true≢false}
 use mathlib.Core.List.{List, [], _∷_, _++_, map, append-assoc}
-use Prim.Native.Nat.{ℕ, _+_, _≤_}
+use Prim.Native.Nat.{ℕ, _+_}
 use native.Mathlib.Omega.{arith}
 use lib.Dec.{eqb}
-use lib.ListN.{length, take, drop}
-use lib.Seq.{drop-drop, take-add}
+use lib.ListN.{take, drop}
+use lib.Seq.{take-add}
 use borrow.Author.Tests.{not-true}
 use Rattle.words.proofs.Tests.{by-test}
 use Rattle.entry.specs.Entry.{entryOf}
 use Rattle.definition.specs.Base.{all, member, distinct}
 use Rattle.definition.specs.Types.{Kind, Entry}
-use Rattle.definition.specs.Calls.{seqs, rowsOf, consumerRows, sizesAgree}
+use Rattle.definition.specs.Calls.{seqs, consumerRows, sizesAgree}
 use Rattle.definition.specs.Words.{at}
-use Rattle.definition.specs.Layout.{Row, subAt, eachSub, subsAt, subRows}
+use Rattle.definition.specs.Layout.{Row, eachSub, subsAt, subRows}
 use Rattle.definition.proofs.Tests.{and-left, and-right, and-both}
 use Rattle.definition.proofs.Thin.{map-append}
 use Rattle.definition.proofs.Sums.{odd, sum-append, agree-sum, sum-agree}

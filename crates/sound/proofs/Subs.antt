@@ -1,21 +1,18 @@
 -- Consumers: the definitions' tests of one as tests of its words and its rows, and the turns of the loops over consumers. Assumes nothing.
 use mathlib.Core.Path.{_≡_, refl, sym, ap, ap₂, _∙_}
-use mathlib.Core.Bool.{Bool, true, false, not, _&&_, _||_}
-use mathlib.Core.List.{List, [], _∷_, _++_, map, append-nil}
+use mathlib.Core.Bool.{Bool, true, false, not, _&&_, _||_, and-assoc}
+use mathlib.Core.List.{List, [], _∷_, _++_, map}
 use mathlib.Core.Option.{none, some}
-use Prim.Native.Nat.{ℕ, suc, _+_, _≤_, _<_, _^_}
+use Prim.Native.Nat.{ℕ, suc, _+_, _≤_, _<_}
 use native.Mathlib.Nat.{zero-add}
 use native.Mathlib.Omega.{arith}
-use borrow.Author.Tests.{eqb-true, eq-eqb, le-leb, lt-leb}
+use borrow.Author.Tests.{le-leb, lt-leb}
 use lib.Dec.{leb, ltb, eqb, leb·zero}
 use lib.ListN.{length, take, drop, getD, length-drop}
 use lib.Seq.{slice, drop-drop}
 use Rattle.words.specs.Pick.{if_then_else_}
-use Rattle.words.specs.Words.{signed}
 use Rattle.words.proofs.Tests.{by-test}
-use Rattle.words.proofs.Words.{signed-eq}
-use Rattle.model.specs.Model.{idOf, sameId, sameSigned}
-use Rattle.model.proofs.Ids.{same-signed, same-signed-refl}
+use Rattle.model.specs.Model.{sameId}
 use Rattle.entry.specs.Entry.{entryOf}
 use Rattle.definition.specs.Base.{all, every, tally, empty, rising, ascending}
 use Rattle.definition.specs.Types.{Kind, queue, topic, Id, Entry}
@@ -26,6 +23,7 @@ use Rattle.definition.specs.Layout.{Row, flag, idAt, inflightAt, browserAt, tpe
 use Rattle.definition.proofs.Tests.{and-left, and-right, and-both}
 use Rattle.definition.proofs.Thin.{every-all, all-every}
 use Rattle.definition.proofs.Lists.{empty-map}
+use Rattle.definition.proofs.Stored.{flying-rows, holding}
 use Rattle.distinct.proofs.Laws.{iff}
 use Rattle.sound.specs.Sound.{upward, rowOk, flightOk, flyingOk, sortedOk, wordTests, heldOk, ownTests, ownSound, ownOk, eachOk, kindBy, idsApart, seqsAt, heldSeqs, heldRise, rowsUpTo}
 use Rattle.sound.proofs.Tests.{swap-inner, part-turn, part-end, part-of, empty-take}
@@ -40,10 +38,6 @@ upward-ascends : (l : List ℕ) → upward 0 l ≡ ascending l
 upward-ascends [] = refl
 upward-ascends (x ∷ l) = ap₂ _&&_ (leb·zero x) (upward-rises x l)
 
-pub flying-rows : (f : List Row) → map (λ i. i .entry) (map inflightAt f) ≡ map entryOf f
-flying-rows [] = refl
-flying-rows (w ∷ f) = ap (λ (l : List Entry). entryOf w ∷ l) (flying-rows f)
-
 dseqs-rows : (f : List Row) → map (at 6) f ≡ map (λ i. i .dseq) (map inflightAt f)
 dseqs-rows [] = refl
 dseqs-rows (w ∷ f) = ap (λ (l : List ℕ). at 6 w ∷ l) (dseqs-rows f)
@@ -57,10 +51,6 @@ unfolding entryOf
 seqs-rows [] = refl
 seqs-rows (w ∷ l) = ap (λ (m : List ℕ). at 0 w ∷ m) (seqs-rows l)
 
-and-assoc : (s t u : Bool) → (s && (t && u)) ≡ ((s && t) && u)
-and-assoc true t u = refl
-and-assoc false t u = refl
-
 pub rows-ok : (l : List Row) → all rowOk l ≡ (all entryOk (map entryOf l) && all entryStrict l)
 rows-ok [] = refl
 rows-ok (w ∷ l) = ap (λ (t : Bool). rowOk w && t) (rows-ok l) ∙ swap-inner (entryOk (entryOf w)) (entryStrict w) (all entryOk (map entryOf l)) (all entryStrict l)
@@ -69,7 +59,7 @@ flights-ok : (l : List Row) → all flightOk l ≡ (all entryOk (map entryOf l) 
 unfolding flyingStrict
 flights-ok [] = refl
 flights-ok (w ∷ l) =
-    ap₂ _&&_ (sym (and-assoc (entryOk (entryOf w)) (entryStrict w) (isMark (at 7 w) && isMark (at 8 w)))) (flights-ok l)
+    ap₂ _&&_ (and-assoc (entryOk (entryOf w)) (entryStrict w) (isMark (at 7 w) && isMark (at 8 w))) (flights-ok l)
     ∙ swap-inner (entryOk (entryOf w)) (flyingStrict w) (all entryOk (map entryOf l)) (all flyingStrict l)
 
 pub flying-means : (next freed : ℕ) (f : List Row)
@@ -91,20 +81,14 @@ sorted-rises l e = sym (upward-ascends (seqsAt l)) ∙ and-right (all rowOk l) (
 
 pub all-append : {A : Type 0} (p : A → Bool) (a b : List A) → all p (a ++ b) ≡ (all p a && all p b)
 all-append p [] b = refl
-all-append p (x ∷ a) b = ap (λ (t : Bool). p x && t) (all-append p a b) ∙ and-assoc (p x) (all p a) (all p b)
+all-append p (x ∷ a) b = ap (λ (t : Bool). p x && t) (all-append p a b) ∙ sym (and-assoc (p x) (all p a) (all p b))
 
 -- ---- one consumer
 
--- what it holds
-held-all : (k : Kind) (b : Bool) (l : List Entry) → tpendingAt k b l ++ shown (browserAt k b l) ≡ l
-held-all queue true l = refl
-held-all queue false l = append-nil l
-held-all topic true l = append-nil l
-held-all topic false l = append-nil l
-
+-- its rows
 pub rows-of-sub : (k : Kind) (w : Row) (f h : List Row) → rowsOf (subAt k w f h) ≡ map entryOf f ++ map entryOf h
 unfolding subAt
-rows-of-sub k w f h = ap₂ (λ (a b : List Entry). a ++ b) (flying-rows f) (held-all k (flag (at 6 w)) (map entryOf h))
+rows-of-sub k w f h = ap₂ (λ (a b : List Entry). a ++ b) (flying-rows f) (holding k (flag (at 6 w)) (map entryOf h))
 
 queue-held : (b : Bool) (l : List Entry) → empty (tpendingAt queue b l) ≡ (b || empty l)
 queue-held true l = refl
@@ -388,18 +372,6 @@ pub rows-over : (n : ℕ) → 512 < n → 513 ≡ rowsUpTo n
 rows-over n h = rw (lt-leb n 512 h)
 
 -- ---- identifiers
-
-same-words : (v w : ℕ) → v < 2 ^ 64 → w < 2 ^ 64 → eqb v w ≡ sameSigned (signed v) (signed w)
-same-words v w h k = iff (eqb v w) (sameSigned (signed v) (signed w))
-    (λ t. ap (λ (x : ℕ). sameSigned (signed v) (signed x)) (sym (eqb-true v w t)) ∙ same-signed-refl (signed v))
-    (λ t. ap (eqb v) (sym (signed-eq v w h k (same-signed (signed v) (signed w) t))) ∙ eqb-same v)
-  where
-    eqb-same : (x : ℕ) → eqb x x ≡ true
-    eqb-same x = eq-eqb x x refl
-
-pub same-id-words : (c s v c2 s2 v2 : ℕ) → s < 2 ^ 64 → v < 2 ^ 64 → s2 < 2 ^ 64 → v2 < 2 ^ 64
-    → (eqb c c2 && (eqb s s2 && eqb v v2)) ≡ sameId (idOf c s v) (idOf c2 s2 v2)
-same-id-words c s v c2 s2 v2 hs hv hs2 hv2 = ap₂ (λ (x y : Bool). eqb c c2 && (x && y)) (same-words s s2 hs hs2) (same-words v v2 hv hv2)
 
 others-ids : (k : Kind) (j : Id) (ws rows : List Row) → all (λ r. not (sameId (r .id) j)) (subsAt k ws rows) ≡ all (λ v. not (sameId (idAt v) j)) ws
 unfolding eachSub subAt

@@ -1,7 +1,7 @@
 -- The tests of a sound state one by one, on the words of lent buffers, as the code makes them. What `sound` ensures is said by the
 -- definitions alone. Assumes nothing.
 use mathlib.Core.Path.{_≡_}
-use Prim.Native.Nat.{ℕ, suc, _+_, _%_, _^_, _≤_, _<_}
+use Prim.Native.Nat.{ℕ, suc, _+_, _-_, _%_, _^_, _≤_, _<_}
 use mathlib.Core.Bool.{Bool, true, false, not, _&&_, _||_}
 use mathlib.Core.List.{List, [], _∷_, _++_, map}
 use lib.Dec.{leb, ltb, eqb}
@@ -45,6 +45,10 @@ upward k (x ∷ xs) = leb k x && upward (suc x) xs
 abbrev pub rowFits : Row → Bool
 rowFits w = isMark (at 2 w) && (isInt (at 5 w) && ltb (at 9 w) (2 ^ 32))
 
+-- and with it, of one after the last: it is above
+abbrev pub rowAfter : ℕ → Row → Bool
+rowAfter last w = ltb last (at 0 w) && rowFits w
+
 -- one that holds an entry
 abbrev pub rowOk : Row → Bool
 rowOk w = entryOk (entryOf w) && entryStrict w
@@ -56,6 +60,10 @@ flightOk w = rowOk w && (isMark (at 7 w) && isMark (at 8 w))
 -- or is reserved: the identifier
 abbrev pub holderOk : Row → Bool
 holderOk w = idOk (heldAt w .holder)
+
+-- for words, an entry's tests are these
+abbrev pub RowForm : Row → Type 0
+RowForm w = rowOk w ≡ ((leb 1 (at 0 w) && ltb (at 0 w) (2 ^ 63)) && rowFits w)
 
 -- rows in flight, with the least delivery number that the first may have and those counted as freed before it
 unfoldable pub flyingOk : ℕ → ℕ → ℕ → ℕ → List Row → Bool
@@ -185,6 +193,17 @@ SameRows a b k rows =
 -- copies among the first n rows agree on the size
 abbrev pub sizesAt : ℕ → List Row → Bool
 sizesAt n rows = sizesAgree (map entryOf (take n rows))
+
+-- one consumer's rows, many before place end: they are different where each consumer's are
+pub record HubAt (ws : List Row) (end many : ℕ) : Type 0 where
+  pub room : many ≤ end
+  pub within : end ≤ subRows ws
+  pub apart : (rows : List Row) → all (apartBy topic) (subsAt topic ws rows) ≡ true → distinct (seqsAt (take many (drop (end - many) rows))) ≡ true
+
+-- a topic's, whose consumers' rows were seen to be copies of one's: they agree on the size where each consumer's are different
+pub record AlikeBy (q : Bool) (ws rows : List Row) : Type 0 where
+  pub on-topic : q ≡ false
+  pub agree : all (apartBy topic) (subsAt topic ws rows) ≡ true → sizesAt (subRows ws) rows ≡ true
 
 abbrev pub tableTests : Kind → ℕ → ℕ → ℕ → ℕ → List Row → List Row → List Bool
 tableTests k most others reserved waiting subs rows =

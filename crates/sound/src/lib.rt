@@ -4,20 +4,20 @@ use entry::Row;
 ghost use mathlib.Core.Path.{_≡_};
 ghost use mathlib.Core.Bool.{true, false, not, _&&_, _||_};
 ghost use mathlib.Core.List.{[], _++_};
-ghost use Prim.Native.Nat.{ℕ, _+_, _*_, _-_, _≤_, _<_, _^_};
-ghost use lib.Dec.{leb, ltb, eqb};
+ghost use Prim.Native.Nat.{ℕ, _+_, _-_, _≤_, _<_, _^_};
+ghost use lib.Dec.{ltb, eqb};
 ghost use lib.ListN.{take, drop, getD};
 ghost use lib.Seq.{slice};
 ghost use Rattle.words.specs.Pick.{if_then_else_};
 ghost use Rattle.model.specs.Model.{idOf, sameId};
 ghost use Rattle.definition.specs.Base.{all, every, member, distinct, rising, ascending};
-ghost use Rattle.definition.specs.Types.{queue, topic};
+ghost use Rattle.definition.specs.Types.{queue};
 ghost use Rattle.definition.specs.Calls.{idOk, countersOk, seqs, taken, stateShort};
 ghost use Rattle.definition.specs.Words.{at};
 ghost use Rattle.definition.specs.Layout.{flag, idAt, statsAt, eachSub, subsAt, subRows, ringsFormed, wordsStrict, soundBuffers, lengthsOf};
 ghost use Rattle.copies.specs.Copies.{sharedBy};
 ghost use Rattle.shares.specs.Shares.{conns};
-ghost use Rattle.sound.specs.Sound.{limitsOk, countsOk, marksOk, headOk, rowFits, rowOk, flightOk, holderOk, flyingOk, sortedOk, wordTests, ownOk, eachOk, kindBy, idsApart, seqsAt, heldSeqs, heldRise, SameFrom, Met, apartBy, rowsUpTo, queueSeqs, queueApart, SameRows, sizesAt, tablesOk, connsAt, ownConns, sharesAt, lent, restOk};
+ghost use Rattle.sound.specs.Sound.{limitsOk, countsOk, marksOk, headOk, rowOk, rowAfter, RowForm, flightOk, holderOk, flyingOk, sortedOk, wordTests, ownOk, eachOk, kindBy, idsApart, seqsAt, heldSeqs, heldRise, SameFrom, Met, apartBy, rowsUpTo, queueSeqs, queueApart, HubAt, SameRows, sizesAt, AlikeBy, tablesOk, connsAt, ownConns, sharesAt, lent, restOk};
 
 type SubRow = [u64; 16];
 
@@ -108,20 +108,12 @@ fn rings_ok(head: &[u64], n: u64) -> bool
 
 // ---- rows
 
-// A word is one.
-fn fits(x: u64)
-    ensures { λ r. ⌜ x < 2 ^ 64 ⌝ }
-{}
-
 // The words of an entry, and of the identifier of a reserved one.
 fn entry_ok(row: Row) -> bool
     ensures { λ r. ⌜ r ≡ rowOk row ⌝ }
     ensures { λ r. ⌜ holderOk row ≡ true ⌝ }
     ensures { λ r. ⌜ (r ≡ true → at 0 row < 2 ^ 63) ⌝ }
 {
-    fits(row[3]);
-    fits(row[4]);
-    fits(row[6]);
     let seq = row[0];
     ((1 <= seq) & (seq < SEQ_END)) & ((row[2] <= 1) & (words::is_int(row[5]) & (row[9] < SIZE_END)))
 }
@@ -152,12 +144,23 @@ fn entries_ok(rows: &[Row], from: usize, to: usize) -> bool
 
 // Whether a row's number is above the last one, its marks and its redelivery are strict, and its size is in range.
 fn follows(row: Row, last: u64) -> bool
-    ensures { λ r. ⌜ r ≡ (ltb last (at 0 row) && rowFits row) ⌝ }
-    ensures { λ r. ⌜ rowOk row ≡ ((leb 1 (at 0 row) && ltb (at 0 row) (2 ^ 63)) && rowFits row) ⌝ }
+    ensures { λ r. ⌜ r ≡ rowAfter last row ⌝ }
+    ensures { λ _. ⌜ RowForm row ⌝ }
 {
-    fits(row[3]);
-    fits(row[4]);
     (last < row[0]) & ((row[2] <= 1) & (words::is_int(row[5]) & (row[9] < SIZE_END)))
+}
+
+// The same of four rows, each after the one before. Tests with one bound stand together, so that the compiler joins them.
+fn four_follow(a: Row, b: Row, c: Row, d: Row, last: u64) -> bool
+    ensures { λ r. ⌜ r ≡ (rowAfter last a && (rowAfter (at 0 a) b && (rowAfter (at 0 b) c && rowAfter (at 0 c) d))) ⌝ }
+    ensures { λ _. ⌜ RowForm a × (RowForm b × (RowForm c × RowForm d)) ⌝ }
+{
+    let rise = (last < a[0]) & ((a[0] < b[0]) & ((b[0] < c[0]) & (c[0] < d[0])));
+    let marks = (a[2] <= 1) & ((b[2] <= 1) & ((c[2] <= 1) & (d[2] <= 1)));
+    let ints = words::is_int(a[5])
+        & (words::is_int(b[5]) & (words::is_int(c[5]) & words::is_int(d[5])));
+    let sizes = (a[9] < SIZE_END) & ((b[9] < SIZE_END) & ((c[9] < SIZE_END) & (d[9] < SIZE_END)));
+    (rise & marks) & (ints & sizes)
 }
 
 // rows[from..to] by rising sequence number, four a turn: the first is above 0, each above the one before, the last in range.
@@ -173,9 +176,7 @@ fn sorted_ok(rows: &[Row], from: usize, to: usize) -> bool
         let b = rows[i + 1];
         let c = rows[i + 2];
         let d = rows[i + 3];
-        let two = follows(a, last) & follows(b, a[0]);
-        let more = follows(c, b[0]) & follows(d, c[0]);
-        if !(two & more) {
+        if !four_follow(a, b, c, d, last) {
             return false;
         }
         last = d[0];
@@ -258,7 +259,6 @@ fn words_ok(w: SubRow, most: u64, on_queue: bool) -> bool
     ensures { λ r. ⌜ r ≡ every (wordTests «on_queue» most w) ⌝ }
     ensures { λ r. ⌜ idOk (idAt w) ≡ true ⌝ }
 {
-    fits(w[0]);
     let pull = (w[10] == 0) | (w[11] <= most);
     let place = !on_queue | ((w[6] != 0) | (w[15] == 0));
     let marks = sub_marks_ok(w);
@@ -287,23 +287,109 @@ fn sub_ok(w: SubRow, rows: &[Row], base: usize, most: u64, on_queue: bool) -> bo
     sorted_ok(rows, mid, end)
 }
 
-// The first n consumers.
-fn subs_ok(subs: &[SubRow], n: usize, rows: &[Row], most: u64, on_queue: bool) -> bool
+// Where the rows of one consumer end, and how many they are.
+struct Span {
+    end: usize,
+    many: usize,
+}
+
+// On a topic the first of n consumers that has most rows. That it has most is not promised: nothing but speed depends on it.
+fn most_rows(subs: &[SubRow], n: usize, on_queue: bool) -> Span
+    requires { do ⌜ n ≤ (← ⟦subs.len()⟧) ⌝ }
+    requires { ⌜ subRows (take n (now subs)) ≤ 512 ⌝ }
+    ensures { λ r. ⌜ HubAt (take n (now (subs .entry))) (r .end) (r .many) ⌝ }
+{
+    let mut end = 0;
+    let mut many = 0;
+    if on_queue {
+        return Span { end, many };
+    }
+    let mut base = 0;
+    let mut i = 0;
+    while i < n {
+        let w = subs[i];
+        let k = w[14] as usize + w[15] as usize;
+        base += k;
+        if many < k {
+            many = k;
+            end = base;
+        }
+        i += 1;
+    }
+    Span { end, many }
+}
+
+// Whether k rows from place a have the numbers and the sizes of those from place b, one by one.
+fn same_rows(rows: &[Row], a: usize, b: usize, k: usize) -> bool
+    requires { do ⌜ a + k ≤ (← ⟦rows.len()⟧) ⌝ }
+    requires { do ⌜ b + k ≤ (← ⟦rows.len()⟧) ⌝ }
+    ensures { λ r. ⌜ (r ≡ true → SameRows a b k (now (rows .entry))) ⌝ }
+{
+    if a == b {
+        return true;
+    }
+    let mut i = 0;
+    while i < k {
+        let x = rows[a + i];
+        let y = rows[b + i];
+        if (x[0] != y[0]) | (x[9] != y[9]) {
+            return false;
+        }
+        i += 1;
+    }
+    true
+}
+
+// Whether k rows from place base are copies of the last of many rows before place end, in their order. No is no answer.
+fn alike_at(rows: &[Row], base: usize, k: usize, end: usize, many: usize) -> bool
+    requires { ⌜ many ≤ end ⌝ }
+    requires { do ⌜ end ≤ (← ⟦rows.len()⟧) ⌝ }
+    requires { do ⌜ base + k ≤ (← ⟦rows.len()⟧) ⌝ }
+    ensures { λ r. ⌜ (r ≡ true → (k ≤ many) × SameRows base (end - k) k (now (rows .entry))) ⌝ }
+{
+    if many < k {
+        return false;
+    }
+    same_rows(rows, base, end - k, k)
+}
+
+// Whether all consumers are sound; and whether it was seen that copies of an entry agree on its size.
+struct Look {
+    ok: bool,
+    alike: bool,
+}
+
+// The first n consumers. On a topic where each takes all entries, its rows are copies of the last rows of the one that has most, and they are compared as soon
+// as they were read.
+fn subs_ok(subs: &[SubRow], n: usize, rows: &[Row], most: u64, on_queue: bool) -> Look
     requires { do ⌜ n ≤ (← ⟦subs.len()⟧) ⌝ }
     requires { do ⌜ subRows (take n (now subs)) ≤ (← ⟦rows.len()⟧) ⌝ }
-    ensures { λ r. ⌜ r ≡ eachOk (kindBy «on_queue») most (take n (now (subs .entry))) (now (rows .entry)) ⌝ }
+    requires { ⌜ subRows (take n (now subs)) ≤ 512 ⌝ }
+    ensures { λ r. ⌜ r .ok ≡ eachOk (kindBy «on_queue») most (take n (now (subs .entry))) (now (rows .entry)) ⌝ }
+    ensures { λ r. ⌜ (r .alike ≡ true → AlikeBy «on_queue» (take n (now (subs .entry))) (now (rows .entry))) ⌝ }
 {
+    let hub = most_rows(subs, n, on_queue);
+    let end = hub.end;
+    let many = hub.many;
+    let mut alike = !on_queue;
     let mut base = 0;
     let mut i = 0;
     while i < n {
         let w = subs[i];
         if !sub_ok(w, rows, base, most, on_queue) {
-            return false;
+            return Look {
+                ok: false,
+                alike: false,
+            };
         }
-        base += w[14] as usize + w[15] as usize;
+        let k = w[14] as usize + w[15] as usize;
+        if alike {
+            alike = alike_at(rows, base, k, end, many);
+        }
+        base += k;
         i += 1;
     }
-    true
+    Look { ok: true, alike }
 }
 
 // ---- identifiers
@@ -704,99 +790,16 @@ fn apart(
 
 // ---- sizes
 
-// Whether k rows from place a have the numbers and the sizes of those from place b, one by one.
-fn same_rows(rows: &[Row], a: usize, b: usize, k: usize) -> bool
-    requires { do ⌜ a + k ≤ (← ⟦rows.len()⟧) ⌝ }
-    requires { do ⌜ b + k ≤ (← ⟦rows.len()⟧) ⌝ }
-    ensures { λ r. ⌜ (r ≡ true → SameRows a b k (now (rows .entry))) ⌝ }
-{
-    if a == b {
-        return true;
-    }
-    let mut i = 0;
-    while i < k {
-        let x = rows[a + i];
-        let y = rows[b + i];
-        if (x[0] != y[0]) | (x[9] != y[9]) {
-            return false;
-        }
-        i += 1;
-    }
-    true
-}
-
-// The first of n consumers that has most rows. That it has most is not promised: nothing but speed depends on it.
-fn most_rows(subs: &[SubRow], n: usize) -> usize
-    requires { do ⌜ n ≤ (← ⟦subs.len()⟧) ⌝ }
-    requires { ⌜ 0 < n ⌝ }
-    requires { ⌜ subRows (take n (now subs)) ≤ 512 ⌝ }
-    ensures { λ r. ⌜ r < n ⌝ }
-{
-    let mut hub = 0;
-    let mut most = 0;
-    let mut i = 0;
-    while i < n {
-        let w = subs[i];
-        let k = w[14] + w[15];
-        if most < k {
-            most = k;
-            hub = i;
-        }
-        i += 1;
-    }
-    hub
-}
-
-// Whether each consumer's rows are copies of the last rows of the consumer that has most, in their order: so they are on a topic where each consumer takes all
-// entries. Then copies agree on their size. No is no answer.
-fn aligned(subs: &[SubRow], n: usize, rows: &[Row]) -> bool
-    requires { do ⌜ n ≤ (← ⟦subs.len()⟧) ⌝ }
-    requires { do ⌜ subRows (take n (now subs)) ≤ (← ⟦rows.len()⟧) ⌝ }
-    requires { ⌜ subRows (take n (now subs)) ≤ 512 ⌝ }
-    requires { ⌜ all (apartBy topic) (subsAt topic (take n (now subs)) (now rows)) ≡ true ⌝ }
-    ensures { λ r. ⌜ (r ≡ true → sizesAt (subRows (take n (now (subs .entry)))) (now (rows .entry)) ≡ true) ⌝ }
-{
-    if n == 0 {
-        return false;
-    }
-    let hub = most_rows(subs, n);
-    let v = subs[hub];
-    let most = v[14] as usize + v[15] as usize;
-    let end = sub_rows(subs, hub) + most;
-    let mut base = 0;
-    let mut i = 0;
-    while i < n {
-        let w = subs[i];
-        let k = w[14] as usize + w[15] as usize;
-        if most < k {
-            return false;
-        }
-        if !same_rows(rows, base, end - k, k) {
-            return false;
-        }
-        base += k;
-        i += 1;
-    }
-    true
-}
-
-// Whether copies of an entry among the first rows agree on its size. Where no entry can have two rows, none is looked at. On a topic all rows are the consumers'.
+// Whether copies of an entry among the first rows agree on its size. Where no entry can have two rows, none is looked at.
 fn sizes_ok(subs: &[SubRow], n: usize, rows: &[Row], used: usize, on_queue: bool) -> bool
     requires { do ⌜ n ≤ (← ⟦subs.len()⟧) ⌝ }
     requires { do ⌜ used ≤ (← ⟦rows.len()⟧) ⌝ }
     requires { ⌜ used ≤ 512 ⌝ }
     requires { ⌜ (sharedBy «on_queue» (take n (now subs)) ≡ false → sizesAt used (now rows) ≡ true) ⌝ }
-    requires { ⌜ («on_queue» ≡ false → used ≡ subRows (take n (now subs))) ⌝ }
-    requires { ⌜ («on_queue» ≡ false → all (apartBy topic) (subsAt topic (take n (now subs)) (now rows)) ≡ true) ⌝ }
     ensures { λ r. ⌜ r ≡ sizesAt used (now (rows .entry)) ⌝ }
 {
     if !copies::shared(subs, n, on_queue) {
         return true;
-    }
-    if !on_queue {
-        if aligned(subs, n, rows) {
-            return true;
-        }
     }
     copies::agree(rows, used)
 }
@@ -908,7 +911,8 @@ fn tables_ok(
 {
     let first = others + reserved;
     let place = on_queue | (reserved + waiting == 0);
-    if !subs_ok(subs, n, rows, most, on_queue) {
+    let look = subs_ok(subs, n, rows, most, on_queue);
+    if !look.ok {
         return false;
     }
     let ids = ids_apart(subs, n);
@@ -919,6 +923,9 @@ fn tables_ok(
     let seqs = apart(subs, n, rows, others, reserved, waiting, on_queue);
     if !(place & (ids & (kept & seqs))) {
         return false;
+    }
+    if look.alike {
+        return true;
     }
     sizes_ok(subs, n, rows, first + waiting, on_queue)
 }

@@ -1,5 +1,5 @@
 -- `sound::entry_ok` meets its contract. Assumes nothing.
-use mathlib.Core.Path.{ap, _∙_}
+use mathlib.Core.Path.{sym, ap, _∙_}
 use mathlib.Core.Bool.{Bool, _&&_}
 use Prim.Native.Nat.{_^_}
 use borrow.Author.Tests.{ltb-true}
@@ -7,28 +7,10 @@ use lib.Dec.{leb, ltb}
 use Rattle.definition.specs.Words.{at}
 use Rattle.definition.specs.Layout.{isMark}
 use Rattle.definition.proofs.Tests.{and-left, and-right}
-use Rattle.sound.proofs.Rows.{row-tests, holder-fits}
+use Rattle.sound.proofs.Rows.{array-words, row-tests, holder-fits}
 use borrow.Author.Needs.{needs}
 use Rattle.sound.proofs.entry_ok.Statement.{statement}
 use Rattle.sound.proofs.entry_ok.Tie as tie
-
-array-read-fits : tie.Need-array-read-fits
-array-read-fits c = search needs
-
-fits-requires : tie.Need-fits-requires
-fits-requires c κs = search needs
-
-array-read-fits-2 : tie.Need-array-read-fits-2
-array-read-fits-2 c = search needs
-
-fits-requires-2 : tie.Need-fits-requires-2
-fits-requires-2 c κs = search needs
-
-array-read-fits-3 : tie.Need-array-read-fits-3
-array-read-fits-3 c = search needs
-
-fits-requires-3 : tie.Need-fits-requires-3
-fits-requires-3 c κs = search needs
 
 array-read-seq : tie.Need-array-read-seq
 array-read-seq c = search needs
@@ -47,22 +29,17 @@ array-read-result-2 c = search needs
 
 returns : tie.Need-returns
 returns c =
-    let w = c .before .before .before .before .args .t1 in
+    let w = c .before .args .t1 in
+    let words = array-words w _ (c .before .good .0 .1 .1) in
     let seq : Bool = leb 1 (at 0 w) && ltb (at 0 w) (2 ^ 63) in (
-      ap (λ (t : Bool). seq && (isMark (at 2 w) && (t && ltb (at 9 w) (2 ^ 32)))) (c .is-int .ensures) ∙ row-tests w (c .before .before .before .fits2 .ensures) (c .before .before .fits3 .ensures),
-      (holder-fits w (c .before .fits4 .ensures), λ t. ltb-true (at 0 w) (2 ^ 63) (and-right (leb 1 (at 0 w)) (ltb (at 0 w) (2 ^ 63)) (and-left seq (isMark (at 2 w) && (c .is-int .result && ltb (at 9 w) (2 ^ 32))) t))),
+      ap (λ (t : Bool). seq && (isMark (at 2 w) && (t && ltb (at 9 w) (2 ^ 32)))) (c .is-int .ensures) ∙ sym (row-tests w words),
+      (holder-fits w words, λ t. ltb-true (at 0 w) (2 ^ 63) (and-right (leb 1 (at 0 w)) (ltb (at 0 w) (2 ^ 63)) (and-left seq (isMark (at 2 w) && (c .is-int .result && ltb (at 9 w) (2 ^ 32))) t))),
     )
 
 pub entry-ok-spec : {M : Type 1} → statement M
 entry-ok-spec =
     tie.close
     (tie.spec
-    array-read-fits
-    fits-requires
-    array-read-fits-2
-    fits-requires-2
-    array-read-fits-3
-    fits-requires-3
     array-read-seq
     array-read-result
     array-read-is-int

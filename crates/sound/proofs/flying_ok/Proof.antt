@@ -6,7 +6,6 @@ use borrow.Author.Tests.{not-true, not-false}
 use lib.ListN.{getD}
 use lib.Seq.{slice}
 use Rattle.words.proofs.Words.{flag-small}
-use Rattle.definition.specs.Base.{all}
 use Rattle.definition.specs.Words.{at}
 use Rattle.definition.specs.Layout.{flag}
 use Rattle.sound.specs.Sound.{flyingOk}

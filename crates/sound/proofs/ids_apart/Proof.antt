@@ -4,7 +4,6 @@ use Prim.Native.Nat.{_-_, _≤_}
 use borrow.Author.Tests.{not-true, not-false}
 use lib.ListN.{take}
 use lib.Seq.{slice}
-use Rattle.definition.specs.Base.{all}
 use Rattle.sound.specs.Sound.{idsApart}
 use Rattle.sound.proofs.Subs.{ids-stop, ids-next, ids-end}
 use native.Mathlib.Omega.{arith}

@@ -1,22 +1,29 @@
--- `sound::most_rows` meets its contract. The loop's invariant: the consumer is one of all, and the rows of those that are left are not too many. Assumes nothing.
+-- `sound::most_rows` meets its contract. The loop's invariant: where the next consumer's rows start, and that the rows kept are one consumer's. Assumes nothing.
+use mathlib.Core.Path.{_≡_}
 use mathlib.Core.Logic.{⊎-elim}
-use Prim.Native.Nat.{_-_, _≤_, _<_}
+use Prim.Native.Nat.{_+_, _-_, _≤_}
+use lib.ListN.{take}
 use lib.Seq.{slice}
 use Rattle.definition.specs.Layout.{subRows}
+use Rattle.sound.specs.Sound.{HubAt}
 use Rattle.sound.proofs.Subs.{rows-turn}
+use Rattle.sound.proofs.Hub.{ApartFrom, no-hub, apart-next, hub-here}
 use native.Mathlib.Omega.{arith}
 use borrow.Author.Needs.{needs}
 use Rattle.sound.proofs.most_rows.Statement.{statement}
 use Rattle.sound.proofs.most_rows.Tie as tie
 
 abbrev Inv-loop : tie.InvT-loop
-Inv-loop subs n hub₀ most₀ i₀ hub most i = (i ≤ n) × (hub < n) × (subRows (slice i n subs) ≤ 512)
+Inv-loop subs n on-queue end₀ many₀ base₀ i₀ end many base i = (i ≤ n) × (base + subRows (slice i n subs) ≡ subRows (take n subs)) × HubAt (take n subs) end many × ApartFrom subs n base i
 
 abbrev μ-loop : tie.MeasureT-loop
-μ-loop subs n hub₀ most₀ i₀ hub most i = n - i
+μ-loop subs n on-queue end₀ many₀ base₀ i₀ end many base i = n - i
+
+returns : tie.Need-returns Inv-loop μ-loop
+returns c = let a = c .before .args in no-hub (take (a .n) (a .subs .now))
 
 loop-holds : tie.Need-loop-holds Inv-loop μ-loop
-loop-holds c = search needs
+loop-holds c = let a = c .before .args in (search needs, search needs, no-hub (take (a .n) (a .subs .now)), λ rows e. e)
 
 mul-w : tie.Need-mul-w Inv-loop μ-loop
 mul-w c = search needs
@@ -33,7 +40,14 @@ array-read-k-2 c = search needs
 add-k : tie.Need-add-k Inv-loop μ-loop
 add-k c =
     let p = c .before .before in
-    let s = p .before in
+    let s = p .before .before in
+    let a = s .args in
+    omega (arith, rows-turn (a .subs .now) (p .loop .i) (a .n) (s .pre .0) (c .before .loop-test .taken))
+
+add-base : tie.Need-add-base Inv-loop μ-loop
+add-base c =
+    let p = c .before .before in
+    let s = p .before .before in
     let a = s .args in
     omega (arith, rows-turn (a .subs .now) (p .loop .i) (a .n) (s .pre .0) (c .before .loop-test .taken))
 
@@ -46,12 +60,19 @@ loop-less c = search needs
 loop-again : tie.Need-loop-again Inv-loop μ-loop
 loop-again c =
     let p = c .before .before .before in
-    let s = p .before in
+    let s = p .before .before in
     let a = s .args in
-    (search needs, ⊎-elim (λ w. omega arith) (λ w. omega arith) (c .if1 .came), omega (arith, rows-turn (a .subs .now) (p .loop .i) (a .n) (s .pre .0) (c .before .before .loop-test .taken)))
+    let subs = a .subs .now in
+    let h = c .before .before .loop-test .taken in
+    let v = p .loop .inv in (
+      search needs,
+      omega (arith, rows-turn subs (p .loop .i) (a .n) (s .pre .0) h),
+      ⊎-elim (λ w. rw (w .1, w .2) (hub-here subs (p .loop .i) (a .n) (s .pre .0) (p .loop .base) h (v .3) (v .1))) (λ w. rw (w .1, w .2) (v .2)) (c .if2 .came),
+      apart-next subs (p .loop .i) (a .n) (s .pre .0) (p .loop .base) h (v .3),
+    )
 
-returns : tie.Need-returns Inv-loop μ-loop
-returns c = search needs
+returns-2 : tie.Need-returns-2 Inv-loop μ-loop
+returns-2 c = c .before .loop .inv .2
 
 pub most-rows-spec : {M : Type 1} → statement M
 most-rows-spec =
@@ -59,13 +80,15 @@ most-rows-spec =
     (tie.spec
     Inv-loop
     μ-loop
+    returns
     loop-holds
     mul-w
     shared-slice-copy-out-w
     array-read-k
     array-read-k-2
     add-k
+    add-base
     add-i
     loop-less
     loop-again
-    returns)
+    returns-2)

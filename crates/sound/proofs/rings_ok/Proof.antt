@@ -3,7 +3,6 @@ use mathlib.Core.Path.{_≡_, sym, _∙_}
 use Prim.Native.Nat.{_+_, _*_}
 use borrow.Author.Tests.{not-true, not-false}
 use lib.ListN.{drop}
-use Rattle.definition.specs.Base.{all}
 use Rattle.definition.specs.Layout.{ringsFormed}
 use Rattle.sound.proofs.Head.{rings-stop, rings-next, rings-end}
 use native.Mathlib.Omega.{arith}

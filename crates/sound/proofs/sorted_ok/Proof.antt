@@ -1,6 +1,5 @@
 -- `sound::sorted_ok` meets its contract. The loops' invariant: the tests of the rows that are left come to what those of all come to. Assumes nothing.
-use mathlib.Core.Path.{_≡_, sym, ap₂, _∙_}
-use mathlib.Core.Bool.{_&&_}
+use mathlib.Core.Path.{_≡_, sym, _∙_}
 use Prim.Native.Nat.{_+_, _-_, _≤_}
 use borrow.Author.Tests.{not-true, not-false}
 use lib.Seq.{slice}
@@ -62,39 +61,17 @@ mul-d c = search needs
 shared-slice-copy-out-d : tie.Need-shared-slice-copy-out-d Inv-loop μ-loop Inv-loop2 μ-loop2
 shared-slice-copy-out-d c = search needs
 
-follows-requires : tie.Need-follows-requires Inv-loop μ-loop Inv-loop2 μ-loop2
-follows-requires c κs = search needs
-
-array-read-follows : tie.Need-array-read-follows Inv-loop μ-loop Inv-loop2 μ-loop2
-array-read-follows c = search needs
-
-follows-requires-2 : tie.Need-follows-requires-2 Inv-loop μ-loop Inv-loop2 μ-loop2
-follows-requires-2 c κs = search needs
-
-array-read-follows-2 : tie.Need-array-read-follows-2 Inv-loop μ-loop Inv-loop2 μ-loop2
-array-read-follows-2 c = search needs
-
-follows-requires-3 : tie.Need-follows-requires-3 Inv-loop μ-loop Inv-loop2 μ-loop2
-follows-requires-3 c κs = search needs
-
-array-read-follows-3 : tie.Need-array-read-follows-3 Inv-loop μ-loop Inv-loop2 μ-loop2
-array-read-follows-3 c = search needs
-
-follows-requires-4 : tie.Need-follows-requires-4 Inv-loop μ-loop Inv-loop2 μ-loop2
-follows-requires-4 c κs = search needs
+four-follow-requires : tie.Need-four-follow-requires Inv-loop μ-loop Inv-loop2 μ-loop2
+four-follow-requires c κs = search needs
 
 returns : tie.Need-returns Inv-loop μ-loop Inv-loop2 μ-loop2
 returns c =
-    let p = c .before .before .before .before .before .before .before .before .before .before in
+    let p = c .before .before .before .before .before .before .before in
     let a = p .before .args in
     let rows = a .rows .now in
-    let e0 = c .before .before .before .before .follows in
-    let e1 = c .before .before .before .follows2 in
-    let e2 = c .before .before .follows3 in
-    let e3 = c .before .follows4 in
+    let g = c .before .four-follow in
     let h : p .loop .i + 4 ≤ a .to = omega arith in
-    four-stop rows (p .loop .i) (a .to) (p .before .pre .1) (sortedOk 0 (slice (a .from) (a .to) rows)) (p .loop .last) (p .loop .inv .1) h (e0 .ensures .1) (e1 .ensures .1) (e2 .ensures .1) (e3 .ensures .1)
-    (sym (ap₂ _&&_ (ap₂ _&&_ (e0 .ensures .0) (e1 .ensures .0)) (ap₂ _&&_ (e2 .ensures .0) (e3 .ensures .0))) ∙ not-true ((e0 .result && e1 .result) && (e2 .result && e3 .result)) (c .if1 .taken))
+    four-stop rows (p .loop .i) (a .to) (p .before .pre .1) (sortedOk 0 (slice (a .from) (a .to) rows)) (p .loop .last) (p .loop .inv .1) h (g .ensures .1) (sym (g .ensures .0) ∙ not-true (g .result) (c .if1 .taken))
 
 array-read-last : tie.Need-array-read-last Inv-loop μ-loop Inv-loop2 μ-loop2
 array-read-last c = search needs
@@ -107,18 +84,12 @@ loop-less c = search needs
 
 loop-again : tie.Need-loop-again Inv-loop μ-loop Inv-loop2 μ-loop2
 loop-again c =
-    let p = c .before .before .before .before .before .before .before .before .before .before in
+    let p = c .before .before .before .before .before .before .before in
     let a = p .before .args in
     let rows = a .rows .now in
-    let e0 = c .before .before .before .before .follows in
-    let e1 = c .before .before .before .follows2 in
-    let e2 = c .before .before .follows3 in
-    let e3 = c .before .follows4 in
-    let h : p .loop .i + 4 ≤ a .to = omega arith in (
-      search needs,
-      four-next rows (p .loop .i) (a .to) (p .before .pre .1) (sortedOk 0 (slice (a .from) (a .to) rows)) (p .loop .last) (p .loop .inv .1) h (e0 .ensures .1) (e1 .ensures .1) (e2 .ensures .1) (e3 .ensures .1)
-          (sym (ap₂ _&&_ (ap₂ _&&_ (e0 .ensures .0) (e1 .ensures .0)) (ap₂ _&&_ (e2 .ensures .0) (e3 .ensures .0))) ∙ not-false ((e0 .result && e1 .result) && (e2 .result && e3 .result)) (c .if1 .left)),
-    )
+    let g = c .before .four-follow in
+    let h : p .loop .i + 4 ≤ a .to = omega arith in
+    (search needs, four-next rows (p .loop .i) (a .to) (p .before .pre .1) (sortedOk 0 (slice (a .from) (a .to) rows)) (p .loop .last) (p .loop .inv .1) h (g .ensures .1) (sym (g .ensures .0) ∙ not-false (g .result) (c .if1 .left)))
 
 loop2-holds : tie.Need-loop2-holds Inv-loop μ-loop Inv-loop2 μ-loop2
 loop2-holds c = search needs
@@ -129,8 +100,8 @@ mul-row c = search needs
 shared-slice-copy-out-row : tie.Need-shared-slice-copy-out-row Inv-loop μ-loop Inv-loop2 μ-loop2
 shared-slice-copy-out-row c = search needs
 
-follows-requires-5 : tie.Need-follows-requires-5 Inv-loop μ-loop Inv-loop2 μ-loop2
-follows-requires-5 c κs = search needs
+follows-requires : tie.Need-follows-requires Inv-loop μ-loop Inv-loop2 μ-loop2
+follows-requires c κs = search needs
 
 returns-2 : tie.Need-returns-2 Inv-loop μ-loop Inv-loop2 μ-loop2
 returns-2 c =
@@ -138,7 +109,7 @@ returns-2 c =
     let s = c .before .before .before .before .before .before .before in
     let a = s .args in
     let rows = a .rows .now in
-    let g = c .before .follows5 in
+    let g = c .before .follows in
     climb-stop rows (p .loop2 .i) (a .to) (s .pre .1) (sortedOk 0 (slice (a .from) (a .to) rows)) (p .loop2 .last) (p .loop2 .inv .1) (c .before .before .before .loop2-test .taken) (g .ensures .1) (sym (g .ensures .0) ∙ not-true (g .result) (c .if2 .taken))
 
 array-read-last-2 : tie.Need-array-read-last-2 Inv-loop μ-loop Inv-loop2 μ-loop2
@@ -156,7 +127,7 @@ loop2-again c =
     let s = c .before .before .before .before .before .before .before in
     let a = s .args in
     let rows = a .rows .now in
-    let g = c .before .follows5 in
+    let g = c .before .follows in
     (search needs, climb-next rows (p .loop2 .i) (a .to) (s .pre .1) (sortedOk 0 (slice (a .from) (a .to) rows)) (p .loop2 .last) (p .loop2 .inv .1) (c .before .before .before .loop2-test .taken) (g .ensures .1) (sym (g .ensures .0) ∙ not-false (g .result) (c .if2 .left)))
 
 returns-3 : tie.Need-returns-3 Inv-loop μ-loop Inv-loop2 μ-loop2
@@ -188,13 +159,7 @@ sorted-ok-spec =
     add-d
     mul-d
     shared-slice-copy-out-d
-    follows-requires
-    array-read-follows
-    follows-requires-2
-    array-read-follows-2
-    follows-requires-3
-    array-read-follows-3
-    follows-requires-4
+    four-follow-requires
     returns
     array-read-last
     add-i
@@ -203,7 +168,7 @@ sorted-ok-spec =
     loop2-holds
     mul-row
     shared-slice-copy-out-row
-    follows-requires-5
+    follows-requires
     returns-2
     array-read-last-2
     add-i-2

@@ -1,14 +1,8 @@
 -- `sound::words_ok` meets its contract. Assumes nothing.
-use Rattle.sound.proofs.Rows.{id-fits}
+use Rattle.sound.proofs.Rows.{array-words, id-fits}
 use borrow.Author.Needs.{needs}
 use Rattle.sound.proofs.words_ok.Statement.{statement}
 use Rattle.sound.proofs.words_ok.Tie as tie
-
-array-read-fits : tie.Need-array-read-fits
-array-read-fits c = search needs
-
-fits-requires : tie.Need-fits-requires
-fits-requires c κs = search needs
 
 array-read-pull : tie.Need-array-read-pull
 array-read-pull c = search needs
@@ -41,14 +35,12 @@ array-read-result-5 : tie.Need-array-read-result-5
 array-read-result-5 c = search needs
 
 returns : tie.Need-returns
-returns c = (rw (c .sub-marks-ok .ensures), id-fits (c .before .before .args .t1) (c .before .fits2 .ensures))
+returns c = (rw (c .sub-marks-ok .ensures), id-fits (c .before .args .t1) (array-words (c .before .args .t1) _ (c .before .good .0 .1 .1) 0))
 
 pub words-ok-spec : {M : Type 1} → statement M
 words-ok-spec =
     tie.close
     (tie.spec
-    array-read-fits
-    fits-requires
     array-read-pull
     array-read-pull-2
     array-read-place
