@@ -4,8 +4,6 @@ ghost use lib.ListN.{length};
 ghost use Rattle.definition.specs.Types.{letter};
 ghost use Rattle.acks.specs.Rules.{noSpan, inNumbers};
 ghost use Rattle.acks.specs.Parts.{deadHead, deadEvents};
-ghost use Rattle.entry.specs.declared.Found.the-variants.{At};
-ghost use Rattle.state.specs.Leaves.{Room};
 use entry::Entry;
 use entry::Found;
 use state::Event;

@@ -11,68 +11,11 @@ use report::Noted;
 use state::Event;
 use stats::Stats;
 
-// How a read ended: the buffer is full, the input has ended, or the read failed. AGAIN: it goes on.
-const FULL: u64 = 0;
-
-const END: u64 = 1;
-
-const FAILED: u64 = 2;
-
-const AGAIN: u64 = 3;
-
-// How many bytes stand in the buffer, and how the read ended.
-struct Got {
-    n: usize,
-    how: u64,
-}
-
 // The next call's index, how many blocks are kept, and whether the run goes on.
 struct Next {
     index: u64,
     count: usize,
     goes_on: bool,
-}
-
-// ---- reading
-
-// One read, behind the bytes that stand in the buffer.
-fn read_once(fd: i32, buf: &mut [u8], at: usize) -> Got {
-    if buf.len() <= at {
-        return Got { n: at, how: FULL };
-    }
-    let got = libc::read(fd, &mut buf[at..]);
-    if got == 0 {
-        return Got { n: at, how: END };
-    }
-    if got < 0 {
-        if os::errno() == libc::EINTR {
-            return Got { n: at, how: AGAIN };
-        }
-        return Got { n: at, how: FAILED };
-    }
-    let n = io::count(got, buf);
-    if buf.len() - at < n {
-        return Got { n: at, how: FAILED };
-    }
-    Got {
-        n: at + n,
-        how: AGAIN,
-    }
-}
-
-// Reads until the buffer is full or the input ends.
-fn read_on(fd: i32, buf: &mut [u8]) -> Got {
-    let mut n = 0;
-    let mut turns = 18446744073709551615u64;
-    while 0 < turns {
-        let g = read_once(fd, buf, n);
-        if g.how != AGAIN {
-            return g;
-        }
-        n = g.n;
-        turns -= 1;
-    }
-    Got { n, how: FAILED }
 }
 
 // ---- lines
@@ -90,18 +33,9 @@ fn write_out(text: &[u8], n: usize) -> bool {
     false
 }
 
-// A byte, where there is room.
-fn put_byte(out: &mut [u8], at: usize, byte: u8) -> usize {
-    if at < out.len() {
-        out[at] = byte;
-        return at + 1;
-    }
-    at
-}
-
 // A letter and two numbers.
 fn put_pair(out: &mut [u8], at: usize, letter: u8, a: u64, b: u64) -> usize {
-    let first = put_byte(out, at, letter);
+    let first = callfile::put_byte(out, at, letter);
     let second = callfile::put_word(out, first, a, false);
     callfile::put_word(out, second, b, false)
 }
@@ -123,7 +57,7 @@ fn put_turn(
     let c = callfile::put_word(out, b, waiting, false);
     let d = callfile::put_word(out, c, flying, false);
     let e = callfile::put_word(out, d, reserved, false);
-    put_byte(out, e, b'\n')
+    callfile::put_byte(out, e, b'\n')
 }
 
 // The lines of the first n events, from `at` on.
@@ -140,28 +74,17 @@ fn put_events(out: &mut [u8], from: usize, events: &[Event], n: usize) -> usize 
     at
 }
 
-// A text, as far as there is room.
-fn put_text(out: &mut [u8], from: usize, text: &[u8]) -> usize {
-    let mut at = from;
-    let mut i = 0;
-    while i < text.len() {
-        at = put_byte(out, at, text[i]);
-        i += 1;
-    }
-    at
-}
-
 // A place by its name.
 fn put_place(out: &mut [u8], at: usize, place: u64) -> usize {
     match place {
-        report::WAITING => put_text(out, at, b" waiting"),
-        report::IN_FLIGHT => put_text(out, at, b" in-flight"),
-        report::RESERVED => put_text(out, at, b" reserved"),
-        report::DEQUEUED => put_text(out, at, b" dequeued"),
-        report::EXPIRED => put_text(out, at, b" expired"),
-        report::DISCARDED => put_text(out, at, b" discarded"),
-        report::DEAD_LETTERED => put_text(out, at, b" dead-lettered"),
-        _ => put_text(out, at, b" cleared"),
+        report::WAITING => callfile::put_all(out, at, b" waiting"),
+        report::IN_FLIGHT => callfile::put_all(out, at, b" in-flight"),
+        report::RESERVED => callfile::put_all(out, at, b" reserved"),
+        report::DEQUEUED => callfile::put_all(out, at, b" dequeued"),
+        report::EXPIRED => callfile::put_all(out, at, b" expired"),
+        report::DISCARDED => callfile::put_all(out, at, b" discarded"),
+        report::DEAD_LETTERED => callfile::put_all(out, at, b" dead-lettered"),
+        _ => callfile::put_all(out, at, b" cleared"),
     }
 }
 
@@ -170,10 +93,10 @@ fn write_block(b: Block) -> bool {
     let mut out = [0u8; 256];
     let seq = b[0];
     let place = b[1];
-    let first = put_byte(&mut out, 0, b'f');
+    let first = callfile::put_byte(&mut out, 0, b'f');
     let second = callfile::put_word(&mut out, first, seq, false);
     let third = put_place(&mut out, second, place);
-    let end = put_byte(&mut out, third, b'\n');
+    let end = callfile::put_byte(&mut out, third, b'\n');
     write_out(&out, end)
 }
 
@@ -194,14 +117,14 @@ fn write_blocks(blocks: &[Block], n: usize) -> bool {
 // The totals of the eight places.
 fn write_totals(blocks: &[Block], n: usize) -> bool {
     let mut out = [0u8; 2048];
-    let mut at = put_byte(&mut out, 0, b't');
+    let mut at = callfile::put_byte(&mut out, 0, b't');
     let mut place = 0;
     while place < 8 {
         let many = report::total(blocks, n, place) as u64;
         at = callfile::put_word(&mut out, at, many, false);
         place += 1;
     }
-    let end = put_byte(&mut out, at, b'\n');
+    let end = callfile::put_byte(&mut out, at, b'\n');
     write_out(&out, end)
 }
 
@@ -315,10 +238,10 @@ fn next_part(
     number: u64,
 ) -> Next {
     let mut part = [0u8; 512];
-    let g = read_on(fd, &mut part);
+    let g = reading::read_on(fd, &mut part, 0);
     let index = from.index;
     let count = from.count;
-    if g.how == FAILED {
+    if g.how == reading::FAILED {
         os::fail(b"blockfates: input");
     } else if g.n == 0 {
         return Next {
@@ -415,13 +338,6 @@ fn usage(fd: i32) {
     );
 }
 
-fn is_help(name: &[u8]) -> bool {
-    if name.len() != 6 {
-        return false;
-    }
-    name[1] == b'-' && name[2] == b'h' && name[3] == b'e' && name[4] == b'l' && name[5] == b'p'
-}
-
 fn run_file(name: &[u8]) {
     let fd = os::open_read(name);
     if fd < 0 {
@@ -438,7 +354,7 @@ fn run_named(name: &[u8]) {
         usage(STDERR_FILENO);
     } else if name[0] != b'-' {
         run_file(name);
-    } else if is_help(name) {
+    } else if textwords::same(name, b"--help") {
         usage(STDOUT_FILENO);
     } else {
         usage(STDERR_FILENO);

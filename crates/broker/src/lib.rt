@@ -1,6 +1,6 @@
 // Two functions of mod.rs: the memory limit, and what becomes of an expiration on arrival.
 ghost use mathlib.Core.Path.{_≡_};
-ghost use mathlib.Core.Bool.{true, false};
+ghost use mathlib.Core.Bool.{true};
 ghost use Prim.Native.Nat.{_≤_};
 ghost use Rattle.broker.specs.Broker.{memoryMost, timeMost, settingMost, belowNineTenths, roomFor, admitMemory, fromZeroTo, Positive, timesInRange, settingsInRange, timesAndSettingsOk, ttl, rebased, baseOf, stamp, defaulted, capped, timesExpired, applyExpiryOptions};
 

@@ -20,8 +20,8 @@ use Rattle.table.proofs.Segments.{tally-most}
 use Rattle.table.proofs.Laws.{remove-length, remove-before, remove-used, gone-most}
 use Rattle.state.specs.declared.Head.{Head}
 use Rattle.state.specs.State.{firstWaiting}
-use Rattle.topics.specs.Topics.{Parts, partsOf}
-use Rattle.topics.proofs.Parts.{held-first, parts-lost}
+use Rattle.state.specs.Parts.{Parts, partsOf}
+use Rattle.state.proofs.Parts.{held-first, parts-lost}
 
 -- ---- rows that go are entries that go
 

@@ -8,6 +8,7 @@ use native.Mathlib.Omega.{arith}
 use borrow.Author.Tests.{le-leb}
 use lib.ListN.{length, take, drop, getD, set, length-set}
 use lib.Seq.{length-take-le, getD-take, drop-drop, drop-length, drop-set-lt, take-add, take-take}
+use Rattle.words.proofs.Lists.{set-next, take-next}
 use Rattle.entry.specs.Entry.{entryOf}
 use Rattle.definition.specs.Base.{all, is-some}
 use Rattle.definition.specs.Types.{Entry, Kind, queue, Id, Audit}
@@ -29,9 +30,9 @@ use Rattle.state.specs.declared.Head.{Head}
 use Rattle.state.specs.State.{headView, strictTables, kindBy, withWaiting}
 use Rattle.state.specs.Fits.{Fits}
 use Rattle.state.specs.Leaves.{Leaves}
-use Rattle.topics.specs.Topics.{topicMoved}
+use Rattle.state.specs.Parts.{headMoved}
 use Rattle.consumers.proofs.Strict.{stored-strict, all-left, all-right}
-use Rattle.consumers.proofs.Line.{stored-next, same-next, rows-one, left-size, LineStrict, line-start, line-end, line-own, line-words, line-others, line-step}
+use Rattle.consumers.proofs.Line.{rows-one, left-size, LineStrict, line-start, line-end, line-own, line-words, line-others, line-step}
 use Rattle.browsers.specs.Browsers.{browsed, BrowsersServed}
 use Rattle.browsers.specs.Serving.{Shown, shownAt, rowsBetween, BrowserFine, BrowserKept, BrowserStrict, Done}
 use Rattle.browsers.proofs.All.{Whole, whole, whole-start, whole-end, reservedRows, waitingRows, met, waits-after, whole-turn}
@@ -45,7 +46,7 @@ pub record Ready (ws : List Row) (i base : ℕ) (d₀ d : Head) : Type 0 where
   pub waiting : d .waiting ≤ d₀ .waiting
   pub expired : d .stats .expired + d .waiting ≡ d₀ .stats .expired + d₀ .waiting
   pub dispatched : d .stats .dispatched ≡ d₀ .stats .dispatched
-  pub head : d ≡ withWaiting (d .waiting) (topicMoved d₀ d)
+  pub head : d ≡ withWaiting (d .waiting) (headMoved d₀ d)
 
 pub record Round (now : ℕ) (subs₀ rows₀ events₀ : List Row) (d₀ : Head) (subs rows events : List Row) (d : Head) (base i : ℕ) : Type 0 where
   pub within : i ≤ d₀ .consumers
@@ -172,7 +173,7 @@ module _ (now : ℕ) (subs₀ rows₀ events₀ : List Row) (d₀ : Head) (fits 
         pending = map entryOf (take (d .waiting) (drop (end + m) rows))
 
         whole-pass : whole now ws (i + 1) end d subs rows events ≡ whole now ws i base d subs rows events
-        whole-pass = whole-turn now ws i base m d d subs subs rows rows events events w (alone pending mine) here (g .ends) (same-next subs i within-subs ∙ ap (λ (x : Row). take i subs ++ (x ∷ [])) row-is) refl refl
+        whole-pass = whole-turn now ws i base m d d subs subs rows rows events events w (alone pending mine) here (g .ends) (take-next subs i [] within-subs ∙ ap (λ (x : Row). take i subs ++ (x ∷ [])) row-is) refl refl
             refl refl refl refl (sym (⊕-zero (d .stats))) (sym (append-nil (take (d .events) events)))
             (if-false (dispatchBrowser now pending mine) (alone pending mine) (browses ∙ other))
 
@@ -182,7 +183,7 @@ module _ (now : ℕ) (subs₀ rows₀ events₀ : List Row) (d₀ : Head) (fits 
             let r = g .ready in
             let h = left in
             let n = left-next in
-            let front : take (i + 1) subs ≡ take i subs ++ (w ∷ []) = same-next subs i within-subs ∙ ap (λ (x : Row). take i subs ++ (x ∷ [])) row-is in
+            let front : take (i + 1) subs ≡ take i subs ++ (w ∷ []) = take-next subs i [] within-subs ∙ ap (λ (x : Row). take i subs ++ (x ∷ [])) row-is in
             record {
               within = omega arith;
               same-subs = g .same-subs;
@@ -236,7 +237,7 @@ module _ (now : ℕ) (subs₀ rows₀ events₀ : List Row) (d₀ : Head) (fits 
             let waits : map entryOf (take (r .waiting) (drop (end′ + n) rows′)) ≡ b .pending =
             sym (ap (map entryOf) (waits-after end′ n (r .waiting) (r .used) rows′ (k .rows))) ∙ ap (λ (x : Shown). x .pending) (done .said) in
             let waited : map entryOf (take (d .waiting) (drop (end + n) rows)) ≡ v .pending = sym (ap (map entryOf) (waits-after end n (d .waiting) (d .used) rows spans)) in
-            whole-turn now ws i base n d r subs (set subs i (subWords t)) rows rows′ events events′ (subWords t) b here (g .ends) (stored-next subs i (subWords t) within-subs) m-is res
+            whole-turn now ws i base n d r subs (set subs i (subWords t)) rows rows′ events events′ (subWords t) b here (g .ends) (set-next subs i (subWords t) within-subs) m-is res
             (ap (λ (x : Shown). x .before) (done .said)) stored agrees waits (ap (λ (x : Shown). x .stats) (done .said)) (ap (λ (x : Shown). x .events) (done .said))
             (ap (λ (p : List Entry). met now p mine) waited ∙ if-true (dispatchBrowser now (v .pending) mine) (alone (v .pending) mine) (browses ∙ shows))
 
@@ -289,7 +290,7 @@ module _ (now : ℕ) (subs₀ rows₀ events₀ : List Row) (d₀ : Head) (fits 
             let agrees : take n (drop end′ rows′) ≡ take n (drop end rows) =
             sym (take-take n (r .used - end′) (drop end′ rows′) (omega (arith, k .rows))) ∙ ap (λ (x : Shown). x .after) (done .said) ∙ take-take n (d .used - end) (drop end rows) (omega (arith, m-is, left, g .ready .rows)) in
             let z = done .strict (before-strict l) in
-            line-step (d .reserved + d .waiting) ws subs i base rows here l (set subs i (subWords t)) (subWords t) rows′ n end end′ (r .reserved + r .waiting) (stored-next subs i (subWords t) within-subs) (g .ends) refl
+            line-step (d .reserved + d .waiting) ws subs i base rows here l (set subs i (subWords t)) (subWords t) rows′ n end end′ (r .reserved + r .waiting) (set-next subs i (subWords t) within-subs) (g .ends) refl
             (stored-strict t) (record { flying = z .own .flying; held = z .own .held }) (ap (λ (x : Shown). x .before) (done .said)) (omega (arith, m-is)) agrees (others-strict l z)
 
         served : Round now subs₀ rows₀ events₀ d₀ (set subs i (subWords t)) rows′ events′ r (base + t .inflight + t .held) (i + 1)
@@ -300,7 +301,7 @@ module _ (now : ℕ) (subs₀ rows₀ events₀ : List Row) (d₀ : Head) (fits 
             let n = left-next in
             let z = m-is in
             let res : r .reserved ≡ d .reserved = ap (λ (x : Head). x .reserved) (k .head) in
-            let front : take (i + 1) (set subs i (subWords t)) ≡ take i subs ++ (subWords t ∷ []) = stored-next subs i (subWords t) within-subs in
+            let front : take (i + 1) (set subs i (subWords t)) ≡ take i subs ++ (subWords t ∷ []) = set-next subs i (subWords t) within-subs in
             record {
               within = omega arith;
               same-subs = simp length-set (g .same-subs);
@@ -315,7 +316,7 @@ module _ (now : ℕ) (subs₀ rows₀ events₀ : List Row) (d₀ : Head) (fits 
                 waiting = omega (arith, k .waiting, o .waiting);
                 expired = k .expired ∙ o .expired;
                 dispatched = k .dispatched ∙ o .dispatched;
-                head = k .head ∙ ap (λ (x : Head). withWaiting (r .waiting) (topicMoved x r)) (o .head);
+                head = k .head ∙ ap (λ (x : Head). withWaiting (r .waiting) (headMoved x r)) (o .head);
               };
               ends = omega (arith, g .ends, ap subRows front ∙ rows-one (take i subs) (subWords t));
               nexts = ap (all nextFits) front ∙ all-end nextFits (take i subs) (subWords t) (g .nexts) (le-leb (t .«next_dseq») (2 ^ 62) (omega (arith, k .next, next-row, own-few)));
@@ -351,7 +352,7 @@ module _ (now : ℕ) (subs₀ rows₀ events₀ : List Row) (d₀ : Head) (fits 
       kind-is : kindBy (d₀ .queue) ≡ queue
       kind-is = ap kindBy is-queue
 
-      abbrev same : {A : Type 0} (f : Head → A) → f d ≡ f (withWaiting (d .waiting) (topicMoved d₀ d))
+      abbrev same : {A : Type 0} (f : Head → A) → f d ≡ f (withWaiting (d .waiting) (headMoved d₀ d))
       same f = ap f (g .ready .head)
 
       base-is : base ≡ subRows (take (d₀ .consumers) subs)

@@ -21,8 +21,7 @@ use Rattle.consumers.specs.Consumers.{creditOf, subView}
 use Rattle.state.specs.declared.Head.{Head}
 use Rattle.state.specs.State.{firstWaiting, withUsed, withEvents}
 use Rattle.state.proofs.Events.{events-after}
-use Rattle.topics.specs.Topics.{heldSent}
-use Rattle.topics.proofs.Turn.{lostSub}
+use Rattle.state.specs.Parts.{heldSent, lostSub}
 use Rattle.browsers.specs.Serving.{goneRows, leftRows, dropped, shownAt, browserRan, closedSub, rowsBetween, BrowserFine, BrowserKept, Sending, Done}
 use Rattle.browsers.proofs.Dropped.{gone-few}
 use Rattle.browsers.proofs.Turn.{lostHead, ran-stop, ran-finished, ran-closed, k-few, ran-lost, ran-sent, strict-lost, strict-sent}

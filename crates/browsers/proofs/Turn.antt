@@ -29,10 +29,9 @@ use Rattle.state.specs.declared.Head.{Head}
 use Rattle.state.specs.State.{firstWaiting, withUsed, withEvents}
 use Rattle.state.proofs.Counts.{expired-plain}
 use Rattle.state.proofs.Events.{events-up-to}
-use Rattle.topics.specs.Topics.{Parts, heldSent}
-use Rattle.topics.proofs.Parts.{held-first, parts-sent, first-strict}
-use Rattle.topics.proofs.Parts as Topics
-use Rattle.topics.proofs.Turn.{lostSub}
+use Rattle.state.specs.Parts.{Parts, heldSent, lostSub}
+use Rattle.state.proofs.Parts.{held-first, parts-sent, first-strict}
+use Rattle.state.proofs.Parts as Topics
 use Rattle.browsers.specs.Serving.{goneRows, leftRows, dropped, Shown, showing, shownAt, browserStepped, browserRan, closedSub, BrowserFine, BrowserStrict}
 use Rattle.browsers.proofs.Show.{serve-stop, serve-finished, serve-closed, serve-lost, serve-sent, ran-rest, ran-turn}
 use Rattle.browsers.proofs.Dropped.{entries-left, entries-gone, waiting-rows, parts-gone, gone-few}

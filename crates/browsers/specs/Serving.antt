@@ -19,7 +19,7 @@ use Rattle.consumers.specs.Consumers.{subView}
 use Rattle.consumers.specs.Seats.{OwnStrict}
 use Rattle.state.specs.declared.Head.{Head}
 use Rattle.state.specs.State.{firstWaiting, withCounters, withWaiting, withUsed}
-use Rattle.topics.specs.Topics.{Parts, partsOf, topicMoved}
+use Rattle.state.specs.Parts.{Parts, partsOf, headMoved}
 
 -- ---- an expired entry that still waits
 
@@ -122,7 +122,7 @@ pub record BrowserKept (base m : ℕ) (s : Sub) (d : Head) (t : Sub) (r : Head) 
   pub waiting : r .waiting ≤ d .waiting
   pub expired : r .stats .expired + r .waiting ≡ d .stats .expired + d .waiting
   pub dispatched : r .stats .dispatched ≡ d .stats .dispatched
-  pub head : r ≡ withWaiting (r .waiting) (topicMoved d r)
+  pub head : r ≡ withWaiting (r .waiting) (headMoved d r)
 
 -- the words in use of its rows and of those that wait are strict, with m rows between them
 pub record BrowserStrict (base m : ℕ) (s : Sub) (d : Head) (rows : List Row) : Type 0 where

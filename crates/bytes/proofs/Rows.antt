@@ -11,15 +11,12 @@ use lib.Signed.{ltZ}
 use Rattle.audit.specs.Audit.{seen}
 use Rattle.definition.specs.Base.{if_then_else_, keep, nth, empty}
 use Rattle.definition.specs.Types.{Kind, queue, topic, Id, Entry, Inflight, Sub, Stats, Held, Audit, Dest, withPrefetch, withCursor, withPull, withGeneration, withTpending, withPending, withSubs, withIdle, withReserved}
-use Rattle.definition.specs.Consumer.{shown, addExpired, zeroStats, expired, selects, isBrowser, snapshot, withSnapshot, hasCredit, accepts, send, sendNull, redelivered, freedAs, free, removeInflight, bumped, redeliver, Ack, AckType, Delivered, Poison, Standard, Redelivered, Individual, Unmatched, Expired, Other, ackType, ackRange, ackLast, ackTransacted, ackPlain, ackSub, took, Step, meetTopic, drainTopic, atRest, Browse, sameSeq, meetBrowser, closeBrowser, drainBrowser, dispatchBrowser}
+use Rattle.definition.specs.Consumer.{shown, addExpired, zeroStats, expired, selects, isBrowser, snapshot, withSnapshot, hasCredit, accepts, send, sendNull, redelivered, freedAs, free, removeInflight, bumped, redeliver, Ack, AckType, Delivered, Poison, Standard, Redelivered, Individual, Unmatched, Expired, Other, ackType, ackRange, ackLast, ackTransacted, ackPlain, ackSub, Step, meetTopic, drainTopic, atRest, Browse, sameSeq, meetBrowser, closeBrowser, drainBrowser, dispatchBrowser}
 use Rattle.definition.specs.Destination.{Out, Answer, Look, look, Turn, given, visitAt, visit, scan, turns, rounds, Browsed, browsers, dispatchQueue, serveAll, dispatchTopic, dispatchBy, dispatch, count, isId, subOf, putSub, insert, touchIdle, holdBack, due, Trimmed, trim, fanOut, fanOutAll, stored, fannedOut, enqueueBy, Spec, room, joined, addSub, prefetchAt, setPrefetch, insertAll, holdBackAll, reinsert, heldBy, reservedOf, ackReserved, ackAt, ack, pulled, resumed, pullAt, pull, fired, timeoutAt, pullTimeout, wasDelivered, returnedFrom, reservedFrom, without, returning, dropSub, removeAt, removeSub, noTx, unmarked, returnReserved, Swept, sweepAt, sweepList, sweepSubs, sweepExpired, emptied, cleared, clear, testAt, isDuplicate, soonest}
 use Rattle.definition.specs.Calls.{acknowledge, pulling, timedOut, prefetching, ask, Call, enqueuing, joining, leaving, asking, unmarking, releasing, sweeping, clearing, adding, removing, testing, forgetting, discarding, missing, perform}
 use Rattle.definition.proofs.Tests.{by-if}
 use Rattle.definition.proofs.Lists.{All, all-put, all-find, all-part, all-join, all-nth, all-set}
-
--- a queue's browser served, anyone else as it is
-abbrev browsed : ℕ → List Entry → Sub → Browse
-browsed now p s = if isBrowser s then dispatchBrowser now p s else record { sub = s; pending = p; counts = zeroStats; events = [] }
+use Rattle.definition.proofs.Local.{browsed}
 
 -- ---- lists
 

@@ -1,14 +1,11 @@
 // Writing blocks of the call file.
 ghost use mathlib.Core.Path.{_≡_};
 ghost use Prim.Native.Nat.{_+_, _%_, _≤_};
-ghost use lib.ListN.{length};
 ghost use Rattle.callfile.specs.Placed.{Puts};
-ghost use Rattle.callblocks.specs.Packed.{lowBytes, wordBytes, callBytes, withCall, sealed};
+ghost use Rattle.callblocks.specs.Packed.{lowBytes, wordBytes, withCall, sealed};
 use calls::Call;
 
-// The bytes of a call, the place of the count, and that of the check.
-const CALL_BYTES: usize = 72;
-
+// The place of the count, and that of the check.
 const COUNT: usize = 504;
 
 const CHECK: usize = 508;
@@ -62,7 +59,7 @@ pub fn put_call(block: &mut [u8], k: usize, c: Call)
     }
     let code = c.code;
     let words = c.words;
-    let next = put_bytes(block, k * CALL_BYTES, 8, code);
+    let next = put_bytes(block, k * callfile::CALL_BYTES, 8, code);
     put_words(block, next, words);
 }
 

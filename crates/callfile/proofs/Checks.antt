@@ -1,4 +1,4 @@
--- The check of a block, byte by byte. Assumes nothing.
+-- The check of a block, byte by byte, and how many calls it has. Assumes nothing.
 use Prim.Native.Nat.{ℕ, _+_, _*_, _≤_, _<_}
 use native.Mathlib.Nat.{mul-le-mul}
 use native.Mathlib.Numerals.{add-one}
@@ -7,7 +7,11 @@ use mathlib.Core.Path.{_≡_, ap}
 use mathlib.Core.List.{List}
 use lib.ListN.{length}
 use lib.Seq.{slice, slice-cons, slice-empty}
-use Rattle.callfile.specs.Blocks.{byteAt, checkFrom, check}
+use mathlib.Core.Bool.{Bool, _&&_}
+use borrow.Author.Tests.{leb-true}
+use lib.Dec.{leb, eqb}
+use Rattle.definition.proofs.Tests.{by-if, and-left, and-right}
+use Rattle.callfile.specs.Blocks.{byteAt, checkFrom, check, numberAt, good, callsIn}
 
 -- what is left of it from byte i on
 abbrev pub left : ℕ → List ℕ → ℕ
@@ -36,3 +40,18 @@ one-more {block} {i} {sum} b h k e l s =
     let p : (i + 1) * b ≤ 129540 = part-small i b h l in
     let q : (i + 1) * b ≡ (i + 1) * byteAt i block = ap (λ (x : ℕ). (i + 1) * x) e in
     record { within = omega arith; small = omega (arith, s .small); whole = omega (arith, q, left-one i block h k, s .whole) }
+
+-- ---- how many calls a block has
+
+abbrev wholeBlock : List ℕ → ℕ → Bool
+wholeBlock block got = leb 512 (length block) && eqb got 512
+
+abbrev checked : List ℕ → Bool
+checked block = eqb (numberAt 508 block) (check block)
+
+pub calls-few : (block : List ℕ) (got : ℕ) → callsIn block got ≤ 7
+unfolding callsIn good
+calls-few block got = by-if (λ (n : ℕ). n ≤ 7) (good block got) (numberAt 504 block) 0
+    (λ h. let few = leb (numberAt 504 block) 7 in
+    leb-true (numberAt 504 block) 7 (and-right (wholeBlock block got) few (and-left (wholeBlock block got && few) (checked block) (and-left (wholeBlock block got && few && checked block) (leb 1 (numberAt 504 block)) h))))
+    (λ _. omega arith)

@@ -10,7 +10,7 @@ use lib.ListN.{length, length-append}
 use lib.IntN.{ℤ, pos, negsuc}
 use Rattle.words.specs.Words.{signed}
 use Rattle.words.proofs.Tests.{by-test}
-use Rattle.callfile.specs.Lines.{digits, decimal, signedDecimal, signedField}
+use Rattle.callfile.specs.Lines.{digits, decimal, signedDecimal, signedField, newline, badLine}
 
 -- one tenth of it has one digit less
 tenth : (k n : ℕ) → n < 10 ^ suc (suc k) → n / 10 < 10 ^ suc k
@@ -55,6 +55,10 @@ decimal-length k n h g = rw (same-digits 19 k n g h) (digits-length k n)
 pub word-length : (n : ℕ) → length (decimal n) ≤ 20
 unfolding decimal
 word-length n = digits-length 19 n
+
+pub bad-length : (n : ℕ) → length (badLine n) ≤ 128
+unfolding badLine
+bad-length n = omega (arith, length-append (decimal n) newline, word-length n)
 
 pub signed-length : (z : ℤ) → length (signedField z) ≤ 22
 signed-length (pos n) = omega (arith, word-length n)

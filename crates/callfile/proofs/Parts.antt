@@ -1,14 +1,13 @@
 -- Parts of a line put one after the other. Assumes nothing.
-use Prim.Native.Nat.{ℕ, suc, _+_, _≤_, _<_}
+use Prim.Native.Nat.{ℕ, suc, _+_, _≤_}
 use native.Mathlib.Nat.{add-zero, add-suc, suc-add, add-assoc}
-use native.Mathlib.Numerals.{add-one}
 use native.Mathlib.Omega.{arith}
 use mathlib.Core.Path.{_≡_, refl, sym, ap, _∙_}
 use mathlib.Core.Bool.{true, false}
 use mathlib.Core.List.{List, [], _∷_, _++_, append-assoc}
 use borrow.Author.Tests.{leb-true, le-leb}
-use lib.ListN.{length, take, drop, set, length-append, getD}
-use lib.Seq.{sets, sets-eq, length-sets, take-suc}
+use lib.ListN.{length, take, drop, set, length-append}
+use lib.Seq.{sets, sets-eq, length-sets}
 use Rattle.callfile.specs.Placed.{Puts, PutLine, lineRoom, linePlaced, placeAfter}
 
 sets-append : (p q l : List ℕ) (i : ℕ) → sets l i (p ++ q) ≡ sets (sets l i p) (i + length p) q
@@ -25,11 +24,11 @@ then {p} {q} {at} {m} {r} {l} {l₁} {l₂} x y = record {
 }
 
 -- no part
-pub nothing : (at : ℕ) (l : List ℕ) → Puts [] at l at l × (at ≤ at + 128)
-nothing at l = (record { text = refl; next = sym (add-zero at); same = refl }, omega arith)
+pub none-put : (at : ℕ) (l : List ℕ) → Puts [] at l at l
+none-put at l = record { text = refl; next = sym (add-zero at); same = refl }
 
-pub take-more : (l : List ℕ) (j : ℕ) → j < length l → take (j + 1) l ≡ take j l ++ (getD l j 0 ∷ [])
-take-more l j h = rw (add-one j, take-suc l j 0 h)
+pub nothing : (at : ℕ) (l : List ℕ) → Puts [] at l at l × (at ≤ at + 128)
+nothing at l = (none-put at l, omega arith)
 
 -- ---- a whole line
 

@@ -15,17 +15,12 @@ use stats::Stats;
 pub const BLOCK: usize = 512;
 
 // The bytes of a call, and those that no line exceeds.
-const CALL_BYTES: usize = 72;
+pub const CALL_BYTES: usize = 72;
 
 pub const LINE: usize = 128;
 
 // The code of no call.
 const UNKNOWN: u64 = 18446744073709551615;
-
-// From 2^63 on, a word holds a negative number; the last one holds -1.
-const NEGATIVE: u64 = 9223372036854775808;
-
-const MINUS_ONE: u64 = 18446744073709551615;
 
 // ---- blocks
 
@@ -157,12 +152,12 @@ fn put_signed(out: &mut [u8], at: usize, w: u64) -> usize
     requires { do ⌜ at + 21 ≤ (← ⟦out.len()⟧) ⌝ }
     ensures { λ r. ⌜ Puts (signedField (signed w)) at (now (out .entry)) r (now (out .exit)) × (r ≤ at + 21) ⌝ }
 {
-    if w < NEGATIVE {
+    if w < words::NEGATIVE {
         return put_field(out, at, w);
     }
     let space = put(out, at, b' ');
     let sign = put(out, space, b'-');
-    put_digits(out, sign, MINUS_ONE - w + 1)
+    put_digits(out, sign, words::MINUS_ONE - w + 1)
 }
 
 // An identifier in three words: connection unsigned, session and value signed.

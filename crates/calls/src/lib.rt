@@ -8,20 +8,13 @@ ghost use Rattle.definition.specs.Base.{is-some};
 ghost use Rattle.definition.specs.Words.{at, idIn, entryIn, unusedFrom, decode, openWords};
 ghost use Rattle.calls.specs.Calls.{newCall, Words};
 ghost use Rattle.calls.specs.Ranges.{enqueues, joins, acks, timed, prefetches, clocked, sweeps};
+use entry::ALLOWANCE_MOST;
+use entry::CALLS_MOST;
 use entry::Entry;
+use entry::SEQ_END;
+use entry::SHARE_MOST;
+use entry::SIZE_END;
 use model::Id;
-
-// No call limit is above 2^40, no allowance above a day, no sequence number above 2^63 - 1, no size above 2^32 - 1.
-const CALLS_MOST: u64 = 1099511627776;
-
-const ALLOWANCE_MOST: u64 = 86400000;
-
-// No share is above all rows; 0 stands for them.
-const SHARE_MOST: u64 = 512;
-
-const SEQ_END: u64 = 9223372036854775808;
-
-const SIZE_END: u64 = 4294967296;
 
 #[repr(C)]
 pub struct Call {

@@ -72,7 +72,7 @@ gather-texts place k (w ∷ ws) m nine h f =
 
 -- ---- the words that are not written are 0
 
-shown-within : (place : ℕ) (ws : List ℕ) (n : ℕ) → shownWords place ws n ≤ n
+pub shown-within : (place : ℕ) (ws : List ℕ) (n : ℕ) → shownWords place ws n ≤ n
 unfolding shownWords
 shown-within place ws zero = omega arith
 shown-within place ws (suc n) = by-test (eqb (kindAt place n) 0 && eqb (getD ws n 0) 0)

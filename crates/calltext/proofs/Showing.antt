@@ -1,9 +1,8 @@
 -- A call's line, part by part. Assumes nothing.
 use Prim.Native.Nat.{ℕ, zero, suc, _+_, _-_, _≤_, _<_}
-use native.Mathlib.Nat.{add-zero}
 use native.Mathlib.Numerals.{add-one}
 use native.Mathlib.Omega.{arith}
-use mathlib.Core.Path.{_≡_, refl, sym}
+use mathlib.Core.Path.{_≡_, refl}
 use mathlib.Core.Bool.{Bool, true, false}
 use mathlib.Core.List.{List, [], _∷_, _++_}
 use borrow.Author.Tests.{le-leb, lt-leb, eq-eqb, ne-eqb}
@@ -22,10 +21,6 @@ use Rattle.calltext.specs.Shown.{shownWords, fields, codeField, callText
 pub field-length : (minus : Bool) (w : ℕ) → length (wordField minus w) ≤ 22
 field-length true w = signed-length (signed w)
 field-length false w = omega (arith, word-length w)
-
--- no part
-pub nothing : (at : ℕ) (l : List ℕ) → Puts [] at l at l
-nothing at l = record { text = refl; next = sym (add-zero at); same = refl }
 
 -- ---- names and codes
 

@@ -1,6 +1,6 @@
 // Calls as lines of text: a name and its numbers.
 ghost use mathlib.Core.Path.{_≡_};
-ghost use Prim.Native.Nat.{_+_, _*_, _<_, _≤_};
+ghost use Prim.Native.Nat.{_+_, _<_, _≤_};
 ghost use lib.ListN.{length, getD, drop};
 ghost use Rattle.textwords.specs.Text.{wordsOf, sameText};
 ghost use Rattle.callfile.specs.Placed.{Puts, PutLine};

@@ -17,7 +17,7 @@ use Rattle.definition.specs.Types.{Kind, queue, topic, Entry}
 use Rattle.definition.specs.Types as Def
 use Rattle.definition.specs.Consumer.{hasCredit, accepts, isBrowser}
 use Rattle.definition.specs.Destination.{holdBack, cleared, emptied, heldRows}
-use Rattle.definition.specs.Calls.{rowsOf, consumerRows, seqs}
+use Rattle.definition.specs.Calls.{rowsOf, consumerRows}
 use Rattle.definition.specs.Queries.{isQueue}
 use Rattle.definition.specs.Words.{at}
 use Rattle.definition.specs.Layout.{Row, flag, inflightAt, inflightCount, heldCount, browserAt, tpendingAt, subAt, eachSub, subsAt, subRows}
@@ -25,7 +25,6 @@ use Rattle.definition.proofs.Stored.{flying-rows, holding}
 use Rattle.definition.proofs.Tests.{by-if}
 use Rattle.consumers.specs.declared.Sub.{Sub}
 use Rattle.consumers.specs.Consumers.{rowSub, subView, creditOf, acceptsOf}
-use Rattle.consumers.proofs.View.{sub-at, inflight-loaded}
 use Rattle.consumers.specs.Table.{takenOut, subRemoved, onFirst, heldBackRow, clearedRow, takesEntry, heldCounted, keptRows, fitting}
 
 -- ---- one consumer
@@ -38,15 +37,9 @@ pub credit : (k : Kind) (s : Sub) (f h : List Row) → length f ≡ s .inflight 
 unfolding hasCredit subView creditOf
 credit k s f h e = simp (waiting, length-map f inflightAt, e)
 
-pub credit-at : (k : Kind) (w : Row) (f h : List Row) → length f ≡ inflightCount w → hasCredit (subAt k w f h) ≡ creditOf (rowSub w)
-credit-at k w f h e = ap hasCredit (sub-at k w f h) ∙ credit k (rowSub w) f h (e ∙ sym (inflight-loaded w))
-
 pub accepts-sub : (k : Kind) (s : Sub) (f h : List Row) (e : Entry) → accepts (subView k s f h) e ≡ acceptsOf s e
 unfolding accepts subView acceptsOf
 accepts-sub k s f h e = refl
-
-pub accepts-at : (k : Kind) (w : Row) (f h : List Row) (e : Entry) → accepts (subAt k w f h) e ≡ acceptsOf (rowSub w) e
-accepts-at k w f h e = ap (λ (s : Def.Sub). accepts s e) (sub-at k w f h) ∙ accepts-sub k (rowSub w) f h e
 
 browsing : (k : Kind) (b : Bool) (l : List Entry) → is-some (browserAt k b l) ≡ b
 browsing k false l = refl
@@ -137,9 +130,6 @@ pub rows-of-sub : (k : Kind) (w : Row) (f h : List Row) → rowsOf (subAt k w f 
 unfolding subAt
 rows-of-sub k w f h = ap₂ (λ (x y : List Entry). x ++ y) (flying-rows f) (holding k (flag (at 6 w)) (map entryOf h)) ∙ sym (map-append entryOf f h)
 
-pub rows-of-length : (k : Kind) (w : Row) (f h : List Row) → length (rowsOf (subAt k w f h)) ≡ length f + length h
-rows-of-length k w f h = ap length (rows-of-sub k w f h) ∙ length-map (f ++ h) entryOf ∙ length-append f h
-
 pub consumer-rows : (k : Kind) (ws rows : List Row) → consumerRows (subsAt k ws rows) ≡ map entryOf (take (subRows ws) rows)
 unfolding eachSub subRows
 consumer-rows k [] rows = refl
@@ -152,14 +142,6 @@ consumer-rows k (w ∷ ws) rows =
     ap₂ (λ (x y : List Entry). x ++ y) (rows-of-sub k w f h) (consumer-rows k ws (drop b (drop a rows)))
     ∙ sym (map-append entryOf (f ++ h) r)
     ∙ ap (map entryOf) (append-assoc f h r ∙ sym (take-add a (b + subRows ws) rows ∙ ap (λ (x : List Row). f ++ x) (take-add b (subRows ws) (drop a rows))))
-
-numbers : (l : List Row) → seqs (map entryOf l) ≡ map (at 0) l
-unfolding entryOf
-numbers [] = refl
-numbers (r ∷ l) = ap (λ (x : List ℕ). at 0 r ∷ x) (numbers l)
-
-pub consumer-seqs : (k : Kind) (ws rows : List Row) → seqs (consumerRows (subsAt k ws rows)) ≡ map (at 0) (take (subRows ws) rows)
-consumer-seqs k ws rows = ap seqs (consumer-rows k ws rows) ∙ numbers (take (subRows ws) rows)
 
 pending-length : (k : Kind) (b : Bool) (l : List Entry) → length (tpendingAt k b l) ≡ (if isQueue k && b then 0 else length l)
 pending-length queue true l = refl

@@ -5,8 +5,8 @@ use mathlib.Core.List.{List, [], _∷_, _++_}
 use Prim.Native.Nat.{ℕ, suc, _+_, _≤_, _<_}
 use native.Mathlib.Numerals.{add-one}
 use native.Mathlib.Omega.{arith}
-use lib.ListN.{length, take, drop, getD, set}
-use lib.Seq.{drop-cons, drop-drop, drop-length, take-suc, take-suc-set, take-take}
+use lib.ListN.{length, take, drop, getD}
+use lib.Seq.{drop-cons, drop-drop, drop-length, take-take}
 use Rattle.definition.specs.Base.{all, every}
 use Rattle.definition.specs.Types.{Kind}
 use Rattle.definition.specs.Types as Def
@@ -18,13 +18,6 @@ use Rattle.consumers.proofs.View.{sub-at, each-agree, subs-append, subs
 use Rattle.consumers.proofs.Strict.{SubStrict, strict-sub, sub-strict, strict-append, strict-agree, tables-strict, strict-tables}
 
 -- ---- done
-
--- the first i and one more
-pub stored-next : (subs : List Row) (i : ℕ) (x : Row) → i < length subs → take (i + 1) (set subs i x) ≡ take i subs ++ (x ∷ [])
-stored-next subs i x h = ap (λ (n : ℕ). take n (set subs i x)) (add-one i) ∙ take-suc-set subs i x h
-
-pub same-next : (subs : List Row) (i : ℕ) → i < length subs → take (i + 1) subs ≡ take i subs ++ (getD subs i [] ∷ [])
-same-next subs i h = ap (λ (n : ℕ). take n subs) (add-one i) ∙ take-suc subs i [] h
 
 pub rows-one : (pre : List Row) (x : Row) → subRows (pre ++ (x ∷ [])) ≡ subRows pre + inflightCount x + heldCount x
 unfolding subRows

@@ -49,18 +49,10 @@ module _ {A : Type 0} {p : A → Bool} where
   never-find nowhere = refl
   never-find (not-here t f) = rw t (never-find f)
 
-  pub never-put : {l : List A} (v : A) → Never p l → put p v l ≡ l
-  never-put v nowhere = refl
-  never-put v (not-here {x} t f) = rw t (ap (λ (r : List A). x ∷ r) (never-put v f))
-
 module _ {p : Def.Sub → Bool} where
   pub first-without : {l : List Def.Sub} {i : ℕ} → First p l i → without p l ≡ take i l ++ drop (suc i) l
   first-without (here t) = rw t
   first-without (there {x} t f) = rw t (ap (λ (r : List Def.Sub). x ∷ r) (first-without f))
-
-  pub never-without : {l : List Def.Sub} → Never p l → without p l ≡ l
-  never-without nowhere = refl
-  never-without (not-here {x} t f) = rw t (ap (λ (r : List Def.Sub). x ∷ r) (never-without f))
 
 -- ---- the consumer with an identifier
 
@@ -114,9 +106,3 @@ module _ (id : Id) (ws : List Row) (e : positionFrom 0 id ws ≡ Nothing) where
 
   pub found-none : (k : Kind) (rows : List Row) → find (isId id) (subsAt k ws rows) ≡ none
   found-none k rows = never-find (never-sub k id rows position-never)
-
-  pub put-none : (k : Kind) (rows : List Row) (s : Def.Sub) → put (isId id) s (subsAt k ws rows) ≡ subsAt k ws rows
-  put-none k rows s = never-put s (never-sub k id rows position-never)
-
-  pub without-none : (k : Kind) (rows : List Row) → without (isId id) (subsAt k ws rows) ≡ subsAt k ws rows
-  without-none k rows = never-without (never-sub k id rows position-never)

@@ -5,12 +5,11 @@ use mathlib.Core.List.{List, [], _∷_, _++_, map}
 use Prim.Native.Nat.{ℕ, suc, _+_, _≤_, _<_}
 use native.Mathlib.Omega.{arith}
 use lib.ListN.{length, take, drop, getD, set}
-use lib.Seq.{length-take-le, drop-at, set-split, take-add}
+use lib.Seq.{length-take-le, drop-at, set-split}
 use mir.Val.{boolByte}
 use Rattle.definition.specs.Base.{all, every}
 use Rattle.definition.specs.Layout.{Row, inflightCount, heldCount, eachSub, subRows, isMark, entryStrict, flyingStrict, wordsStrict, subStrict, subsStrict, tablesStrict}
 use Rattle.definition.proofs.Tests.{and-left, and-right, and-both}
-use Rattle.definition.proofs.Lists.{all-append}
 pub use Rattle.definition.proofs.Lists.{all-first, all-rest, all-left, all-right, all-weaker}
 use Rattle.consumers.specs.declared.Sub.{Sub}
 use Rattle.consumers.specs.Consumers.{subWords}
@@ -39,11 +38,6 @@ mark-byte false = refl
 pub stored-strict : (s : Sub) → wordsStrict (subWords s) ≡ true
 unfolding wordsStrict subWords
 stored-strict s = rw (mark-byte (s .«no_local»), mark-byte (s .browser), mark-byte (s .finished), mark-byte (s .pulling))
-
--- an entry in flight is one
-pub flying-entry : (w : Row) → flyingStrict w ≡ true → entryStrict w ≡ true
-unfolding flyingStrict
-flying-entry w h = and-left (entryStrict w) _ h
 
 -- the three parts of one consumer
 pub record SubStrict (w : Row) (f h : List Row) : Type 0 where
@@ -132,22 +126,6 @@ strict-gone ws rows i c e s r =
     (strict-before (take i ws) a c (omega arith) ∙ strict-front (take i ws) n rows (omega arith) ∙ s .before)
     (ap (subsStrict (drop (suc i) ws)) (drop-at a c n l) ∙ r)
 
--- all of a consumers' rows hold entries
-pub strict-entries : (ws rows : List Row) → subsStrict ws rows ≡ true → all entryStrict (take (subRows ws) rows) ≡ true
-unfolding eachSub subRows
-strict-entries [] rows h = refl
-strict-entries (w ∷ ws) rows h =
-    let a : ℕ = inflightCount w in
-    let b : ℕ = heldCount w in
-    let n : ℕ = subRows ws in
-    let f : List Row = take a rows in
-    let l : List Row = take b (drop a rows) in
-    let r : List Row = drop b (drop a rows) in
-    let own = sub-strict w f l (and-left (subStrict w f l) _ h) in
-    ap (all entryStrict) (take-add a (b + n) rows ∙ ap (λ (x : List Row). f ++ x) (take-add b n (drop a rows)))
-    ∙ all-append entryStrict f (l ++ take n r) (all-weaker flyingStrict entryStrict flying-entry f (own .flying))
-    (all-append entryStrict l (take n r) (own .held) (strict-entries ws r (and-right (subStrict w f l) _ h)))
-
 -- ---- the tables
 
 -- the consumers with their rows, and n rows after theirs
@@ -163,17 +141,7 @@ pub strict-tables : (n : ℕ) (ws rows : List Row) → TablesStrict n ws rows �
 unfolding tablesStrict
 strict-tables n ws rows t = and-both (subsStrict ws rows) _ (t .subs) (t .others)
 
--- every row in use holds an entry
-pub strict-used : (n : ℕ) (ws rows : List Row) → TablesStrict n ws rows → all entryStrict (take (subRows ws + n) rows) ≡ true
-strict-used n ws rows t =
-    ap (all entryStrict) (take-add (subRows ws) n rows)
-    ∙ all-append entryStrict (take (subRows ws) rows) (take n (drop (subRows ws) rows)) (strict-entries ws rows (t .subs)) (t .others)
-
 -- ---- every consumer's words changed
-
-pub held-back-strict : (seq : ℕ) (w : Row) (f h : List Row) → subStrict (heldBackRow seq w) f h ≡ subStrict w f h
-unfolding subStrict wordsStrict heldBackRow
-held-back-strict seq w f h = refl
 
 pub strict-held-back : (seq : ℕ) (ws rows : List Row) → subsStrict (map (heldBackRow seq) ws) rows ≡ subsStrict ws rows
 unfolding eachSub heldBackRow subStrict wordsStrict

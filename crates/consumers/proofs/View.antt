@@ -1,7 +1,7 @@
 -- The consumers that the table and the rows hold: the view in parts, at a place, and after a store. Assumes nothing.
 use mathlib.Core.Path.{_≡_, refl, sym, ap, ap₂, _∙_}
 use mathlib.Core.List.{List, [], _∷_, _++_}
-use mathlib.Core.Option.{none, some}
+use mathlib.Core.Option.{some}
 use Prim.Native.Nat.{ℕ, zero, suc, _+_, _-_, _≤_, _<_}
 use native.Mathlib.Nat.{zero-add, suc-add, not-suc-le-zero, le-of-suc-le-suc}
 use native.Mathlib.Omega.{arith}
@@ -77,7 +77,7 @@ rows-gone ws i h = omega (arith, rows-append (take i ws) (drop (suc i) ws), rows
 
 -- ---- the consumers in parts, whatever is read of each with its rows
 
-drop-three : (a b c : ℕ) (l : List Row) → drop c (drop b (drop a l)) ≡ drop (a + (b + c)) l
+pub drop-three : (a b c : ℕ) (l : List Row) → drop c (drop b (drop a l)) ≡ drop (a + (b + c)) l
 drop-three a b c l = drop-drop c b (drop a l) ∙ drop-drop (b + c) a l
 
 pub front-drop : (a b : ℕ) (l : List Row) → drop a (take (a + b) l) ≡ take b (drop a l)
@@ -171,12 +171,6 @@ module _ {A : Type 0} (of : Row → List Row → List Row → A) where
       let b : List A = eachSub of (drop (suc i) ws) (afterIn ws rows i) in
       ap₂ nth (sym (head-length ws rows i h)) (each-split ws rows i h) ∙ nth-at a (ofIn ws rows i) b
 
-  pub each-nth-none : (ws rows : List Row) (i : ℕ) → length ws ≤ i → nth i (eachSub of ws rows) ≡ none
-  unfolding eachSub
-  each-nth-none [] rows i h = refl
-  each-nth-none (w ∷ ws) rows zero h = absurd (not-suc-le-zero h)
-  each-nth-none (w ∷ ws) rows (suc i) h = each-nth-none ws _ i (le-of-suc-le-suc h)
-
   pub each-set : (ws rows : List Row) (i : ℕ) (s : A) → i < length ws
       → set (eachSub of ws rows) i s ≡ eachSub of (take i ws) rows ++ s ∷ eachSub of (drop (suc i) ws) (afterIn ws rows i)
   each-set ws rows i s h =
@@ -255,9 +249,6 @@ module _ (k : Kind) where
 
   pub subs-nth : (ws rows : List Row) (i : ℕ) → i < length ws → nth i (subsAt k ws rows) ≡ some (subIn k ws rows i)
   subs-nth = each-nth (subAt k)
-
-  pub subs-nth-none : (ws rows : List Row) (i : ℕ) → length ws ≤ i → nth i (subsAt k ws rows) ≡ none
-  subs-nth-none = each-nth-none (subAt k)
 
   pub subs-set : (ws rows : List Row) (i : ℕ) (s : Def.Sub) → i < length ws
       → set (subsAt k ws rows) i s ≡ subsAt k (take i ws) rows ++ s ∷ subsAt k (drop (suc i) ws) (afterIn ws rows i)

@@ -1,6 +1,6 @@
 -- The table of consumers, a row of sixteen words each: what the functions on its first n rows answer and leave. Assumes nothing.
 use Prim.Native.Nat.{ℕ, suc, _+_, _-_, _^_, min}
-use mathlib.Core.Bool.{Bool, true, false, _&&_}
+use mathlib.Core.Bool.{Bool, _&&_}
 use mathlib.Core.List.{List, [], _∷_, _++_, map}
 use lib.Dec.{leb, ltb}
 use lib.ListN.{length, take, drop, set}

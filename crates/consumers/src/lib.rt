@@ -12,13 +12,11 @@ ghost use Rattle.consumers.specs.Consumers.{rowSub, subWords, creditOf, 
 ghost use Rattle.consumers.specs.Table.{sixteen, positionFrom, takenOut, subRemoved, heldBackRow, clearedRow, onFirst, takesEntry, heldCounted, keptBy, keptRows, fitting};
 use entry::Entry;
 use entry::Found;
+use entry::ROWS;
 use entry::Row;
 use model::Id;
 
 pub type SubRow = [u64; 16];
-
-// Rows in all.
-pub const ROWS: usize = 512;
 
 // Places in a consumer's row that are read one by one.
 pub const BROWSER: usize = 6;

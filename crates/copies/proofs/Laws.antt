@@ -8,7 +8,7 @@ use native.Mathlib.Omega.{arith}
 use borrow.Author.Tests.{eqb-true, eqb-false, eq-eqb, ne-eqb}
 use lib.Dec.{leb, eqb}
 use lib.ListN.{length, take, drop, getD, set, replicate, length-take, length-drop}
-use lib.Seq.{slice, slice-empty, slice-cons, getD-drop, getD-take, getD-set-same, getD-set-other, length-slice}
+use lib.Seq.{slice, slice-empty, slice-cons, getD-drop, getD-take, getD-set-same, getD-set-other}
 use mir.Val.{boolByte}
 use Rattle.words.specs.Pick.{if_then_else_}
 use Rattle.words.proofs.Tests.{by-test}
@@ -19,6 +19,7 @@ use Rattle.definition.specs.Types.{Entry}
 use Rattle.definition.specs.Words.{at}
 use Rattle.definition.specs.Layout.{Row}
 use Rattle.definition.proofs.Tests.{and-left, and-right, and-both}
+use Rattle.definition.proofs.Lists.{all-at}
 use Rattle.distinct.proofs.Laws.{eqb-comm}
 use Rattle.copies.specs.Copies.{alike, agreeAt, Slot}
 
@@ -45,11 +46,6 @@ alike-new x z (w ∷ l) e = by-test (eqb x (at 0 w))
     (λ t. absurd (true≢false (sym (ap (λ (b : Bool). b || member x (map (at 0) l)) t) ∙ e)))
     (λ t. ap (λ (b : Bool). (not b || eqb z (at 9 w)) && all (alike x z) l) t ∙ alike-new x z l (sym (ap (λ (b : Bool). b || member x (map (at 0) l)) t) ∙ e))
 
-all-at : (p : Row → Bool) (l : List Row) (k : ℕ) → all p l ≡ true → k < length l → p (getD l k []) ≡ true
-all-at p [] k e h = absurd (omega arith)
-all-at p (w ∷ l) zero e h = and-left (p w) (all p l) e
-all-at p (w ∷ l) (suc k) e h = all-at p l k (and-right (p w) (all p l) e) (omega arith)
-
 -- a number that the row at place k has, where the rows agree
 pub alike-at : (x z : ℕ) (l : List Row) (k : ℕ) → agreeAt l ≡ true → k < length l → at 0 (getD l k []) ≡ x → all (alike x z) l ≡ eqb z (at 9 (getD l k []))
 alike-at x z [] k a h e = absurd (omega arith)
@@ -69,7 +65,7 @@ alike-at x z (w ∷ l) (suc k) a h e =
     (λ t.
     let q : eqb (at 0 w) (at 0 v) ≡ true = eq-eqb (at 0 w) (at 0 v) (sym (eqb-true x (at 0 w) t) ∙ sym e) in
     let s : eqb (at 9 w) (at 9 v) ≡ true =
-    sym (ap (λ (b : Bool). not b || eqb (at 9 w) (at 9 v)) q) ∙ all-at (alike (at 0 w) (at 9 w)) l k (and-left (all (alike (at 0 w) (at 9 w)) l) (agreeAt l) a) (omega arith) in
+    sym (ap (λ (b : Bool). not b || eqb (at 9 w) (at 9 v)) q) ∙ all-at (alike (at 0 w) (at 9 w)) l k [] (and-left (all (alike (at 0 w) (at 9 w)) l) (agreeAt l) a) (omega arith) in
     ap (λ (b : Bool). (not b || eqb z (at 9 w)) && eqb z (at 9 v)) t
     ∙ ap (λ (y : ℕ). eqb z y && eqb z (at 9 v)) (eqb-true (at 9 w) (at 9 v) s)
     ∙ twice (eqb z (at 9 v)))
@@ -222,10 +218,6 @@ alike-test x z w b e = ap₂ (λ (c d : Bool). not c || d) (eqb-comm x (at 0 w))
 pub one : (b : Bool) → boolByte b ≡ (if b then 1 else 0)
 one true = refl
 one false = refl
-
-pub byte-small : (b : Bool) → boolByte b ≤ 1
-byte-small true = omega arith
-byte-small false = omega arith
 
 pub enough-queue : (q : Bool) (n : ℕ) → q ≡ true → leb 1 n ≡ leb (if q then 1 else 2) n
 enough-queue q n e = ap (λ (b : Bool). leb (if b then 1 else 2) n) (sym e)

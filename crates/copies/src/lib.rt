@@ -3,7 +3,7 @@ use entry::Row;
 ghost use mathlib.Core.Path.{_≡_};
 ghost use mathlib.Core.Bool.{true};
 ghost use mathlib.Core.List.{map};
-ghost use Prim.Native.Nat.{_+_, _≤_};
+ghost use Prim.Native.Nat.{_≤_};
 ghost use lib.ListN.{take};
 ghost use lib.Seq.{slice};
 ghost use lib.Dec.{leb};
@@ -14,15 +14,6 @@ ghost use Rattle.definition.specs.Calls.{sizesAgree};
 ghost use Rattle.copies.specs.Copies.{alike, agreeAt, Slot, mayCopy, sharedBy};
 
 type SubRow = [u64; 16];
-
-// Up to so many rows are compared pair by pair: clearing the table would cost more.
-const FEW: usize = 8;
-
-// And up to so many with a smaller table.
-const SOME: usize = 64;
-
-// The most rows of a destination.
-const MANY: usize = 512;
 
 // Whether each of rows[from..to] with this number has this size.
 fn alike(rows: &[Row], from: usize, to: usize, seq: u64, size: u64) -> bool
@@ -125,13 +116,13 @@ pub fn agree(rows: &[Row], n: usize) -> bool
     if len < n {
         return few_agree(rows, len);
     }
-    if n <= FEW {
+    if n <= distinct::FEW {
         return few_agree(rows, n);
     }
-    if n <= SOME {
+    if n <= distinct::SOME {
         return some_agree(rows, n);
     }
-    if n <= MANY {
+    if n <= entry::ROWS {
         return many_agree(rows, n);
     }
     few_agree(rows, n)

@@ -197,10 +197,6 @@ module _ (b : Bool) where
       middle true false z e = e
       middle false y z e = absurd (true≢false (sym e))
 
-  touch-kind : (now : ℕ) (t : Dest) → touchIdle now t .kind ≡ t .kind
-  unfolding touchIdle
-  touch-kind now t = by-test (empty (t .pending) && (empty (t .subs) && empty (t .producers))) (λ c. rw c) (λ c. rw c)
-
   -- a consumer that rests is put in, and nothing else changes
   put-calm : (i : Id) (v : Sub) (t : Dest) → Calm b t → ((t .kind ≡ queue → b ≡ false) → Rests (t .kind) v) → Calm b (putSub i v t)
   put-calm i v t h r = record { subs = λ l. all-put (Rests (t .kind)) (isId i) (t .subs) v (h .subs l) (r l); idle = λ q. h .idle (sym (put-empty (isId i) v (t .subs)) ∙ q) }

@@ -10,9 +10,9 @@ use lib.Dec.{leb, ltb, eqb}
 use lib.ListN.{length, set, length-append, length-set}
 use borrow.Author.Tests.{lt-ltb}
 use lib.IntN.{pos}
-use Rattle.definition.specs.Base.{if_then_else_, all, nth, empty, ascending, is-some}
+use Rattle.definition.specs.Base.{all, nth, empty, ascending, is-some}
 use Rattle.definition.specs.Types.{Kind, queue, topic, Entry, Sub, Stats, Dest, withCursor, withPending, withSubs}
-use Rattle.definition.specs.Consumer.{expired, accepts, zeroStats, _⊕_, addExpired, addDispatched, isBrowser, shown, snapshot, hasCredit, send, inflightOf, atRest, serveTopic, Browse, drainBrowser, dispatchBrowser, meetBrowser, closeBrowser}
+use Rattle.definition.specs.Consumer.{expired, accepts, _⊕_, addExpired, addDispatched, isBrowser, shown, snapshot, hasCredit, send, inflightOf, atRest, serveTopic, Browse, drainBrowser, dispatchBrowser, meetBrowser, closeBrowser}
 use Rattle.definition.specs.Destination.{visitAt, count, Look, look, given, visit, scan, turns, rounds, Browsed, browsers, dispatchQueue, serveAll, dispatchTopic, dispatchBy}
 use Rattle.definition.specs.Calls.{entryOk, seqs, flying, rowsOf}
 use Rattle.definition.proofs.Tests.{or-no-left, by-if, by-test, and-left, and-right}
@@ -21,7 +21,7 @@ use Rattle.definition.proofs.Thin.{alike-refl, Thin, done, skip, stay, 
 use Rattle.definition.proofs.Sums.{odd, from, sum, Tame, one, occ, bad, sum-append, sum-thin, sum-one, ok-sum, sum-ok, sum-once, thin-ascending, thin-keep, bad-ok}
 use Rattle.definition.proofs.Fit.{Fit, Little, total, met, dseqs, drain-little, browses-little}
 use Rattle.definition.proofs.Grown.{counted}
-use Rattle.definition.proofs.Local.{drained-id, browsed-id, alone}
+use Rattle.definition.proofs.Local.{drained-id, browsed-id, alone, browsed}
 use Rattle.definition.proofs.Whole.{sums, rowsM, countM, Sane, sane-more, Under, all-map, Fine, fine-more, sums-set}
 use Rattle.definition.proofs.Each.{Eased, eased-refl, Each, each-nil, each-cons, ids-same, renewed, frame-renewed, each-fine}
 
@@ -94,9 +94,6 @@ browse-thin now (e ∷ es) b = by-test (hasCredit (b .sub))
   where
     met-thin : Thin (b .pending) (meetBrowser now e es b .pending)
     met-thin = by-test (expired (pos now) e) (λ c. rw c (thin-keep _ (b .pending))) (λ c. rw c (thin-refl (b .pending)))
-
-abbrev browsed : ℕ → List Entry → Sub → Browse
-browsed now p s = if isBrowser s then dispatchBrowser now p s else record { sub = s; pending = p; counts = zeroStats; events = [] }
 
 record Showed (N : ℕ) (p : List Entry) (s : Sub) (b : Browse) : Type 0 where
   eased : Eased queue (rowsM one s) s (b .sub)

@@ -195,6 +195,11 @@ module _ {A : Type 0} where
   all-rest p (suc n) [] h = refl
   all-rest p (suc n) (a ∷ l) h = all-rest p n l (and-right (p a) _ h)
 
+  pub all-at : (p : A → Bool) (l : List A) (i : ℕ) (z : A) → all p l ≡ true → i < length l → p (getD l i z) ≡ true
+  all-at p [] i z h b = absurd (omega arith)
+  all-at p (a ∷ l) zero z h b = and-left (p a) (all p l) h
+  all-at p (a ∷ l) (suc i) z h b = all-at p l i z (and-right (p a) (all p l) h) (omega arith)
+
   -- what holds wherever p does
   pub all-weaker : (p q : A → Bool) → ((a : A) → p a ≡ true → q a ≡ true) → (l : List A) → all p l ≡ true → all q l ≡ true
   all-weaker p q f [] h = refl

@@ -108,6 +108,10 @@ browsed-pending now (e ∷ es) b q = by-test (hasCredit (b .sub))
 abbrev pub alone : List Entry → Sub → Browse
 alone p s = record { sub = s; pending = p; counts = zeroStats; events = [] }
 
+-- a browser served, anyone else as it is
+abbrev pub browsed : ℕ → List Entry → Sub → Browse
+browsed now p s = if isBrowser s then dispatchBrowser now p s else alone p s
+
 abbrev pub Rests : Kind → Sub → Type 0
 Rests topic s = RestsTopic s
 Rests queue s = RestsQueue s

@@ -10,7 +10,7 @@ use lib.ListN.{length, length-append, length-map}
 use lib.IntN.{ℤ, pos}
 use lib.Signed.{ltZ}
 use borrow.Author.Tests.{leb-true}
-use Rattle.definition.specs.Base.{if_then_else_, keep, find, put, nth, empty}
+use Rattle.definition.specs.Base.{keep, find, put, nth, empty}
 use Rattle.definition.specs.Types.{Kind, queue, topic, Id, Entry, Inflight, Sub, Dest, Event, withPending, withSubs, withPrefetch}
 use Rattle.definition.specs.Consumer.{zeroStats, expired, accepts, isBrowser, snapshot, hasCredit, Step, meetTopic, drainTopic, serveTopic, atRest, Browse, meetBrowser, closeBrowser, drainBrowser, dispatchBrowser, AckType, Delivered, Poison, Standard, Redelivered, Individual, Unmatched, Expired, Other, ackType, Ack, ackRange, deadLetters, ackPlain, ackSub}
 use Rattle.definition.specs.Destination.{ackAt, pullAt, timeoutAt, visitAt, Look, look, given, visit, scan, turns, rounds, Browsed, browsers, dispatchQueue, serveAll, dispatchTopic, dispatchBy, count, Out, dispatch, touchIdle, isId, subOf, putSub, room, setPrefetch, ack, pulled, resumed, pull, fired, pullTimeout, due}
@@ -20,6 +20,7 @@ use Rattle.definition.proofs.Lists.{none-some, some-inj, keep-length, l
 use Rattle.definition.proofs.Own.{pulling-sub}
 use Rattle.definition.proofs.Fit.{fit, ack-acked}
 use Rattle.definition.proofs.Sound.{facts, find-all}
+use Rattle.definition.proofs.Local.{browsed}
 
 -- entries that consumers have yet to be sent
 abbrev pub waitingRows : List Sub → ℕ
@@ -70,10 +71,6 @@ browse-pending now (e ∷ es) b = by-test (hasCredit (b .sub))
   where
     met : length (meetBrowser now e es b .pending) ≤ length (b .pending)
     met = by-test (expired (pos now) e) (λ c. rw c (keep-length _ (b .pending))) (λ c. rw c (omega arith))
-
--- one consumer among the browsers
-abbrev browsed : ℕ → List Entry → Sub → Browse
-browsed now p s = if isBrowser s then dispatchBrowser now p s else record { sub = s; pending = p; counts = zeroStats; events = [] }
 
 record BrowseSends (p : List Entry) (s : Sub) (b : Browse) : Type 0 where
   events : length (b .events) ≤ length (snapshot s) + 1

@@ -69,15 +69,6 @@ module _ (f : Entry → ℕ) where
   sum-keep p [] = omega arith
   sum-keep p (e ∷ l) = by-test (p e) (λ c. rw c (omega (arith, sum-keep p l))) (λ c. rw c (omega (arith, sum-keep p l)))
 
-  pub sum-drop : (n : ℕ) (l : List Entry) → sum f (drop n l) ≤ sum f l
-  sum-drop n [] = nil n
-    where
-      nil : (n : ℕ) → sum f (drop n []) ≤ 0
-      nil ℕ.zero = omega arith
-      nil (ℕ.suc n) = omega arith
-  sum-drop ℕ.zero (e ∷ l) = omega arith
-  sum-drop (ℕ.suc n) (e ∷ l) = omega (arith, sum-drop n l)
-
 pub sum-one : (l : List Entry) → sum one l ≡ length l
 sum-one [] = refl
 sum-one (e ∷ l) = omega (arith, sum-one l)

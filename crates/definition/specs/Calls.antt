@@ -10,7 +10,7 @@ use Rattle.audit.specs.Audit.{auditWindow}
 use Rattle.definition.specs.Base.{if_then_else_, find, tally, all, every, empty, member, distinct, ascending, is-some}
 use Rattle.definition.specs.Types.{Kind, queue, topic, Id, Entry, Sub, Stats, Audit, Dest, Event, withCallsUsed}
 use Rattle.definition.specs.Consumer.{sameId, zeroStats, addDiscarded, addExpired, expired, accepts, selects, Ack, isBrowser, snapshot}
-use Rattle.definition.specs.Destination.{Out, Answer, Spec, subOf, count, due, enqueue, addSub, setPrefetch, ack, pull, pullTimeout, removeSub, unmarked, returnReserved, sweepExpired, clear, isProducer, addProducer, removeProducer, auditOf, isDuplicate, releaseAudits}
+use Rattle.definition.specs.Destination.{Answer, Spec, subOf, count, due, enqueue, addSub, setPrefetch, ack, pull, pullTimeout, removeSub, unmarked, returnReserved, sweepExpired, clear, isProducer, addProducer, removeProducer, auditOf, isDuplicate, releaseAudits}
 
 -- ---- lent buffers
 

@@ -9,7 +9,7 @@ use lib.ListN.{length, drop}
 use Rattle.definition.specs.Types.{Kind, queue, topic, Id, Entry, Dest, withCallsUsed}
 use Rattle.definition.specs.Consumer.{zeroStats, addDiscarded, expired, isBrowser}
 use Rattle.definition.specs.Base.{if_then_else_, tally, all, empty, member}
-use Rattle.definition.specs.Destination.{due, Trimmed, trim, releaseReserved}
+use Rattle.definition.specs.Destination.{due, trim, releaseReserved}
 use Rattle.definition.specs.Calls.{Lengths, Call, rowsOf, sizesAgree, ownRows, rowsFrom, rowsFor, overShare, sound, Result, call}
 use Rattle.definition.specs.Words.{at, idIn, entryIn, step}
 use Rattle.definition.specs.Queries.{bytesOf, bytesHeld}

@@ -7,7 +7,7 @@ use mathlib.Core.List.{List, [], _∷_, _++_, map}
 use mathlib.Core.Option.{Option, none, some}
 use lib.Dec.{leb, ltb, eqb}
 use lib.ListN.{length}
-use lib.IntN.{ℤ, pos}
+use lib.IntN.{pos}
 -- entry.rs and model.rs
 unfoldable pub use Rattle.entry.specs.Entry.{expired, oneMore, selects}
 pub use Rattle.entry.specs.Entry.{redelivered, bit}
@@ -16,7 +16,7 @@ pub use Rattle.model.specs.Model.{sameId}
 pub use Rattle.model.specs.declared.AckType.{AckType}
 pub use Rattle.model.specs.declared.AckType.the-variants.{Delivered, Poison, Standard, Redelivered, Individual, Unmatched, Expired, Other}
 use Rattle.definition.specs.Base.{if_then_else_, keep, tally, find, is-some}
-use Rattle.definition.specs.Types.{Id, Entry, Inflight, Sub, Stats, Event, letter, message, null, withRedelivery, withFinished, withInflight, withFreed, withNextDseq, withPull, withTpending, withBrowser}
+use Rattle.definition.specs.Types.{Entry, Inflight, Sub, Stats, Event, letter, message, null, withFinished, withInflight, withFreed, withNextDseq, withPull, withTpending, withBrowser}
 
 -- ---- counters, as what a step adds
 

@@ -9,7 +9,7 @@ use lib.ListN.{length, set, drop}
 use lib.IntN.{ℤ, pos, negsuc}
 use lib.Signed.{ltZ, leZ}
 use Rattle.definition.specs.Base.{if_then_else_, keep, tally, find, put, nth, empty, upFrom}
-use Rattle.audit.specs.Audit.{auditWindow, seen, recorded}
+use Rattle.audit.specs.Audit.{seen, recorded}
 use Rattle.definition.specs.Types.{Kind, queue, topic, Id, Entry, Inflight, Sub, Stats, Held, Audit, Dest, Event, letter, null, withPrefetch, withInflight, withFreed, withCursor, withPull, withGeneration, withBrowser, withTpending, withPending, withSubs, withRr, withProducers, withAudits, withStats, withIdle, withReserved}
 use Rattle.definition.specs.Consumer.{sameId, expired, zeroStats, _⊕_, addEnqueued, addDequeued, addExpired, addDiscarded, addDispatched, Step, isBrowser, hasCredit, accepts, selects, send, sent, sendNull, redelivered, AckType, Delivered, Poison, Standard, Redelivered, Individual, Unmatched, Expired, Other, ackType, Ack, ackSub, serveTopic, Browse, dispatchBrowser}
 

@@ -1,11 +1,10 @@
 -- A call as document 01's call file holds it: a code and eight 64-bit words, two's complement. Assumes nothing.
-use Prim.Native.Nat.{ℕ, _-_, _%_, _^_}
+use Prim.Native.Nat.{ℕ, _%_}
 use mathlib.Core.Bool.{Bool, true, false, _&&_, _||_}
 use mathlib.Core.List.{List, []}
 use mathlib.Core.Option.{Option, none, some}
 use lib.Dec.{leb, ltb, eqb}
 use lib.ListN.{getD, drop}
-use lib.IntN.{ℤ, pos, negsuc}
 use Rattle.words.specs.Words.{signed}
 use Rattle.model.specs.Model as Model
 use Rattle.definition.specs.Base.{if_then_else_, all}

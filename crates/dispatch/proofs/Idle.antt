@@ -14,6 +14,7 @@ use Rattle.definition.specs.Base.{all}
 use Rattle.definition.specs.Destination.{dispatchQueue, dispatchTopic, dispatch}
 use Rattle.definition.specs.Layout.{Row, subRows}
 use Rattle.definition.proofs.Tests.{if-true, if-false, or-no-left, or-no-right}
+use Rattle.definition.proofs.Lists.{all-at}
 use Rattle.consumers.specs.declared.Sub.{Sub}
 use Rattle.consumers.specs.Consumers.{rowSub, creditOf}
 use Rattle.consumers.proofs.Strict.{all-weaker}
@@ -28,7 +29,6 @@ use Rattle.topics.specs.Topics.{canServe, Dispatched}
 use Rattle.topics.proofs.Round as Topic
 use Rattle.queues.specs.Scan.{canTake, served, scans, Scans, Onward}
 use Rattle.queues.proofs.Guard.{scans-facts}
-use Rattle.queues.proofs.Viewing.{all-at}
 use Rattle.queues.proofs.Visiting.{visited-not}
 use Rattle.queues.proofs.Scanning.{Seeking, seeking-start, seeking-on, place-within, going-start, going-stop, going-empty}
 use Rattle.dispatch.specs.Dispatch.{canGo, goesOut, browses, queueFits, dispatches, Sent}
@@ -59,7 +59,7 @@ module _ (clock : ℕ) (d : Head) (subs rows events : List Row) (short : d .cons
     none-goes i h =
         let ws : List Row = take (d .consumers) subs in
         let n : length ws ≡ d .consumers = length-take-le (d .consumers) subs short in
-        ap (canGo (d .waiting) (d .queue)) (sym (getD-take (d .consumers) subs i [] h)) ∙ not-true (canGo (d .waiting) (d .queue) (getD ws i [])) (all-at (lacks (canGo (d .waiting) (d .queue))) ws i none-go (omega arith))
+        ap (canGo (d .waiting) (d .queue)) (sym (getD-take (d .consumers) subs i [] h)) ∙ not-true (canGo (d .waiting) (d .queue) (getD ws i [])) (all-at (lacks (canGo (d .waiting) (d .queue))) ws i [] none-go (omega arith))
 
     -- ---- a topic's
 

@@ -5,10 +5,10 @@ ghost use lib.ListN.{take};
 ghost use Rattle.definition.specs.Base.{member, distinct, rising};
 
 // Up to so many numbers are compared pair by pair: clearing the table would cost more.
-const FEW: usize = 8;
+pub const FEW: usize = 8;
 
 // And up to so many with a smaller table.
-const SOME: usize = 64;
+pub const SOME: usize = 64;
 
 // Whether x stands among the first n.
 fn met(xs: &[u64], n: usize, x: u64) -> bool

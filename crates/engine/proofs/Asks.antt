@@ -1,19 +1,19 @@
 -- Codes 4 to 7 as parts: what each means as a part before the dispatch, the dispatch, and what comes after it; and that the parts before it
 -- keep a destination sane. Assumes nothing.
 use mathlib.Core.Path.{_≡_, refl, sym, ap, _∙_}
-use mathlib.Core.Bool.{Bool, true, false, not, _||_, true≢false}
-use mathlib.Core.List.{List, [], _∷_, _++_, append-nil, append-assoc}
+use mathlib.Core.Bool.{Bool, true, false, _||_, true≢false}
+use mathlib.Core.List.{List, [], _++_, append-nil}
 use mathlib.Core.Option.{Option, none, some}
-use Prim.Native.Nat.{ℕ, _+_, _≤_}
+use Prim.Native.Nat.{ℕ, _+_}
 use native.Mathlib.Omega.{arith}
 use borrow.Author.Tests.{not-true, not-false}
 use lib.Dec.{ltb}
 use lib.IntN.{ℤ, pos}
 use lib.Signed.{ltZ}
-use Rattle.definition.specs.Base.{if_then_else_, is-some, empty}
-use Rattle.definition.specs.Types.{Id, Dest, Event, null}
+use Rattle.definition.specs.Base.{is-some, empty}
+use Rattle.definition.specs.Types.{Id, Dest, Event}
 use Rattle.definition.specs.Types as Def
-use Rattle.definition.specs.Consumer.{Ack, ackSub, sendNull}
+use Rattle.definition.specs.Consumer.{Ack, ackSub}
 use Rattle.definition.specs.Destination.{Out, Answer, subOf, putSub, touchIdle, dispatch, reservedOf, ackReserved, ackAt, ack, pulled, resumed, pullAt, pull, setPrefetch}
 use Rattle.definition.specs.Calls.{bound, signedWithin}
 use Rattle.definition.proofs.Tests.{by-test, by-if, if-true, if-false}
@@ -26,13 +26,6 @@ use Rattle.engine.specs.Requests.{sentOn}
 use Rattle.pulls.specs.Pulls.{prefetched, pulls, pullsAt, pulling, registeredAt, registered, answered, answeredOut}
 
 -- ---- two tests
-
-pub either-left : (a b : Bool) → a ≡ true → (a || b) ≡ true
-either-left a b e = rw e
-
-pub either-right : (a b : Bool) → b ≡ true → (a || b) ≡ true
-either-right true b e = refl
-either-right false b e = e
 
 pub neither : (a b : Bool) → a ≡ false → b ≡ false → (a || b) ≡ false
 neither a b e f = rw (e, f)

@@ -9,7 +9,7 @@ use borrow.Author.Tests.{eqb-true, eqb-false, not-true, not-false}
 use lib.Dec.{eqb}
 use lib.ListN.{length, take, drop, getD, set, length-map, length-take, length-drop, length-set}
 use lib.Seq.{length-take-le, take-all, take-at, drop-at, drop-length, drop-cons, drop-drop, take-add, take-suc-set, drop-set-lt}
-use Rattle.definition.specs.Base.{if_then_else_, all}
+use Rattle.definition.specs.Base.{all}
 use Rattle.definition.specs.Types.{Dest}
 use Rattle.definition.specs.Calls.{Lengths, stateShort, short, sound, Result}
 use Rattle.definition.specs.Words.{at, step}

@@ -1,15 +1,15 @@
 -- From sound buffers to a destination by value on which a call is about to run, and from what its parts leave back to buffers. Assumes nothing.
 use mathlib.Core.Path.{_≡_, refl, sym, ap, ap₂, _∙_, subst⁻¹}
-use mathlib.Core.Bool.{Bool, true, false}
+use mathlib.Core.Bool.{true, false}
 use mathlib.Core.List.{List, [], _∷_, _++_, map}
-use Prim.Native.Nat.{ℕ, _+_, _≤_, _<_, _^_, min}
+use Prim.Native.Nat.{ℕ, _+_, _≤_, _<_, _^_}
 use native.Mathlib.Omega.{arith}
 use borrow.Author.Tests.{leb-true, le-leb, eqb-false}
 use lib.Dec.{eqb, leb}
 use lib.ListN.{length, take, drop, length-map, length-take}
 use lib.Seq.{drop-drop}
 use Rattle.stats.specs.Counted.{more}
-use Rattle.definition.specs.Types.{Id, Audit, Dest, Event}
+use Rattle.definition.specs.Types.{Id, Audit, Dest}
 use Rattle.definition.specs.Destination.{Out}
 use Rattle.definition.specs.Calls.{short, sound, used}
 use Rattle.definition.specs.Words.{at}

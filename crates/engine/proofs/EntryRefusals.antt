@@ -12,6 +12,7 @@ use Rattle.definition.specs.Base.{if_then_else_, tally, member}
 use Rattle.definition.specs.Types.{Id, Entry, Audit}
 use Rattle.definition.specs.Calls.{seqs, allRows, ownRows, rowsFrom, rowsFor, enqueuing, ownRefusal}
 use Rattle.definition.specs.Layout.{Row}
+use Rattle.definition.proofs.Thin.{tally-length}
 use Rattle.consumers.specs.Table.{takesEntry}
 use Rattle.consumers.proofs.Laws.{tally-subs}
 use Rattle.state.specs.declared.Head.{Head}
@@ -19,7 +20,6 @@ use Rattle.state.specs.State.{headView, kindBy}
 use Rattle.state.specs.Fits.{Fits}
 use Rattle.engine.specs.Storing.{holds, rowsNeeded, ownRefusalOf}
 use Rattle.engine.specs.Shares.{heldFrom, overOf}
-use Rattle.engine.proofs.Shares.{tally-least}
 use Rattle.engine.proofs.Used.{all-rows-length, all-rows-member}
 
 -- 4, 14, 5 or 0
@@ -35,7 +35,7 @@ module _ (e : Entry) (d : Head) (subs rows : List Row) where
   pub needed-least : d .consumers ≤ 32 → rowsNeeded e d subs ≤ 32
   needed-least h =
       let l : List Row = take (d .consumers) subs in
-      by-test (d .queue) (λ t. rw t (omega arith)) (λ t. rw t (omega (arith, h, tally-least (takesEntry e) l, length-take (d .consumers) subs)))
+      by-test (d .queue) (λ t. rw t (omega arith)) (λ t. rw t (omega (arith, h, tally-length (takesEntry e) l, length-take (d .consumers) subs)))
 
   -- the share, by the numbers
   pub over-none : 512 ≤ d .share → overOf e d subs rows ≡ false

@@ -1,6 +1,6 @@
 -- Codes 11 to 14 by their words, in the head. Assumes nothing.
 use mathlib.Core.Path.{_≡_, refl, sym, ap, _∙_, subst, subst⁻¹}
-use mathlib.Core.Bool.{Bool, true, false, true≢false}
+use mathlib.Core.Bool.{true, false, true≢false}
 use mathlib.Core.List.{List, []}
 use mathlib.Core.Option.{Option, none, some}
 use Prim.Native.Nat.{ℕ, _<_, _≤_}
@@ -15,12 +15,12 @@ use Rattle.definition.specs.Destination.{Answer, auditOf, testAt, isDuplicate}
 use Rattle.definition.specs.Calls.{Call, adding, removing, testing, forgetting, perform}
 use Rattle.definition.specs.Words.{at, idIn, unusedFrom, read, decode}
 use Rattle.definition.proofs.Tests.{by-test, by-if, or-no-left, or-no-right}
-use Rattle.calls.proofs.Decoded.{Decoded, decoded}
+use Rattle.calls.proofs.Decoded.{decoded}
 use Rattle.state.specs.declared.Head.{Head}
 use Rattle.state.specs.declared.Answer as State
 use Rattle.producers.specs.Producers.{HeadLeft, headFits, added, producerRemoved, tested, released, Promised}
 use Rattle.producers.proofs.Past.{added-past, removed-past, tested-past, released-past}
-use Rattle.engine.specs.Called.{InHead, HeadBy, onTables}
+use Rattle.engine.specs.Called.{HeadBy, onTables}
 
 -- no code above 15 is known
 pub far-code : (n : ℕ) (w : List ℕ) → 15 < n → is-some (decode n w) ≡ false

@@ -10,8 +10,7 @@ use lib.Dec.{eqb, leb}
 use lib.ListN.{length, take, drop}
 use lib.Seq.{drop-drop, getD-drop}
 use Rattle.stats.specs.Counted.{more}
-use Rattle.definition.specs.Base.{if_then_else_}
-use Rattle.definition.specs.Types.{Dest, Event}
+use Rattle.definition.specs.Types.{Dest}
 use Rattle.definition.specs.Calls.{short, sound, used, Call, Result, argumentsOk, ownRefusal, perform}
 use Rattle.definition.specs.Words.{at, decode}
 use Rattle.definition.specs.Layout.{Row, Buffers, eventWords, subRows, idsAt, auditsAt, ringsFormed, usedRows, view, strict, formed, soundBuffers, lengthsOf, bufferStep}
@@ -20,7 +19,7 @@ use Rattle.definition.proofs.Thin.{every-all, all-every}
 use Rattle.definition.proofs.Sound.{facts}
 use Rattle.state.specs.declared.Head.{Head}
 use Rattle.state.specs.declared.Answer.{Answer}
-use Rattle.state.specs.State.{headOf, headView, strictTables, loaded, storedHead, withUsedCalls, withProducerCount, withAuditCount, withIdleMark}
+use Rattle.state.specs.State.{headOf, headView, strictTables, loaded, storedHead, withUsedCalls}
 use Rattle.state.proofs.View.{loaded-view, settled, settled-same, stored-view, stored-formed, stored-past, stored-length}
 use Rattle.state.proofs.Counts.{used-view}
 use Rattle.state.proofs.Fitting.{sound-facts}

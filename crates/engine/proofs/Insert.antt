@@ -4,7 +4,7 @@ use mathlib.Core.Bool.{Bool, true, false}
 use mathlib.Core.List.{List, [], _∷_, _++_, map}
 use Prim.Native.Nat.{ℕ, zero, suc, _+_, _≤_, _<_}
 use native.Mathlib.Omega.{arith}
-use borrow.Author.Tests.{leb-true, leb-false, ltb-true, ltb-false, eqb-false, lt-ltb, le-ltb, ne-eqb}
+use borrow.Author.Tests.{leb-true, leb-false, ltb-true, ltb-false, eqb-false}
 use lib.Dec.{leb, ltb, eqb}
 use lib.ListN.{length, take, drop, getD}
 use Rattle.definition.specs.Layout.{Row}
@@ -17,17 +17,12 @@ use Rattle.definition.specs.Calls.{seqs}
 use Rattle.definition.proofs.Tests.{or-no-left, or-no-right}
 use Rattle.table.specs.Table.{placeFrom}
 use Rattle.table.proofs.Search.{place-from-within}
+use Rattle.returns.proofs.Insert.{insert-less, insert-later}
 
 -- the number of a row's entry is its first word
 pub entry-seq : (r : Row) → entryOf r .seq ≡ getD r 0 0
 unfolding entryOf
 entry-seq r = refl
-
-insert-before : (e f : Entry) (fs : List Entry) → e .seq < f .seq → insert e (f ∷ fs) ≡ e ∷ f ∷ fs
-insert-before e f fs h = rw (lt-ltb (e .seq) (f .seq) h)
-
-insert-after : (e f : Entry) (fs : List Entry) → f .seq < e .seq → insert e (f ∷ fs) ≡ f ∷ insert e fs
-insert-after e f fs h = rw (le-ltb (e .seq) (f .seq) (omega arith), ne-eqb (e .seq) (f .seq) (λ q. omega arith))
 
 -- k rows of l have a number below, and none has that number
 pub insert-placed : (i k : ℕ) (l : List Row) (row : Row) (e : Entry) → entryOf row ≡ e → member (e .seq) (seqs (map entryOf l)) ≡ false → placeFrom i (e .seq) l ≡ i + k
@@ -47,7 +42,7 @@ insert-placed i k (r ∷ l) row e q a p =
         let s : entryOf r .seq ≡ getD r 0 0 = entry-seq r in
         let n : e .seq ≤ getD r 0 0 = le refl in
         let less : e .seq < entryOf r .seq = strict (e .seq) (entryOf r .seq) (omega arith) ne in
-        ap (λ (x : Entry). x ∷ entryOf r ∷ map entryOf l) q ∙ sym (insert-before e (entryOf r) (map entryOf l) less)
+        ap (λ (x : Entry). x ∷ entryOf r ∷ map entryOf l) q ∙ sym (insert-less e (entryOf r) (map entryOf l) less)
       where
         strict : (x y : ℕ) → x ≤ y → (x ≡ y → ⊥) → x < y
         strict x y u v = by-test (ltb x y) (λ t. ltb-true x y t) (λ t. absurd (v (omega (arith, ltb-false x y t))))
@@ -56,4 +51,4 @@ insert-placed i k (r ∷ l) row e q a p =
     go false le lt ne w ih (suc m) h =
         let s : entryOf r .seq ≡ getD r 0 0 = entry-seq r in
         let n : getD r 0 0 < e .seq = lt refl in
-        ap (λ (x : List Entry). entryOf r ∷ x) (ih m (omega arith)) ∙ sym (insert-after e (entryOf r) (map entryOf l) (omega arith))
+        ap (λ (x : List Entry). entryOf r ∷ x) (ih m (omega arith)) ∙ sym (insert-later e (entryOf r) (map entryOf l) (omega arith))

@@ -2,13 +2,13 @@
 use mathlib.Core.Path.{_≡_, refl, sym, ap, _∙_, subst⁻¹}
 use mathlib.Core.Bool.{Bool, true, false}
 use mathlib.Core.List.{List, []}
-use Prim.Native.Nat.{ℕ, _+_, _≤_}
+use Prim.Native.Nat.{ℕ, _≤_}
 use native.Mathlib.Omega.{arith}
 use lib.ListN.{length}
 use lib.IntN.{ℤ}
 use Rattle.definition.specs.Base.{if_then_else_}
 use Rattle.definition.specs.Types.{Id, Audit, Dest}
-use Rattle.definition.specs.Destination.{Out, dispatch, pull}
+use Rattle.definition.specs.Destination.{dispatch}
 use Rattle.definition.specs.Destination as Def
 use Rattle.definition.specs.Layout.{Row}
 use Rattle.state.specs.declared.Head.{Head}

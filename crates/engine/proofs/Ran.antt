@@ -8,6 +8,7 @@ use native.Mathlib.Omega.{arith}
 use borrow.Author.Tests.{eq-eqb, ne-eqb, lt-ltb, le-ltb}
 use lib.Dec.{eqb, ltb, eqb·suc-zero}
 use lib.ListN.{length}
+use Rattle.words.proofs.Tests.{or-left, or-right}
 use Rattle.definition.specs.Base.{if_then_else_, is-some}
 use Rattle.definition.specs.Calls.{Lengths, stateShort, short, Call, Result, argumentsOk}
 use Rattle.definition.specs.Words.{read, decode, openWords}
@@ -22,7 +23,7 @@ use Rattle.producers.specs.Producers.{headFits}
 use Rattle.engine.specs.declared.Outcome.{Outcome}
 use Rattle.engine.specs.Called.{outcome, Called, Performs, PerformsBy, InHead, HeadBy}
 use Rattle.engine.specs.Opened.{openedHead, counted, finished}
-use Rattle.engine.proofs.Asks.{either-left, either-right, neither}
+use Rattle.engine.proofs.Asks.{neither}
 use Rattle.engine.proofs.Refusing.{step-undecoded, step-spent, step-unopened}
 use Rattle.engine.proofs.Called.{lent, refused-called, opened-called, own-called, done-called}
 use Rattle.engine.proofs.Ending as Ending
@@ -186,11 +187,11 @@ module _ (h : List ℕ) (subs rows : List Row) (n : ℕ) where
 
   pub short-state : stateShort (lengthsOf (lent h subs rows) 0) ≡ true → short lengths ≡ true
   unfolding short stateShort
-  short-state e = either-left (stateShort lengths) (ltb n 545) e
+  short-state e = or-left (stateShort lengths) (ltb n 545) e
 
   pub short-events : n < 545 → short lengths ≡ true
   unfolding short
-  short-events e = either-right (stateShort lengths) (ltb n 545) (lt-ltb n 545 e)
+  short-events e = or-right (stateShort lengths) (ltb n 545) (lt-ltb n 545 e)
 
   pub not-short : stateShort (lengthsOf (lent h subs rows) 0) ≡ false → 545 ≤ n → short lengths ≡ false
   unfolding short stateShort

@@ -6,7 +6,7 @@ use Prim.Native.Nat.{ℕ, _+_, _-_, _≤_, _<_, min}
 use native.Mathlib.Omega.{arith}
 use lib.Dec.{eqb}
 use lib.ListN.{length, take, drop, getD}
-use lib.Seq.{slice, take-add, drop-drop}
+use lib.Seq.{slice, take-add}
 use Rattle.words.proofs.Tests.{by-test}
 use Rattle.entry.specs.Entry.{entryOf}
 use Rattle.definition.specs.Base.{if_then_else_, tally}
@@ -18,12 +18,12 @@ use Rattle.definition.specs.Layout.{Row, flag, heldAt, inflightCount, heldCount
 use Rattle.definition.proofs.Thin.{tally-append}
 use Rattle.definition.proofs.Stored.{flying-rows}
 use Rattle.table.proofs.Lists.{slice-take}
-use Rattle.table.proofs.Segments.{tally-map, kept-length, tally-most}
+use Rattle.table.proofs.Segments.{tally-map, tally-most}
 use Rattle.consumers.specs.declared.Sub.{Sub}
 use Rattle.consumers.specs.Consumers.{rowSub}
 use Rattle.consumers.proofs.Lists.{first-next, first-ended}
 use Rattle.consumers.proofs.Laws.{browser-sub, rows-of-sub}
-use Rattle.consumers.proofs.View.{sub-at, inflight-loaded, held-loaded}
+use Rattle.consumers.proofs.View.{sub-at, inflight-loaded, held-loaded, drop-three}
 use Rattle.consumers.proofs.Table.{rows-next}
 use Rattle.state.specs.declared.Head.{Head}
 use Rattle.state.specs.State.{headView, kindBy}
@@ -35,9 +35,6 @@ pub came-word : (c : ℕ) (w : Row) → cameFrom c w ≡ eqb c (getD w 3 0)
 unfolding entryOf
 came-word c w = refl
 
-pub tally-least : (p : Row → Bool) (l : List Row) → tally p l ≤ length l
-tally-least p l = omega (arith, kept-length p l)
-
 -- ---- the consumers' rows
 
 browser-at : (k : Kind) (w : Row) (f h : List Row) → isBrowser (subAt k w f h) ≡ rowSub w .browser
@@ -47,11 +44,6 @@ pub part : (base n : ℕ) (rows : List Row) → take n (drop base rows) ≡ slic
 part base n rows =
     let e : n ≡ base + n - base = omega arith in
     ap (λ (m : ℕ). take m (drop base rows)) e ∙ sym (slice-take base (base + n) rows (omega arith))
-
-later : (base a b : ℕ) (rows : List Row) → drop b (drop a (drop base rows)) ≡ drop (base + (a + b)) rows
-later base a b rows =
-    let e : base + a + b ≡ base + (a + b) = omega arith in
-    ap (drop b) (drop-drop a base rows) ∙ drop-drop b (base + a) rows ∙ ap (λ (m : ℕ). drop m rows) e
 
 module _ (c : ℕ) where
   counted : (l : List Row) → rowsFrom c (map entryOf l) ≡ tally (cameFrom c) l
@@ -87,7 +79,7 @@ module _ (c : ℕ) where
       joined (if isBrowser s then [] else flying s) (taken (subsAt queue ws (drop b (drop a r))))
       ∙ ap₂ (λ (x y : ℕ). x + y)
       (ap (λ (x : Bool). rowsFrom c (if x then [] else flying s)) t ∙ one-queue w (take b (drop a r)) r (rowSub w .browser) refl ∙ ap (tally (cameFrom c)) (part base (ownOf true (rowSub w)) rows))
-      (ap (λ (x : List Row). rowsFrom c (taken (subsAt queue ws x))) (later base a b rows) ∙ all-queue (base + (a + b)) ws rows)
+      (ap (λ (x : List Row). rowsFrom c (taken (subsAt queue ws x))) (drop-three base a b rows) ∙ all-queue (base + (a + b)) ws rows)
 
   all-topic : (base : ℕ) (ws rows : List Row) → rowsFrom c (consumerRows (subsAt topic ws (drop base rows))) ≡ takenFrom false c base ws rows
   unfolding eachSub takenFrom rowSub
@@ -99,7 +91,7 @@ module _ (c : ℕ) where
       joined (rowsOf (subAt topic w (take a r) (take b (drop a r)))) (consumerRows (subsAt topic ws (drop b (drop a r))))
       ∙ ap₂ (λ (x y : ℕ). x + y)
       (one-topic w r ∙ ap (tally (cameFrom c)) (part base (a + b) rows))
-      (ap (λ (x : List Row). rowsFrom c (consumerRows (subsAt topic ws x))) (later base a b rows) ∙ all-topic (base + (a + b)) ws rows)
+      (ap (λ (x : List Row). rowsFrom c (consumerRows (subsAt topic ws x))) (drop-three base a b rows) ∙ all-topic (base + (a + b)) ws rows)
 
   -- ---- the destination's
 

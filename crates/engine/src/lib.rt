@@ -64,7 +64,7 @@ impl Outcome {
 fn share_of(w: u64) -> u64
     ensures { λ r. ⌜ r ≡ shareOf w ⌝ }
 {
-    if w == 0 { 512 } else { w }
+    if w == 0 { entry::SHARE_MOST } else { w }
 }
 
 // The numbers of a destination that is opened by these words.

@@ -156,7 +156,7 @@ pub(crate) fn refusal(subs: &[SubRow], rows: &[Row], d: Head, e: Entry) -> u64
     if is_held(subs, rows, d, e.seq) {
         return 4;
     }
-    if d.share < 512 {
+    if d.share < entry::SHARE_MOST {
         if over_share(subs, rows, d, e) {
             return 14;
         }

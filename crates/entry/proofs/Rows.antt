@@ -62,10 +62,6 @@ pub place-of-row : (e : Entry) (a b c : ℕ) → (getD (rowOf e a b c) 6 0 ≡ a
 unfolding rowOf
 place-of-row e a b c = (refl, refl, refl)
 
-pub row-length : (e : Entry) (a b c : ℕ) → length (rowOf e a b c) ≡ 10
-unfolding rowOf
-row-length e a b c = refl
-
 -- ---- ranges
 
 pub entry-fits : (w : List ℕ) → ((k : ℕ) → getD w k 0 < 2 ^ 64) → EntryFits (entryOf w)

@@ -15,8 +15,23 @@ pub const TX: usize = 8;
 // The selector that stands for none.
 pub const NO_SELECTOR: u64 = 64;
 
-// No clock is above 2^62.
+// The most rows of a destination.
+pub const ROWS: usize = 512;
+
+// No share is above all rows; 0 stands for them.
+pub const SHARE_MOST: u64 = 512;
+
+// No clock is above 2^62, no call limit above 2^40, no allowance above a day.
 pub const CLOCK_MOST: u64 = 4611686018427387904;
+
+pub const CALLS_MOST: u64 = 1099511627776;
+
+pub const ALLOWANCE_MOST: u64 = 86400000;
+
+// Every sequence number is below 2^63, every size below 2^32.
+pub const SEQ_END: u64 = 9223372036854775808;
+
+pub const SIZE_END: u64 = 4294967296;
 
 const MOST_I32: i32 = 2147483647;
 

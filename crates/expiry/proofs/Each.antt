@@ -7,6 +7,7 @@ use native.Mathlib.Numerals.{add-one}
 use native.Mathlib.Omega.{arith}
 use lib.ListN.{length, take, drop, getD, set}
 use lib.Seq.{slice, drop-drop, drop-length}
+use Rattle.words.proofs.Lists.{set-next}
 use Rattle.definition.specs.Types.{Kind, withTpending}
 use Rattle.definition.specs.Types as Def
 use Rattle.definition.specs.Destination as Destination
@@ -19,7 +20,7 @@ use Rattle.consumers.specs.Consumers.{rowSub, subWords, subView, withHeld}
 use Rattle.consumers.proofs.Words.{round}
 use Rattle.consumers.proofs.Strict.{stored-strict}
 use Rattle.state.specs.State.{kindBy}
-use Rattle.consumers.proofs.Line.{stored-next, rows-one, subs-done, strict-done, left-size, subs-next, strict-next, subs-rest, strict-rest}
+use Rattle.consumers.proofs.Line.{rows-one, subs-done, strict-done, left-size, subs-next, strict-next, subs-rest, strict-rest}
 use Rattle.expiry.specs.declared.Swept.{Swept}
 use Rattle.expiry.specs.Sweep.{sweepListed, sweptUnless, Shorter, StaysStrict}
 use Rattle.expiry.proofs.Held.{low, flying-same, list-is, high, sub-left, gone-left}
@@ -120,7 +121,7 @@ module _ (most now : ℕ) (q : Bool) (ws : List Row) (m i base : ℕ) (w start r
     used-turn = omega (arith, used-is, short .tail, short .length)
 
     pre-is : take (i + 1) subs′ ≡ take i subs ++ (subWords t ∷ [])
-    pre-is = stored-next subs i (subWords t) within
+    pre-is = set-next subs i (subWords t) within
 
     pub ends-turn : end′ ≡ subRows (take (i + 1) subs′)
     unfolding subWords

@@ -1,13 +1,11 @@
 -- The sweep of one list of rows, and of the consumers, and what the definition makes of them. Assumes nothing.
 use mathlib.Core.Path.{_≡_}
 use Prim.Native.Nat.{ℕ, _+_, _-_, _≤_, _^_}
-use mathlib.Core.Bool.{Bool, true, _&&_, _||_}
+use mathlib.Core.Bool.{Bool, true}
 use mathlib.Core.List.{List, map}
 use mathlib.Core.Option.{Option, none, some}
-use lib.Dec.{ltb}
 use lib.ListN.{length, take}
 use lib.Seq.{slice}
-use lib.Signed.{ltZ, leZ}
 use Rattle.entry.specs.Entry.{entryOf}
 use Rattle.definition.specs.Base.{if_then_else_, all}
 use Rattle.definition.specs.Types.{Id, Audit, Dest, Entry, withPending, withSubs}

@@ -1,9 +1,9 @@
 -- A run that has every fate an entry of a queue can have, and one with an allowance and a release in halves, as words of the call file, with what their
 -- reports say; antt computes them. Assumes nothing.
 use Prim.Native.Nat.{ℕ, _+_}
-use mathlib.Core.Bool.{Bool, true, false, _&&_}
+use mathlib.Core.Bool.{Bool}
 use mathlib.Core.List.{List, [], _∷_, _++_}
-use lib.Dec.{eqb, T}
+use lib.Dec.{T}
 use Rattle.words.specs.Pick.{sameNumbers}
 use Rattle.definition.specs.Base.{every}
 use Rattle.definition.specs.Types.{queue}

@@ -1,7 +1,7 @@
 -- How entries leave a queue (document 02 §7), read from the calls made: no counter and no browser's copy is looked at. Assumes nothing.
 use Prim.Native.Nat.{ℕ}
 use mathlib.Core.Bool.{Bool, true, false, not}
-use mathlib.Core.List.{List, [], _∷_, _++_, map}
+use mathlib.Core.List.{List, [], _++_, map}
 use mathlib.Core.Option.{Option, none, some}
 use lib.Dec.{eqb}
 use Rattle.definition.specs.Base.{if_then_else_, keep, member}

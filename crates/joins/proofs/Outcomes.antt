@@ -10,7 +10,7 @@ use lib.ListN.{length, take, set}
 use lib.Seq.{slice}
 use Rattle.stats.specs.Counted.{top, withExpiredBy}
 use Rattle.definition.specs.Base.{all, tally}
-use Rattle.definition.specs.Types.{queue, topic, Id, Audit}
+use Rattle.definition.specs.Types.{topic, Id, Audit}
 use Rattle.definition.specs.Destination.{joined}
 use Rattle.definition.specs.Calls.{joining, ownRefusal, snapshotRows}
 use Rattle.definition.specs.Layout.{Row, subsAt, subRows, entryStrict}

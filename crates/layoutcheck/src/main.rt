@@ -5,62 +5,7 @@ use libc::STDERR_FILENO;
 use libc::STDIN_FILENO;
 use libc::STDOUT_FILENO;
 
-// How a read ended: the buffer is full, the input has ended, or the read failed. AGAIN: it goes on.
-const FULL: u64 = 0;
-
-const END: u64 = 1;
-
-const FAILED: u64 = 2;
-
-const AGAIN: u64 = 3;
-
-// How many bytes stand in the buffer, and how the read ended.
-struct Got {
-    n: usize,
-    how: u64,
-}
-
 // ---- reading
-
-// One read, behind the bytes that stand in the buffer.
-fn read_once(fd: i32, buf: &mut [u8], at: usize) -> Got {
-    if buf.len() <= at {
-        return Got { n: at, how: FULL };
-    }
-    let got = libc::read(fd, &mut buf[at..]);
-    if got == 0 {
-        return Got { n: at, how: END };
-    }
-    if got < 0 {
-        if os::errno() == libc::EINTR {
-            return Got { n: at, how: AGAIN };
-        }
-        return Got { n: at, how: FAILED };
-    }
-    let n = io::count(got, buf);
-    if buf.len() - at < n {
-        return Got { n: at, how: FAILED };
-    }
-    Got {
-        n: at + n,
-        how: AGAIN,
-    }
-}
-
-// Reads until the buffer is full or the input ends.
-fn read_on(fd: i32, buf: &mut [u8]) -> Got {
-    let mut n = 0;
-    let mut turns = 18446744073709551615u64;
-    while 0 < turns {
-        let g = read_once(fd, buf, n);
-        if g.how != AGAIN {
-            return g;
-        }
-        n = g.n;
-        turns -= 1;
-    }
-    Got { n, how: FAILED }
-}
 
 fn buffer() -> [u8; 1048576]
     ensures { λ r. ⌜ 1048576 ≡ length r ⌝ }
@@ -94,12 +39,12 @@ fn say_verdict(buf: &[u8], n: usize) {
 // Reads a text whole, and says what is to be said of it.
 fn check_text(fd: i32) {
     let mut buf = buffer();
-    let g = read_on(fd, &mut buf);
-    if g.how == FAILED {
+    let g = reading::read_on(fd, &mut buf, 0);
+    if g.how == reading::FAILED {
         os::fail(b"layoutcheck: cannot read");
         return;
     }
-    if g.how == FULL {
+    if g.how == reading::FULL {
         io::write_all(
             STDERR_FILENO,
             b"layoutcheck: a text of 1048576 bytes or more\n",

@@ -2,7 +2,7 @@
 // The functions named `layouts_..` are the same for C, and include/layouts.h describes them.
 ghost use mathlib.Core.Path.{_≡_};
 ghost use mathlib.Core.Bool.{true};
-ghost use Prim.Native.Nat.{_≤_, _<_};
+ghost use Prim.Native.Nat.{_<_};
 ghost use lib.ListN.{length};
 ghost use Rattle.layouts.specs.Layouts.{first, covers, rowInRange, allInRange, tableInRange, lowestGap, lowestOverlap, selectorAt, checked, lookedUp};
 ghost use Rattle.layouts.specs.Steps.{past, walk, next, column, lane, laneCount, lower, size, sizes};

@@ -3,14 +3,14 @@ use Prim.Native.Nat.{ℕ, suc, _+_, _≤_, _<_}
 use native.Mathlib.Nat.{zero-add}
 use native.Mathlib.Numerals.{add-one}
 use native.Mathlib.Omega.{arith}
-use mathlib.Core.Path.{_≡_, refl, ap, sym, _∙_}
+use mathlib.Core.Path.{_≡_, ap, _∙_}
 use mathlib.Core.Bool.{true, false}
 use mathlib.Core.List.{List, [], _∷_}
-use lib.ListN.{length, getD, drop, length-drop}
+use lib.ListN.{length, getD, drop, length-drop, drop-of-length-le}
 use lib.Seq.{getD-drop}
 use Rattle.words.proofs.Tests.{by-test}
-use Rattle.layouts.specs.Layouts.{covers, one, coverCount}
-use Rattle.layouts.proofs.Rows.{rows-next, rows-end}
+use Rattle.layouts.specs.Layouts.{covers, coverCount}
+use Rattle.layouts.proofs.Rows.{rows-next}
 use Rattle.layouttext.specs.Verdict.{coverAt, nextCover}
 use Rattle.layouttext.specs.Claims.{Two}
 
@@ -27,7 +27,7 @@ module _ (l : ℕ) (t : List (List ℕ)) (i : ℕ) where
 
   pub cover-end : length t ≤ i → coverAt l (drop i t) ≡ 0
   unfolding coverAt
-  cover-end h = rw (rows-end t i h)
+  cover-end h = rw (drop-of-length-le t h)
 
 -- ---- two rows
 

@@ -1,15 +1,14 @@
 -- The words of a line, and the lines of a text, one by one. Assumes nothing.
-use Prim.Native.Nat.{ℕ, suc, _+_, _-_, _≤_, _<_}
-use native.Mathlib.Numerals.{add-one}
+use Prim.Native.Nat.{ℕ, _+_, _-_, _≤_, _<_}
 use native.Mathlib.Omega.{arith}
 use mathlib.Core.Path.{_≡_, refl, ap, sym, _∙_}
-use mathlib.Core.Bool.{true, false}
 use mathlib.Core.List.{List, [], _∷_, _++_}
 use borrow.Author.Tests.{eq-eqb, ne-eqb, eqb-true, eqb-false, lt-ltb, le-ltb, ltb-true, ltb-false}
 use lib.Dec.{eqb, ltb}
 use lib.ListN.{length, take, drop, set, replicate, length-set}
-use lib.Seq.{length-take-le, take-suc-set}
+use lib.Seq.{length-take-le}
 use Rattle.words.proofs.Tests.{by-test}
+use Rattle.words.proofs.Lists.{set-next}
 use Rattle.stats.specs.Counted.{more}
 use Rattle.textwords.specs.declared.Stop.the-variants.{Remark}
 use Rattle.textwords.specs.Text.{run, wordsOf}
@@ -141,10 +140,6 @@ module _ {count n kind r : ℕ} {row : List ℕ} {rows rows′ : List (List ℕ)
       (λ t. let e : r ≡ count + 1 = rw t at (k .next) in let g = f (eqb-true kind 0 t) in omega arith)
       (λ t. let e : r ≡ count = rw t at (k .next) in omega arith)
 
--- one more at the end
-added : {A : Type 0} (l : List A) (i : ℕ) (a : A) → i < length l → take (i + 1) (set l i a) ≡ take i l ++ (a ∷ [])
-added l i a h = rw (add-one i) (take-suc-set l i a h)
-
 module _ (rows : List (List ℕ)) (lines : List ℕ) (count n at : ℕ) (t : List ℕ) (low : count ≤ 64) (long : 64 ≤ length rows) (wide : 64 ≤ length lines) where
   -- the kind of the next line
   kind-here :
@@ -187,8 +182,8 @@ module _ (rows : List (List ℕ)) (lines : List ℕ) (count n at : ℕ) (t : Lis
       let re : r ≡ count + 1 = rw b at (x .next) in
       let xe : rows′ ≡ set rows count (p .row) = rw b at (x .rows) in
       let ye : lines′ ≡ set lines count n = rw b at (x .lines) in
-      let xs : take r rows′ ≡ take count rows ++ (lineRow l .row ∷ []) = (λ i. take (re i) (xe i)) ∙ added rows count (p .row) (omega arith) ∙ ap (λ (z : Parsed). take count rows ++ (z .row ∷ [])) q in
-      let ys : take r lines′ ≡ take count lines ++ (n ∷ []) = (λ i. take (re i) (ye i)) ∙ added lines count n (omega arith) in
+      let xs : take r rows′ ≡ take count rows ++ (lineRow l .row ∷ []) = (λ i. take (re i) (xe i)) ∙ set-next rows count (p .row) (omega arith) ∙ ap (λ (z : Parsed). take count rows ++ (z .row ∷ [])) q in
+      let ys : take r lines′ ≡ take count lines ++ (n ∷ []) = (λ i. take (re i) (ye i)) ∙ set-next lines count n (omega arith) in
       (λ i. readFrom (xs i) (ys i) (y i) ls) ∙ sym (read-row (take count rows) (take count lines) n l ls kind c z) ∙ ap (readFrom (take count rows) (take count lines) n) (sym (w .lines)))
       (λ b.
       let z = eqb-false kind 0 b in

@@ -1,8 +1,8 @@
 -- A case against the definitions of the leaf functions, and what is counted. Assumes nothing.
-use Prim.Native.Nat.{ℕ, _+_, _-_, _^_}
+use Prim.Native.Nat.{ℕ}
 use mathlib.Core.Bool.{Bool, true, false, _&&_}
 use mathlib.Core.List.{List}
-use lib.Dec.{eqb, ltb}
+use lib.Dec.{eqb}
 use lib.IntN.{ℤ, pos}
 use lib.ListN.{getD}
 use Rattle.words.specs.Pick.{if_then_else_}
@@ -16,6 +16,7 @@ use Rattle.broker.specs.Broker.{admitMemory, times, applyExpiryOptions}
 use Rattle.audit.specs.declared.Audit.{Audit}
 use Rattle.audit.specs.declared.Checked.{Checked}
 use Rattle.audit.specs.Audit.{newAudit, ringStep}
+use Rattle.stats.specs.Counted.{more}
 use Rattle.leafcases.specs.declared.cases.Count.{Count}
 use Rattle.leafcases.specs.declared.cases.Counts.{Counts}
 use Rattle.leafcases.specs.declared.cases.Run.{Run}
@@ -113,12 +114,8 @@ noCounts = record { expired = noCount; redelivered = noCount; «admit_memory» =
 abbrev pub newRun : Run
 newRun = record { counts = noCounts; audit = newAudit; lines = 0; shown = 0; len = 0; over = false; reading = true }
 
--- one more, up to the greatest u64
-unfoldable pub countMore : ℕ → ℕ
-countMore n = if ltb n (2 ^ 64 - 1) then n + 1 else n
-
 unfoldable pub countedCase : Count → Bool → Count
-countedCase c same = record { cases = countMore (c .cases); differ = if same then c .differ else countMore (c .differ) }
+countedCase c same = record { cases = more (c .cases); differ = if same then c .differ else more (c .differ) }
 
 unfoldable pub countedAs : Counts → Kind → Bool → Counts
 countedAs c K.Expired same = record { expired = countedCase (c .expired) same; redelivered = c .redelivered; «admit_memory» = c .«admit_memory»; «apply_expiry_options» = c .«apply_expiry_options»; audit = c .audit; audits = c .audits; bad = c .bad }
@@ -126,5 +123,5 @@ countedAs c K.Redelivered same = record { expired = c .expired; redelivered = co
 countedAs c K.AdmitMemory same = record { expired = c .expired; redelivered = c .redelivered; «admit_memory» = countedCase (c .«admit_memory») same; «apply_expiry_options» = c .«apply_expiry_options»; audit = c .audit; audits = c .audits; bad = c .bad }
 countedAs c K.ApplyExpiryOptions same = record { expired = c .expired; redelivered = c .redelivered; «admit_memory» = c .«admit_memory»; «apply_expiry_options» = countedCase (c .«apply_expiry_options») same; audit = c .audit; audits = c .audits; bad = c .bad }
 countedAs c K.Audit same = record { expired = c .expired; redelivered = c .redelivered; «admit_memory» = c .«admit_memory»; «apply_expiry_options» = c .«apply_expiry_options»; audit = countedCase (c .audit) same; audits = c .audits; bad = c .bad }
-countedAs c K.AuditNew same = record { expired = c .expired; redelivered = c .redelivered; «admit_memory» = c .«admit_memory»; «apply_expiry_options» = c .«apply_expiry_options»; audit = c .audit; audits = countMore (c .audits); bad = c .bad }
-countedAs c K.Bad same = record { expired = c .expired; redelivered = c .redelivered; «admit_memory» = c .«admit_memory»; «apply_expiry_options» = c .«apply_expiry_options»; audit = c .audit; audits = c .audits; bad = countMore (c .bad) }
+countedAs c K.AuditNew same = record { expired = c .expired; redelivered = c .redelivered; «admit_memory» = c .«admit_memory»; «apply_expiry_options» = c .«apply_expiry_options»; audit = c .audit; audits = more (c .audits); bad = c .bad }
+countedAs c K.Bad same = record { expired = c .expired; redelivered = c .redelivered; «admit_memory» = c .«admit_memory»; «apply_expiry_options» = c .«apply_expiry_options»; audit = c .audit; audits = c .audits; bad = more (c .bad) }

@@ -1,7 +1,7 @@
 // A case against the leaf functions, and what is counted.
 use crate::parse::Kind;
 ghost use mathlib.Core.Path.{_≡_};
-ghost use Rattle.leafcases.specs.Compare.{noCount, noCounts, newRun, countMore, countedCase, countedAs, entryWith, flagIs, expiredSame, redeliveredSame, admissionSame, admitMemorySame, arrivalSame, applyExpiryOptionsSame, duplicateSame, Replayed, auditCompared, compared};
+ghost use Rattle.leafcases.specs.Compare.{noCount, noCounts, newRun, countedCase, countedAs, entryWith, flagIs, expiredSame, redeliveredSame, admissionSame, admitMemorySame, arrivalSame, applyExpiryOptionsSame, duplicateSame, Replayed, auditCompared, compared};
 use audit::Audit;
 use audit::Checked;
 use broker::Admission;
@@ -9,6 +9,7 @@ use broker::Arrival;
 use broker::ExpiryOptions;
 use broker::Times;
 use entry::Entry;
+use stats::more_of;
 use words::int_of;
 use words::is_int;
 use words::signed_of;
@@ -48,12 +49,6 @@ pub(crate) struct Tested {
     pub same: bool,
 }
 
-pub(crate) fn more(n: u64) -> u64
-    ensures { λ r. ⌜ r ≡ countMore n ⌝ }
-{
-    if n < 18446744073709551615 { n + 1 } else { n }
-}
-
 impl Count {
     fn new() -> Count
         ensures { λ r. ⌜ r ≡ noCount ⌝ }
@@ -69,13 +64,13 @@ impl Count {
     {
         if same {
             Count {
-                cases: more(self.cases),
+                cases: more_of(self.cases),
                 differ: self.differ,
             }
         } else {
             Count {
-                cases: more(self.cases),
-                differ: more(self.differ),
+                cases: more_of(self.cases),
+                differ: more_of(self.differ),
             }
         }
     }
@@ -132,11 +127,11 @@ impl Counts {
                 self
             }
             Kind::AuditNew => {
-                self.audits = more(self.audits);
+                self.audits = more_of(self.audits);
                 self
             }
             Kind::Bad => {
-                self.bad = more(self.bad);
+                self.bad = more_of(self.bad);
                 self
             }
         }

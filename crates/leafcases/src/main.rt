@@ -19,7 +19,7 @@ fn finish(line: &[u8], window: &mut [u64], r: Run) -> Run {
     let before = r.audit;
     let values = l.values;
     let t = cases::compared(window, before, kind, values);
-    let number = cases::more(r.lines);
+    let number = stats::more_of(r.lines);
     let counts = r.counts;
     let after = counts.with(kind, t.same);
     let audit = t.audit;

@@ -1,8 +1,8 @@
 -- The query on a queue that has all there is, as one table that antt computes; and the sweeps next. Assumes nothing.
 use Prim.Native.Nat.{ℕ, _+_, _^_}
-use mathlib.Core.Bool.{Bool, true, false, _&&_}
+use mathlib.Core.Bool.{Bool, true, _&&_}
 use mathlib.Core.List.{List, [], _∷_, map}
-use lib.Dec.{eqb, T}
+use lib.Dec.{T}
 use lib.IntN.{ℤ, pos, negsuc}
 use Rattle.words.specs.Pick.{sameNumbers}
 use Rattle.definition.specs.Base.{every}

@@ -41,11 +41,6 @@ module _ (p : List ℕ → Bool) (w : ℕ) where
   first-next zero l h e = absurd (omega arith)
   first-next (suc n) l h e = let q : suc n - 1 ≡ n = omega arith in rw (e, q)
 
-  pub first-most : (n : ℕ) (l : List ℕ) → firstOf p w n l ≤ n
-  unfolding firstOf
-  first-most zero l = omega arith
-  first-most (suc n) l = by-test (p l) (λ e. rw e (omega arith)) (λ e. rw e (omega (arith, first-most n (drop w l))))
-
   pub count-most : (n : ℕ) (l : List ℕ) → keptCount p w n l ≤ n
   unfolding keptCount
   count-most zero l = omega arith

@@ -31,9 +31,6 @@ room-here n k w from size h r = omega (arith, room-next n k w from size h r)
 next-left : (n k : ℕ) → k < n → n - k - 1 ≡ n - (k + 1)
 next-left n k h = omega arith
 
-next-words : (w from : ℕ) (h : List ℕ) → drop w (drop from h) ≡ drop (from + w) h
-next-words w from h = drop-drop w from h
-
 -- ---- a search
 
 module _ (p : List ℕ → Bool) (w n : ℕ) (h : List ℕ) where
@@ -46,7 +43,7 @@ module _ (p : List ℕ → Bool) (w n : ℕ) (h : List ℕ) where
   pub search-next : (k from : ℕ) → k < n → p (drop from h) ≡ false → k + 1 + firstOf p w (n - (k + 1)) (drop (from + w) h) ≡ k + firstOf p w (n - k) (drop from h)
   search-next k from b t =
       let e : firstOf p w (n - k) (drop from h) ≡ suc (firstOf p w (n - k - 1) (drop w (drop from h))) = first-next p w (n - k) (drop from h) (omega arith) t in
-      let f : firstOf p w (n - k - 1) (drop w (drop from h)) ≡ firstOf p w (n - (k + 1)) (drop (from + w) h) = ap₂ (λ (m : ℕ) (l : List ℕ). firstOf p w m l) (next-left n k b) (next-words w from h) in
+      let f : firstOf p w (n - k - 1) (drop w (drop from h)) ≡ firstOf p w (n - (k + 1)) (drop (from + w) h) = ap₂ (λ (m : ℕ) (l : List ℕ). firstOf p w m l) (next-left n k b) (drop-drop w from h) in
       omega arith
 
   pub search-none : (k from : ℕ) → n ≤ k → k ≤ n → k + firstOf p w (n - k) (drop from h) ≡ k
@@ -79,13 +76,13 @@ module _ (p : List ℕ → Bool) (w n : ℕ) where
     pub pack-goes : (to : ℕ) → p (drop from h) ≡ false → writtenFrom to (later h) h ≡ writtenFrom to (keptWords p w (n - k) (drop from h)) h
     pack-goes to t =
         let e = kept-goes p w (n - k) (drop from h) (omega arith) t .1 in
-        let f : keptWords p w (n - k - 1) (drop w (drop from h)) ≡ later h = ap₂ (λ (m : ℕ) (l : List ℕ). keptWords p w m l) (next-left n k b) (next-words w from h) in
+        let f : keptWords p w (n - k - 1) (drop w (drop from h)) ≡ later h = ap₂ (λ (m : ℕ) (l : List ℕ). keptWords p w m l) (next-left n k b) (drop-drop w from h) in
         ap (λ (l : List ℕ). writtenFrom to l h) (sym (e ∙ f))
 
     pub count-goes : (kept : ℕ) → p (drop from h) ≡ false → kept + keptCount p w (n - (k + 1)) (drop (from + w) h) ≡ kept + keptCount p w (n - k) (drop from h)
     count-goes kept t =
         let e = kept-goes p w (n - k) (drop from h) (omega arith) t .0 in
-        let f : keptCount p w (n - k - 1) (drop w (drop from h)) ≡ keptCount p w (n - (k + 1)) (drop (from + w) h) = ap₂ (λ (m : ℕ) (l : List ℕ). keptCount p w m l) (next-left n k b) (next-words w from h) in
+        let f : keptCount p w (n - k - 1) (drop w (drop from h)) ≡ keptCount p w (n - (k + 1)) (drop (from + w) h) = ap₂ (λ (m : ℕ) (l : List ℕ). keptCount p w m l) (next-left n k b) (drop-drop w from h) in
         ap (λ (m : ℕ). kept + m) (sym (e ∙ f))
 
     -- the next stays, and its words have moved to where the next one goes
@@ -108,7 +105,7 @@ module _ (p : List ℕ → Bool) (w n : ℕ) where
       kept-is : keptWords p w (n - k) (drop from h) ≡ group ++ later h
       kept-is =
           let e = kept-stays p w (n - k) (drop from h) (omega arith) t .1 in
-          let f : keptWords p w (n - k - 1) (drop w (drop from h)) ≡ later h = ap₂ (λ (m : ℕ) (l : List ℕ). keptWords p w m l) (next-left n k b) (next-words w from h) in
+          let f : keptWords p w (n - k - 1) (drop w (drop from h)) ≡ later h = ap₂ (λ (m : ℕ) (l : List ℕ). keptWords p w m l) (next-left n k b) (drop-drop w from h) in
           let i : from + w - from ≡ w = omega arith in
           let g : group ≡ take w (drop from h) = slice-take from (from + w) h (omega arith) ∙ ap (λ (m : ℕ). take m (drop from h)) i in
           e ∙ ap₂ (λ (x y : List ℕ). x ++ y) (sym g) f
@@ -125,7 +122,7 @@ module _ (p : List ℕ → Bool) (w n : ℕ) where
       pub count-stays : (kept : ℕ) → kept + 1 + keptCount p w (n - (k + 1)) (drop (from + w) moved) ≡ kept + keptCount p w (n - k) (drop from h)
       count-stays kept =
           let e = kept-stays p w (n - k) (drop from h) (omega arith) t .0 in
-          let f : keptCount p w (n - k - 1) (drop w (drop from h)) ≡ keptCount p w (n - (k + 1)) (drop (from + w) moved) = ap₂ (λ (m : ℕ) (l : List ℕ). keptCount p w m l) (next-left n k b) (next-words w from h ∙ sym moved-after) in
+          let f : keptCount p w (n - k - 1) (drop w (drop from h)) ≡ keptCount p w (n - (k + 1)) (drop (from + w) moved) = ap₂ (λ (m : ℕ) (l : List ℕ). keptCount p w m l) (next-left n k b) (drop-drop w from h ∙ sym moved-after) in
           omega arith
 
 -- the loop: kept of k groups stay, those after place from are to come, and the next that stays goes to place to

@@ -2,4 +2,3 @@ pub mod Reword
 pub mod Parts
 pub mod Tested
 pub mod Outcomes
-pub mod Rises

@@ -1,8 +1,8 @@
 -- What the parts of a pull and a new prefetch mean, by what the search for the consumer found and by its words; and the whole pull by its
 -- parts. Assumes nothing.
-use mathlib.Core.Path.{_≡_, refl, sym, ap, _∙_}
+use mathlib.Core.Path.{_≡_, refl, ap, _∙_}
 use mathlib.Core.Bool.{Bool, true, false, not}
-use mathlib.Core.List.{List, [], _∷_, _++_, append-nil}
+use mathlib.Core.List.{List, [], _∷_}
 use mathlib.Core.Option.{Option, none, some}
 use Prim.Native.Nat.{ℕ, _+_}
 use lib.Dec.{eqb, ltb}
@@ -13,9 +13,9 @@ use Rattle.definition.specs.Base.{if_then_else_}
 use Rattle.definition.specs.Types.{Kind, Id, Dest, null}
 use Rattle.definition.specs.Types as Def
 use Rattle.definition.specs.Consumer.{sendNull}
-use Rattle.definition.specs.Destination.{Out, Answer, subOf, putSub, room, prefetchAt, dispatch, setPrefetch, pulled, resumed, pullAt, pull, fired, timeoutAt, pullTimeout}
+use Rattle.definition.specs.Destination.{Out, Answer, subOf, putSub, room, prefetchAt, pulled, resumed, fired, timeoutAt, pullTimeout}
 use Rattle.definition.specs.Layout.{Row}
-use Rattle.definition.proofs.Tests.{by-test, if-true, if-false}
+use Rattle.definition.proofs.Tests.{if-true, if-false}
 use Rattle.consumers.specs.declared.Sub.{Sub}
 use Rattle.consumers.specs.Consumers.{subView}
 use Rattle.state.specs.Leaves.{silent}
@@ -167,43 +167,3 @@ module _ (i : Id) (k : Kind) (s : Sub) (f h : List Row) (t : Dest) (e : subOf i 
       timeout-by generation true c
       ∙ if-true (record { dest = putSub i (sendNull here) t; events = null (here .id) ∷ [] }) (quiet t) l
       ∙ (λ j. record { dest = nulled-is j; events = null (name-is j) ∷ [] })
-
--- ---- the calls by their parts
-
-pub prefetch-parts : (now : ℕ) (i : Id) (p : ℤ) (t : Dest) → setPrefetch now i p t ≡ dispatch now (prefetched i p t)
-unfolding setPrefetch prefetched
-prefetch-parts now i p t = refl
-
--- what a pull is answered sends after what the dispatch has sent
-pub pulled-parts : (i : Id) (timeout : ℤ) (s : Def.Sub) (r : Out) (o : Option ℕ)
-    → pulled i timeout s r o ≡ (let a = pulled i timeout s (quiet (r .dest)) o in record { answer = a .answer; dest = a .dest; events = r .events ++ a .events })
-unfolding pulled
-pulled-parts i timeout s r none = λ j. record { answer = 0; dest = r .dest; events = sym (append-nil (r .events)) j }
-pulled-parts i timeout s r (some g) = by-test (ltZ timeout (pos 0))
-    (λ c. rw c)
-    (λ c. by-test (ltZ (pos 0) timeout)
-    (λ l. rw (c, l) (λ j. record { answer = g; dest = r .dest; events = sym (append-nil (r .events)) j }))
-    (λ l. rw (c, l) (λ j. record { answer = 0; dest = r .dest; events = sym (append-nil (r .events)) j })))
-
-resumed-at : (i : Id) (timeout : ℤ) (r : Out) (o : Option Def.Sub)
-    → resumed i timeout r o ≡ (let a = resumed i timeout (quiet (r .dest)) o in record { answer = a .answer; dest = a .dest; events = r .events ++ a .events })
-unfolding resumed
-resumed-at i timeout r none = λ j. record { answer = 0; dest = r .dest; events = sym (append-nil (r .events)) j }
-resumed-at i timeout r (some s) = pulled-parts i timeout s r (s .pull)
-
-pub resumed-parts : (i : Id) (timeout : ℤ) (r : Out)
-    → resumed i timeout r (subOf i (r .dest)) ≡ record { answer = answered i timeout (r .dest) .answer; dest = answered i timeout (r .dest) .dest; events = r .events ++ answered i timeout (r .dest) .events }
-unfolding answered
-resumed-parts i timeout r = resumed-at i timeout r (subOf i (r .dest))
-
-pull-at : (now : ℕ) (i : Id) (timeout : ℤ) (t : Dest) (o : Option Def.Sub)
-    → pullAt now i timeout t o ≡ (let r = dispatch now (registeredAt i t o) in if pullsAt o then resumed i timeout r (subOf i (r .dest)) else unanswered t)
-unfolding pullAt
-pull-at now i timeout t none = refl
-pull-at now i timeout t (some s) = by-test (ltb 0 (s .prefetch)) (λ c. rw c) (λ c. rw c)
-
--- a pull: registered, dispatched, answered
-pub pull-parts : (now : ℕ) (i : Id) (timeout : ℤ) (t : Dest)
-    → pull now i timeout t ≡ (let r = dispatch now (registered i t) in if pulls i t then resumed i timeout r (subOf i (r .dest)) else unanswered t)
-unfolding pull registered pulls
-pull-parts now i timeout t = pull-at now i timeout t (subOf i t)

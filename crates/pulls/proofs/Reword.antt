@@ -2,10 +2,9 @@
 -- leaves that does no more than this and send events. Assumes nothing.
 use mathlib.Core.Path.{_≡_, refl, sym, ap, ap₂, _∙_}
 use mathlib.Core.Bool.{Bool, true}
-use mathlib.Core.List.{List, [], _∷_, _++_, append-nil, map}
+use mathlib.Core.List.{List, [], _++_, append-nil, map}
 use mathlib.Core.Option.{none, some}
-use Prim.Native.Nat.{ℕ, zero, suc, _+_, _≤_, _<_}
-use native.Mathlib.Nat.{not-suc-le-zero, le-of-suc-le-suc}
+use Prim.Native.Nat.{ℕ, suc, _+_, _≤_, _<_}
 use native.Mathlib.Omega.{arith}
 use borrow.Author.Tests.{le-leb}
 use lib.ListN.{length, take, drop, getD, set, length-set}
@@ -17,8 +16,8 @@ use Rattle.definition.specs.Destination as Destination
 use Rattle.definition.specs.Destination.{Out, putSub}
 use Rattle.definition.specs.Words.{at}
 use Rattle.definition.specs.Layout.{Row, heldAt, inflightCount, heldCount, subsAt, subRows, entryStrict, subsStrict, eventWords}
-use Rattle.definition.proofs.Tests.{and-left, and-right, and-both}
-use Rattle.definition.proofs.Lists.{all-stored}
+use Rattle.definition.proofs.Tests.{and-both}
+use Rattle.definition.proofs.Lists.{all-stored, all-at}
 use Rattle.consumers.specs.declared.Sub.{Sub}
 use Rattle.entry.specs.declared.Found.the-variants.{At, Nothing}
 use Rattle.consumers.specs.Consumers.{rowSub, subWords, subView}
@@ -34,14 +33,6 @@ use Rattle.state.specs.Fits.{fits}
 use Rattle.state.specs.Leaves.{Leaves}
 use Rattle.state.proofs.Fitting.{fits-facts, facts-fit}
 
--- ---- tests of all elements
-
-module _ {A : Type 0} (p : A → Bool) where
-  pub all-at : (l : List A) (i : ℕ) (z : A) → all p l ≡ true → i < length l → p (getD l i z) ≡ true
-  all-at [] i z h b = absurd (not-suc-le-zero b)
-  all-at (y ∷ l) zero z h b = and-left (p y) (all p l) h
-  all-at (y ∷ l) (suc i) z h b = all-at l i z (and-right (p y) (all p l) h) (le-of-suc-le-suc b)
-
 -- ---- counts within the tables
 
 pub record Within (subs : List Row) (d : Head) : Type 0 where
@@ -54,10 +45,6 @@ pub within-fits : (subs : List Row) (d : Head) (rows events : ℕ) → fits subs
 within-fits subs d rows events h =
     let f = fits-facts subs d rows events h in
     record { subs-long = f .subs-long; consumers = f .consumers; used = f .used; rows-used = f .rows-used }
-
--- what a part of a call leaves has them too
-pub within-leaves : (f : Dest → Out) (d r : Head) (subs rows events subs′ rows′ events′ : List Row) → 32 ≤ length subs → Leaves f d r subs rows events subs′ rows′ events′ → Within subs′ r
-within-leaves f d r subs rows events subs′ rows′ events′ n l = record { subs-long = omega (arith, l .subs-length); consumers = l .consumers; used = l .used; rows-used = l .rows-used }
 
 -- nothing is changed, and nothing is to be
 pub leaves-same : (f : Dest → Out) (d : Head) (subs rows events : List Row) → Within subs d

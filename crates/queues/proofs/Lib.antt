@@ -5,4 +5,3 @@ pub mod Onward
 pub mod Visiting
 pub mod Scanning
 pub mod Guard
-pub mod Parts

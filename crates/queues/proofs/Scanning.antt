@@ -127,9 +127,6 @@ module _ (now : ℕ) (subs₁ rows₁ events₁ : List Row) (d₁ : Head) (subs 
         let m : suc (d₁ .turn + k) ≡ d₁ .turn + (k + 1) = omega arith in
         ap (places (d₁ .consumers) (d₁ .turn + k)) n ∙ ap (λ (x : ℕ). i ∷ places (d₁ .consumers) x (d₁ .consumers - (k + 1))) m
 
-    pub place-is : (d .turn + k) % d₁ .consumers ≡ i
-    place-is = ap (λ (x : ℕ). (x + k) % d₁ .consumers) (g .turn)
-
     pub place-within : i < d .consumers
     place-within = let m : i < d₁ .consumers = mod-lt (d₁ .turn + k) (omega arith) in omega (arith, g .onward .consumers)
 

@@ -3,9 +3,9 @@ use mathlib.Core.Path.{_≡_, sym, ap, ap₂, _∙_}
 use mathlib.Core.Bool.{Bool, true, _&&_}
 use mathlib.Core.List.{List, [], _∷_, _++_, append-assoc, map}
 use mathlib.Core.Option.{none, some}
-use Prim.Native.Nat.{ℕ, zero, suc, _+_, _-_, _≤_, _<_}
+use Prim.Native.Nat.{ℕ, _+_, _-_, _≤_}
 use native.Mathlib.Omega.{arith}
-use lib.ListN.{length, take, drop, getD, length-append, length-drop}
+use lib.ListN.{length, take, drop, length-append, length-drop}
 use lib.Seq.{take-at, drop-at, drop-drop}
 use Rattle.words.specs.Pick.{if_then_else_}
 use Rattle.entry.specs.Entry.{entryOf}
@@ -93,8 +93,3 @@ module _ {A : Type 0} where
   pub all-without : (p : A → Bool) (l : List A) (x : A) (m : List A) → all p (l ++ x ∷ m) ≡ true → all p (l ++ m) ≡ true
   all-without p [] x m h = and-right (p x) (all p m) h
   all-without p (y ∷ l) x m h = and-both (p y) (all p (l ++ m)) (and-left (p y) (all p (l ++ x ∷ m)) h) (all-without p l x m (and-right (p y) (all p (l ++ x ∷ m)) h))
-
-pub all-at : (p : Row → Bool) (l : List Row) (i : ℕ) → all p l ≡ true → i < length l → p (getD l i []) ≡ true
-all-at p [] i h k = absurd (omega arith)
-all-at p (y ∷ l) zero h k = and-left (p y) (all p l) h
-all-at p (y ∷ l) (suc i) h k = all-at p l i (and-right (p y) (all p l) h) (omega arith)

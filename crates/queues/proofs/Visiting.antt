@@ -22,7 +22,7 @@ use Rattle.definition.specs.Destination.{Look, look, given, visitAt, visit}
 use Rattle.definition.specs.Words.{at}
 use Rattle.definition.specs.Layout.{Row, inflightAt, inflightCount, heldCount, subsAt, subRows, eventWords, entryStrict, flyingStrict, subsStrict}
 use Rattle.definition.proofs.Tests.{and-left, and-right, and-both}
-use Rattle.definition.proofs.Lists.{all-append, all-end, all-stored}
+use Rattle.definition.proofs.Lists.{all-append, all-end, all-stored, all-at}
 use Rattle.table.specs.Table.{insertRow}
 use Rattle.table.proofs.Lists.{parts}
 use Rattle.table.proofs.Laws.{insert-parts}
@@ -40,7 +40,7 @@ use Rattle.queues.specs.Look.{lone, Found, Missed}
 use Rattle.queues.specs.Give.{lookedHead, gaveHead, movedSub, Gives, Gave}
 use Rattle.queues.specs.Scan.{canTake, nextRoom, Scans, Onward, Visited}
 use Rattle.queues.proofs.Looking.{look-same}
-use Rattle.queues.proofs.Viewing.{partsView, view-parts, strict-parts, behind-length, behind-past, all-without, all-at}
+use Rattle.queues.proofs.Viewing.{partsView, view-parts, strict-parts, behind-length, behind-past, all-without}
 use Rattle.queues.proofs.Onward.{onward-same}
 
 -- ---- the definition
@@ -176,7 +176,7 @@ module _ (now i : ℕ) (d : Head) (subs rows events : List Row) (ok : Scans subs
 
   -- the next delivery numbers have room
   next-at : at 8 w + d .waiting ≤ 2 ^ 63
-  next-at = leb-true (at 8 w + d .waiting) (2 ^ 63) (ap (nextRoom (d .waiting)) (sym row-is) ∙ all-at (nextRoom (d .waiting)) ws i (ok .next) in-ws)
+  next-at = leb-true (at 8 w + d .waiting) (2 ^ 63) (ap (nextRoom (d .waiting)) (sym row-is) ∙ all-at (nextRoom (d .waiting)) ws i [] (ok .next) in-ws)
 
   next-less : (n : ℕ) → n ≤ d .waiting → all (nextRoom n) ws ≡ true
   next-less n h = all-weaker (nextRoom (d .waiting)) (nextRoom n)

@@ -21,7 +21,7 @@ use stats::Stats;
 // From there a delivery number, or a counter, can rise by a full table and is no more than 2^63.
 const NEXT_MOST: u64 = 4611686018427387904;
 
-const COUNTER_MOST: u64 = 9223372036854775296;
+const RISING_MOST: u64 = 9223372036854775296;
 
 // What a look along the waiting rows leaves: whether an entry was chosen, where it stands, where the rows in use end, and the cursor.
 struct Looked {
@@ -258,10 +258,10 @@ fn scan_tables(d: Head, subs: usize, rows: usize, events: usize) -> bool
 fn scan_counters(s: Stats) -> bool
     ensures { λ r. ⌜ r ≡ scanCounters s ⌝ }
 {
-    if COUNTER_MOST < s.expired {
+    if RISING_MOST < s.expired {
         return false;
     }
-    s.dispatched <= COUNTER_MOST
+    s.dispatched <= RISING_MOST
 }
 
 // The rows in use are those of the consumers, reserved and waiting ones.

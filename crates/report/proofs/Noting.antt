@@ -2,11 +2,11 @@
 use mathlib.Core.Path.{_≡_, refl, sym, ap, ap₂, _∙_, subst⁻¹}
 use mathlib.Core.Bool.{Bool, true, false, not, _||_}
 use mathlib.Core.List.{List, [], _∷_, _++_, map, append-assoc}
-use Prim.Native.Nat.{ℕ, zero, suc, _+_, _≤_, _<_}
+use Prim.Native.Nat.{ℕ, suc, _+_, _≤_, _<_}
 use native.Mathlib.Omega.{arith}
 use borrow.Author.Tests.{eq-eqb, ne-eqb, le-leb, lt-leb, ltb-true, ltb-false, leb-true, leb-false, le-ltb, lt-ltb}
 use lib.Dec.{leb, ltb, eqb}
-use lib.ListN.{length, take, drop, set, length-append, length-map}
+use lib.ListN.{length, take, drop, set, length-append, length-map, take-append-drop}
 use lib.Seq.{set-split, length-take-le, take-at, drop-at}
 use Rattle.definition.specs.Types.{Dest}
 use Rattle.definition.specs.Calls.{stateShort, short}
@@ -55,15 +55,10 @@ brought-one code n seq bs c h =
     set-split bs n (blockOf seq 0) (omega (arith, h, e))
     ∙ ap₂ (λ (k : ℕ) (l : List Block). take n bs ++ (l ++ drop k bs)) m (sym (if-true (blockOf seq 0 ∷ []) [] (eq-eqb code 1 c)))
 
-take-drop : (n : ℕ) (l : List Block) → l ≡ take n l ++ drop n l
-take-drop zero l = refl
-take-drop (suc n) [] = refl
-take-drop (suc n) (x ∷ l) = ap (λ (m : List Block). x ∷ m) (take-drop n l)
-
 pub brought-none : (code n seq : ℕ) (bs : List Block) → (code ≡ 1 → ⊥) → bs ≡ take n bs ++ (comes code (seq ∷ []) ++ drop (n + newBlocks code) bs)
 brought-none code n seq bs c =
     let m : n ≡ n + newBlocks code = omega (arith, coming-none code c) in
-    take-drop n bs ∙ ap₂ (λ (k : ℕ) (l : List Block). take n bs ++ (l ++ drop k bs)) m (sym (if-false (blockOf seq 0 ∷ []) [] (ne-eqb code 1 c)))
+    sym (take-append-drop n bs) ∙ ap₂ (λ (k : ℕ) (l : List Block). take n bs ++ (l ++ drop k bs)) m (sym (if-false (blockOf seq 0 ∷ []) [] (ne-eqb code 1 c)))
 
 -- ---- what is met first
 

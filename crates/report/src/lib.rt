@@ -1,10 +1,10 @@
 // The account of a queue's blocks, kept beside its calls in a lent list: where each accepted entry is, or how it left.
 ghost use mathlib.Core.Path.{_≡_};
-ghost use mathlib.Core.Bool.{true, not, _||_};
+ghost use mathlib.Core.Bool.{not, _||_};
 ghost use mathlib.Core.List.{[], _∷_, _++_};
 ghost use Prim.Native.Nat.{_+_, _≤_};
 ghost use lib.Dec.{leb};
-ghost use lib.ListN.{length, take, drop};
+ghost use lib.ListN.{take, drop};
 ghost use lib.Seq.{slice};
 ghost use Rattle.definition.specs.Base.{all, tally};
 ghost use Rattle.definition.specs.Types.{queue};
@@ -15,6 +15,7 @@ ghost use Rattle.state.specs.State.{headView};
 ghost use Rattle.fates.specs.Blocks.{ackedAs, leavesAs, heldAs, blockMoved, comes};
 ghost use Rattle.sound.specs.Sound.{lent};
 ghost use Rattle.report.specs.Report.{isAtPlace, newBlocks, reportBarred, asNoted, notedIn, missed, HeldNumbers};
+use calls::Call;
 use consumers::BROWSER;
 use consumers::HELD;
 use consumers::INFLIGHT;
@@ -49,15 +50,6 @@ pub struct Noted {
     pub count: usize,
 }
 
-// The codes that a block can come or leave by, besides the clock.
-const OPEN: u64 = 0;
-
-const ENQUEUE: u64 = 1;
-
-const ACK: u64 = 4;
-
-const CLEAR: u64 = 10;
-
 // ---- how a block leaves
 
 // An acknowledgement's own removals, by the byte of its type.
@@ -77,10 +69,10 @@ fn acked_as(kind: u64) -> u64
 fn leaves_as(code: u64, word: u64, waited: bool) -> u64
     ensures { λ r. ⌜ r ≡ leavesAs code word waited ⌝ }
 {
-    if code == CLEAR {
+    if code == Call::CLEAR {
         return CLEARED;
     }
-    if code != ACK {
+    if code != Call::ACK {
         return EXPIRED;
     }
     if waited {
@@ -188,7 +180,7 @@ fn has_room(code: u64, n: usize, room: usize) -> bool
     if room < n {
         return false;
     }
-    if code != ENQUEUE {
+    if code != Call::ENQUEUE {
         return true;
     }
     n < room
@@ -216,7 +208,7 @@ fn bring(blocks: &mut [Block], n: usize, code: u64, seq: u64) -> usize
     ensures { λ r. ⌜ r ≡ n + newBlocks code ⌝ }
     ensures { λ r. ⌜ now (blocks .exit) ≡ take n (now (blocks .entry)) ++ (comes code (seq ∷ []) ++ drop (n + newBlocks code) (now (blocks .entry))) ⌝ }
 {
-    if code != ENQUEUE {
+    if code != Call::ENQUEUE {
         return n;
     }
     blocks[n] = [seq, WAITING];
@@ -241,7 +233,7 @@ pub fn note(
     if refusal != 0 {
         return Noted { refusal, count: 0 };
     }
-    if code == OPEN {
+    if code == Call::OPEN {
         return Noted {
             refusal: 0,
             count: 0,

@@ -120,7 +120,3 @@ module _ (id : Id) (a : Ack) (t : Dest) (last : ℕ) where
   pub takes-reserved : (r : AckRule) → r ≡ ackRule (a .type) → taking id (r .counts) (wantedOf (r .reserved) (a .first) last) t ≡ ackReserved id a t (some last)
   unfolding ackRule ackReserved
   takes-reserved r e = ap (λ (x : AckRule). taking id (x .counts) (wantedOf (x .reserved) (a .first) last) t) e ∙ by-type (ackType (a .type))
-
-pub takes-none : (id : Id) (a : Ack) (t : Dest) → ackReserved id a t none ≡ record { dest = t; events = [] }
-unfolding ackReserved
-takes-none id a t = refl

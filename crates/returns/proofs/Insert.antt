@@ -18,13 +18,13 @@ use Rattle.table.specs.Table.{placeFrom}
 use Rattle.table.proofs.Search.{place-from-within}
 
 module _ (e f : Entry) (fs : List Entry) where
-  insert-less : e .seq < f .seq → insert e (f ∷ fs) ≡ e ∷ f ∷ fs
+  pub insert-less : e .seq < f .seq → insert e (f ∷ fs) ≡ e ∷ f ∷ fs
   insert-less h = rw (lt-ltb (e .seq) (f .seq) h)
 
   insert-over : e .seq ≡ f .seq → insert e (f ∷ fs) ≡ e ∷ fs
   insert-over h = rw (le-ltb (e .seq) (f .seq) (omega arith), eq-eqb (e .seq) (f .seq) h)
 
-  insert-later : f .seq < e .seq → insert e (f ∷ fs) ≡ f ∷ insert e fs
+  pub insert-later : f .seq < e .seq → insert e (f ∷ fs) ≡ f ∷ insert e fs
   insert-later h = rw (le-ltb (e .seq) (f .seq) (omega arith), ne-eqb (e .seq) (f .seq) (λ q. omega arith))
 
 module _ (row : Row) (e : Entry) (is : entryOf row ≡ e) where

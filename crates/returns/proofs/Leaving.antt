@@ -12,7 +12,7 @@ use lib.ListN.{length, take, drop, getD}
 use lib.Seq.{slice, length-slice, length-take-le, drop-drop, take-take, getD-take}
 use Rattle.model.specs.Model.{idOf}
 use Rattle.definition.specs.Base.{if_then_else_, all}
-use Rattle.definition.specs.Types.{Kind, queue, Id, Audit, Dest}
+use Rattle.definition.specs.Types.{Kind, Id, Audit, Dest}
 use Rattle.definition.specs.Types as Def
 use Rattle.definition.specs.Consumer.{isBrowser}
 use Rattle.definition.specs.Destination.{isId, without, dropSub, returning}

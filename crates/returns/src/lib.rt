@@ -2,7 +2,7 @@
 ghost use mathlib.Core.Path.{_≡_};
 ghost use mathlib.Core.List.{List, [], _∷_};
 ghost use Prim.Native.Nat.{_+_, _-_, _≤_, _<_, _^_};
-ghost use mathlib.Core.Bool.{true, false, not, _&&_};
+ghost use mathlib.Core.Bool.{true, not, _&&_};
 ghost use lib.Dec.{eqb, ltb};
 ghost use lib.ListN.{length, take, getD};
 ghost use Rattle.model.specs.Model.{idOf, sameId};

@@ -10,55 +10,6 @@ use libc::STDIN_FILENO;
 use libc::STDOUT_FILENO;
 use state::Event;
 
-// ---- reading
-
-// How many bytes came, and whether a read failed.
-struct Input {
-    got: usize,
-    failed: bool,
-}
-
-// One read, and another where a signal has interrupted it.
-fn read_some(fd: i32, part: &mut [u8]) -> Input
-    ensures { λ r. ⌜ r .got ≤ length (now (part .entry)) ⌝ }
-{
-    let mut turns = 18446744073709551615u64;
-    while 0 < turns {
-        let n = libc::read(fd, part);
-        if 0 <= n {
-            let got = io::count(n, part);
-            return Input { got, failed: false };
-        }
-        if os::errno() != libc::EINTR {
-            return Input {
-                got: 0,
-                failed: true,
-            };
-        }
-        turns -= 1;
-    }
-    Input {
-        got: 0,
-        failed: true,
-    }
-}
-
-// Reads until the block is full, the input ends or a read fails.
-fn read_block(fd: i32, block: &mut [u8]) -> Input {
-    let mut got = 0;
-    while got < block.len() {
-        let r = read_some(fd, &mut block[got..]);
-        if r.failed {
-            return Input { got, failed: true };
-        }
-        if r.got == 0 {
-            return Input { got, failed: false };
-        }
-        got += r.got;
-    }
-    Input { got, failed: false }
-}
-
 // ---- writing
 
 // One write, and another where a signal has interrupted it; 0 where it failed.
@@ -117,17 +68,17 @@ fn next_block(
     number: u64,
 ) -> Next {
     let mut block = [0u8; 512];
-    let r = read_block(fd, &mut block);
-    if r.failed {
+    let g = reading::read_on(fd, &mut block, 0);
+    if g.how == reading::FAILED {
         os::fail(b"runcalls: input");
-    } else if r.got == 0 {
+    } else if g.n == 0 {
         return Next {
             index,
             goes_on: false,
             written: true,
         };
     }
-    let ran = running::run_block(head, subs, rows, events, &block, r.got, index, number, out);
+    let ran = running::run_block(head, subs, rows, events, &block, g.n, index, number, out);
     let written = write(out, ran.written);
     Next {
         index: ran.index,
@@ -191,13 +142,6 @@ fn usage(fd: i32) {
     );
 }
 
-fn is_help(name: &[u8]) -> bool {
-    if name.len() != 6 {
-        return false;
-    }
-    name[1] == b'-' && name[2] == b'h' && name[3] == b'e' && name[4] == b'l' && name[5] == b'p'
-}
-
 fn run_file(name: &[u8]) {
     let fd = os::open_read(name);
     if fd < 0 {
@@ -214,7 +158,7 @@ fn run_named(name: &[u8]) {
         usage(STDERR_FILENO);
     } else if name[0] != b'-' {
         run_file(name);
-    } else if is_help(name) {
+    } else if textwords::same(name, b"--help") {
         usage(STDOUT_FILENO);
     } else {
         usage(STDERR_FILENO);

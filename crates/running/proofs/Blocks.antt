@@ -2,24 +2,24 @@
 use Prim.Native.Nat.{ℕ, suc, _+_, _*_, _-_, _≤_, _<_}
 use native.Mathlib.Omega.{arith}
 use mathlib.Core.Path.{_≡_, refl, sym, ap, ap₂, _∙_, subst, subst⁻¹}
-use mathlib.Core.Bool.{Bool, true, false, _&&_, _||_, true≢false, or-false, or-assoc}
+use mathlib.Core.Bool.{Bool, true, false, _||_, true≢false, or-false, or-assoc}
 use mathlib.Core.List.{List, [], _++_, append-assoc, append-nil}
-use borrow.Author.Tests.{eqb-true, eqb-false, eq-eqb, ne-eqb, lt-ltb, le-ltb, leb-true}
-use lib.Dec.{eqb, leb}
+use borrow.Author.Tests.{eqb-true, eqb-false, eq-eqb, ne-eqb, lt-ltb, le-ltb}
 use lib.ListN.{length}
 use Rattle.definition.specs.Calls.{Lengths, Result}
 use Rattle.definition.specs.Layout.{Row, Buffers, soundBuffers, lengthsOf, bufferStep}
-use Rattle.definition.proofs.Tests.{by-test, by-if, if-true, if-false, and-left, and-right, or-no-left, or-no-right}
+use Rattle.definition.proofs.Tests.{by-test, if-true, if-false, or-no-left, or-no-right}
 use Rattle.stats.specs.Counted.{more}
 use Rattle.calls.specs.declared.Call.{Call}
 use Rattle.engine.specs.Called.{Past, Called}
-use Rattle.callfile.specs.Blocks.{numberAt, check, good, callsIn, callAt}
+use Rattle.callfile.specs.Blocks.{callsIn, callAt}
 use Rattle.callfile.specs.Lines.{badLine}
 use Rattle.callfile.specs.Placed.{Puts, PutLine}
-use Rattle.callfile.proofs.Parts.{then, line-puts}
+use Rattle.callfile.proofs.Parts.{then, line-puts, none-put}
+use Rattle.callfile.proofs.Digits.{bad-length}
 use Rattle.running.specs.declared.Ran.{Ran}
 use Rattle.running.specs.Running.{callLines, LentState, lentBy, accepted, stepOn, leftBy, outcomeOf, Run, followedRun, runCalls, blockCalls, ends, runBlock, Runs}
-use Rattle.running.proofs.Texts.{bad-length, first-next, first-text, none-put}
+use Rattle.running.proofs.Texts.{first-next, first-text}
 use Rattle.running.proofs.Called.{step-by, sends, text-length, left}
 
 -- ---- the definition, a call at a time
@@ -64,7 +64,7 @@ none-yet block count from b events out = record {
   text = [];
   changed = false;
   passed = omega arith;
-  put = none-put out 0;
+  put = none-put 0 out;
   small = omega arith;
   rest = ap (λ (n : ℕ). runCalls (lengthsOf b (length events)) (blockCalls 0 n block) from (lentBy b events)) minus;
   leaves-sound = λ e. absurd (true≢false (sym e));
@@ -158,19 +158,6 @@ module _ (block : List ℕ) (count from : ℕ) (b₀ : Buffers) (events₀ : Lis
 
 -- ---- a block, from its tests on
 
-abbrev wholeBlock : List ℕ → ℕ → Bool
-wholeBlock block got = leb 512 (length block) && eqb got 512
-
-abbrev checked : List ℕ → Bool
-checked block = eqb (numberAt 508 block) (check block)
-
-pub few-calls : (block : List ℕ) (got : ℕ) → callsIn block got ≤ 7
-unfolding callsIn good
-few-calls block got = by-if (λ (n : ℕ). n ≤ 7) (good block got) (numberAt 504 block) 0
-    (λ h. let few = leb (numberAt 504 block) 7 in
-    leb-true (numberAt 504 block) 7 (and-right (wholeBlock block got) few (and-left (wholeBlock block got && few) (checked block) (and-left (wholeBlock block got && few && checked block) (leb 1 (numberAt 504 block)) h))))
-    (λ _. omega arith)
-
 module _ (l : Lengths) (block : List ℕ) (got index number : ℕ) (b : Buffers) (events : List Row) (out : List ℕ) where
   abbrev run : Run
   run = runBlock l (length out) block got index number (lentBy b events)
@@ -190,7 +177,7 @@ module _ (l : Lengths) (block : List ℕ) (got index number : ℕ) (b : Buffers)
 
   pub no-room : length out < 489216 → Runs run b b events events out out (record { index = index; written = 0; «goes_on» = false })
   unfolding runBlock
-  no-room h = ended [] out 0 (if-true _ _ (lt-ltb (length out) 489216 h)) (none-put out 0) (omega arith)
+  no-room h = ended [] out 0 (if-true _ _ (lt-ltb (length out) 489216 h)) (none-put 0 out) (omega arith)
 
   module _ (room : 489216 ≤ length out) (count : ℕ) (counted : count ≡ callsIn block got) where
     pub bad-block : count ≡ 0 → {out′ : List ℕ} {r : ℕ} → PutLine 128 (badLine number) 0 out r out′ → Runs run b b events events out out′ (record { index = index; written = r; «goes_on» = false })

@@ -11,15 +11,15 @@ use lib.IntN.{ℤ, pos, negsuc}
 use mir.Syntax.{w64}
 use mir.Val.{SFits}
 use borrow.Author.Tests.{ltb-true}
-use Rattle.definition.specs.Base.{if_then_else_, all, nth, empty}
+use Rattle.definition.specs.Base.{all, nth, empty}
 use Rattle.definition.specs.Types.{Kind, queue, topic, Id, Entry, Sub, Dest, Event, null, withPending, withSubs, withCursor}
-use Rattle.definition.specs.Consumer.{expired, accepts, isBrowser, snapshot, hasCredit, send, sent, Step, meetTopic, drainTopic, serveTopic, atRest, Browse, meetBrowser, closeBrowser, drainBrowser, dispatchBrowser}
+use Rattle.definition.specs.Consumer.{expired, accepts, isBrowser, snapshot, hasCredit, send, sent, Step, meetTopic, drainTopic, serveTopic, atRest, Browse, meetBrowser, closeBrowser, drainBrowser}
 use Rattle.definition.specs.Destination.{count, Out, Look, look, Turn, given, visitAt, visit, scan, turns, rounds, Browsed, browsers, dispatchQueue, serveAll, dispatchTopic, dispatchBy}
 use Rattle.definition.specs.Calls.{word, signedWithin, idOk, entryOk}
 use Rattle.definition.proofs.Tests.{by-if, by-test, and-left, and-right, and-both}
 use Rattle.definition.proofs.Lists.{none-some, some-inj, All, all-keep, all-stored}
 use Rattle.definition.proofs.Thin.{every-all}
-use Rattle.definition.proofs.Local.{alone}
+use Rattle.definition.proofs.Local.{alone, browsed}
 use Rattle.callfile.proofs.Events.{EventFits}
 
 -- ---- numbers
@@ -106,9 +106,6 @@ browses now [] b a g = by-if Browsing (hasCredit (b .sub)) _ _ (λ c. closes b g
 browses now (e ∷ es) b a g = by-if Browsing (hasCredit (b .sub)) _ _
     (λ c. browses now es (meetBrowser now e es b) (and-right (entryOk e) _ a) (shows now e es b (and-left (entryOk e) _ a) g))
     (λ c. g)
-
-abbrev browsed : ℕ → List Entry → Sub → Browse
-browsed now p s = if isBrowser s then dispatchBrowser now p s else alone p s
 
 browses-one : (now : ℕ) (p : List Entry) (s : Sub) → Ready s → all entryOk p ≡ true → Browsing (browsed now p s)
 browses-one now p s a h = by-if Browsing (isBrowser s) _ _

@@ -1,7 +1,7 @@
 -- Lines put one after another: how long they are, and that each has room. Assumes nothing.
 use Prim.Native.Nat.{ℕ, _+_, _*_, _≤_, _<_}
 use native.Mathlib.Numerals.{add-one}
-use native.Mathlib.Nat.{add-zero, zero-add}
+use native.Mathlib.Nat.{zero-add}
 use native.Mathlib.Omega.{arith}
 use mathlib.Core.Path.{_≡_, refl, sym, ap, ap₂, _∙_, subst}
 use mathlib.Core.List.{List, [], _∷_, _++_, map, append-assoc, append-nil}
@@ -11,11 +11,11 @@ use lib.ListN.{length, take, drop, getD, length-append, length-take}
 use lib.Seq.{sets-eq, take-suc}
 use Rattle.definition.specs.Types.{Event, letter, message, null}
 use Rattle.definition.specs.Layout.{Row, eventWords}
-use Rattle.callfile.specs.Lines.{callLine, eventLine, eventAt, eventLineOf, wordsLine, badLine}
+use Rattle.callfile.specs.Lines.{callLine, eventLine, eventAt, eventLineOf, wordsLine}
 use Rattle.callfile.specs.Placed.{Puts, PutLine}
 use Rattle.callfile.proofs.Digits.{word-length, signed-length}
 use Rattle.callfile.proofs.Events.{event-line}
-use Rattle.callfile.proofs.Parts.{then, line-puts}
+use Rattle.callfile.proofs.Parts.{then, line-puts, none-put}
 use Rattle.running.specs.Running.{eventsText, eventRowsText}
 use Rattle.running.proofs.Ranges.{Fits}
 
@@ -24,10 +24,6 @@ use Rattle.running.proofs.Ranges.{Fits}
 pub call-length : (index refusal answer : ℕ) → length (callLine index refusal answer) ≤ 128
 unfolding callLine
 call-length index refusal answer = simp length-append (omega (arith, word-length index, word-length refusal, word-length answer))
-
-pub bad-length : (k : ℕ) → length (badLine k) ≤ 128
-unfolding badLine
-bad-length k = simp length-append (omega (arith, word-length k))
 
 event-length : (e : Event) → length (eventLine e) ≤ 128
 unfolding eventLine
@@ -68,14 +64,11 @@ module _ {text l l′ : List ℕ} {r : ℕ} (p : Puts text 0 l r l′) where
   pub first-text : length text ≤ length l → l′ ≡ text ++ drop (length text) l
   first-text h = p .text ∙ sets-eq text l 0 (rw zero-add h) ∙ ap (λ (k : ℕ). text ++ drop k l) (zero-add (length text))
 
-pub none-put : (l : List ℕ) (at : ℕ) → Puts [] at l at l
-none-put l at = record { text = refl; next = sym (add-zero at); same = refl }
-
 -- ---- the lines of events
 
 pub no-lines : (l : List ℕ) (at : ℕ) → Puts (eventRowsText []) at l at l
 unfolding eventRowsText
-no-lines l at = none-put l at
+no-lines l at = none-put at l
 
 rows-last : (ws : List Row) (w : Row) → eventRowsText (ws ++ w ∷ []) ≡ eventRowsText ws ++ wordsLine w
 unfolding eventRowsText

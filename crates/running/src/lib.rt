@@ -1,6 +1,5 @@
 // What a run of a call file prints: a block's calls on a lent state, each with its line and those of its events, and at the end the counters.
 ghost use mathlib.Core.Path.{_≡_};
-ghost use mathlib.Core.List.{_++_};
 ghost use Prim.Native.Nat.{_+_, _*_, _≤_};
 ghost use lib.ListN.{length, take, getD};
 ghost use Rattle.definition.specs.Layout.{statsAt, lengthsOf, bufferStep};

@@ -4,13 +4,13 @@ use mathlib.Core.Bool.{Bool, true, false, _&&_, and-false, and-assoc, and-comm}
 use mathlib.Core.List.{List, [], _∷_, _++_}
 use Prim.Native.Nat.{ℕ, suc, _+_, _%_, _≤_, _<_}
 use native.Mathlib.Nat.{add-comm}
-use native.Mathlib.Numerals.{add-one}
 use native.Mathlib.Omega.{arith}
 use borrow.Author.Tests.{eqb-true, eq-eqb, eqb-false, le-leb}
 use lib.Dec.{leb, eqb}
 use lib.ListN.{length, take, take-append-drop, getD, set, replicate, getD-replicate, length-replicate, length-set}
-use lib.Seq.{slice, slice-cons, take-suc, getD-set-same, getD-set-other, length-take-le}
+use lib.Seq.{slice, slice-cons, getD-set-same, getD-set-other, length-take-le}
 use Rattle.words.proofs.Tests.{by-test}
+use Rattle.words.proofs.Lists.{take-next}
 use Rattle.definition.specs.Base.{if_then_else_, all, tally}
 use Rattle.definition.specs.Types.{Entry}
 use Rattle.definition.specs.Calls.{rowsFrom, withinShare}
@@ -80,12 +80,8 @@ within-conns share l = each-conns share l l
 
 -- ---- the loops, a turn at a time
 
--- one more
-next : (xs : List ℕ) (i : ℕ) → i < length xs → take (i + 1) xs ≡ take i xs ++ (getD xs i 0 ∷ [])
-next xs i h = ap (λ (n : ℕ). take n xs) (add-one i) ∙ take-suc xs i 0 h
-
 tally-next : (p : ℕ → Bool) (xs : List ℕ) (i : ℕ) → i < length xs → tally p (take (i + 1) xs) ≡ tally p (take i xs) + (if p (getD xs i 0) then 1 else 0)
-tally-next p xs i h = ap (tally p) (next xs i h) ∙ tally-append p (take i xs) (getD xs i 0 ∷ []) ∙ by-test (p (getD xs i 0)) (λ t. rw t (omega arith)) (λ t. rw t (omega arith))
+tally-next p xs i h = ap (tally p) (take-next xs i 0 h) ∙ tally-append p (take i xs) (getD xs i 0 ∷ []) ∙ by-test (p (getD xs i 0)) (λ t. rw t (omega arith)) (λ t. rw t (omega arith))
 
 pub tally-hit : (p : ℕ → Bool) (xs : List ℕ) (i : ℕ) → i < length xs → p (getD xs i 0) ≡ true → tally p (take (i + 1) xs) ≡ tally p (take i xs) + 1
 tally-hit p xs i h t = tally-next p xs i h ∙ rw t
@@ -94,7 +90,7 @@ pub tally-miss : (p : ℕ → Bool) (xs : List ℕ) (i : ℕ) → i < length xs 
 tally-miss p xs i h t = tally-next p xs i h ∙ rw t (omega arith)
 
 pub all-next : (p : ℕ → Bool) (xs : List ℕ) (i : ℕ) → i < length xs → all p (take i xs) ≡ true → p (getD xs i 0) ≡ true → all p (take (i + 1) xs) ≡ true
-all-next p xs i h a t = ap (all p) (next xs i h) ∙ all-append p (take i xs) (getD xs i 0 ∷ []) ∙ rw (a, t)
+all-next p xs i h a t = ap (all p) (take-next xs i 0 h) ∙ all-append p (take i xs) (getD xs i 0 ∷ []) ∙ rw (a, t)
 
 pub all-fails : (p : ℕ → Bool) (xs : List ℕ) (i n : ℕ) → i < n → n ≤ length xs → p (getD xs i 0) ≡ false → all p (take n xs) ≡ false
 all-fails p xs i n h k t =

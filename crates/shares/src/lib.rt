@@ -7,9 +7,6 @@ ghost use lib.ListN.{take};
 ghost use Rattle.definition.specs.Base.{tally};
 ghost use Rattle.shares.specs.Shares.{withinEach};
 
-// The most rows of a destination.
-const MANY: usize = 512;
-
 // How many of the first n are x.
 fn count_of(xs: &[u64], n: usize, x: u64) -> usize
     requires { do ⌜ n ≤ (← ⟦xs.len()⟧) ⌝ }
@@ -72,7 +69,7 @@ pub fn within(xs: &[u64], n: usize, share: u64) -> bool
     if n as u64 <= share {
         return true;
     }
-    if MANY < n {
+    if entry::ROWS < n {
         return each_within(xs, n, share);
     }
     if crowded(xs, n, share) {

@@ -3,63 +3,6 @@ use libc::STDERR_FILENO;
 use libc::STDIN_FILENO;
 use libc::STDOUT_FILENO;
 
-// How a read ended: the buffer is full, the input has ended, or the read failed. AGAIN: it goes on.
-const FULL: u64 = 0;
-
-const END: u64 = 1;
-
-const FAILED: u64 = 2;
-
-const AGAIN: u64 = 3;
-
-// How many bytes stand in the buffer, and how the read ended.
-struct Got {
-    n: usize,
-    how: u64,
-}
-
-// ---- reading
-
-// One read, behind the bytes that stand in the buffer.
-fn read_once(fd: i32, buf: &mut [u8], at: usize) -> Got {
-    if buf.len() <= at {
-        return Got { n: at, how: FULL };
-    }
-    let got = libc::read(fd, &mut buf[at..]);
-    if got == 0 {
-        return Got { n: at, how: END };
-    }
-    if got < 0 {
-        if os::errno() == libc::EINTR {
-            return Got { n: at, how: AGAIN };
-        }
-        return Got { n: at, how: FAILED };
-    }
-    let n = io::count(got, buf);
-    if buf.len() - at < n {
-        return Got { n: at, how: FAILED };
-    }
-    Got {
-        n: at + n,
-        how: AGAIN,
-    }
-}
-
-// Reads until the buffer is full or the input ends.
-fn read_on(fd: i32, buf: &mut [u8], have: usize) -> Got {
-    let mut n = have;
-    let mut turns = 18446744073709551615u64;
-    while 0 < turns {
-        let g = read_once(fd, buf, n);
-        if g.how != AGAIN {
-            return g;
-        }
-        n = g.n;
-        turns -= 1;
-    }
-    Got { n, how: FAILED }
-}
-
 // ---- writing
 
 // The first bytes of a text.
@@ -85,9 +28,9 @@ fn show_block(block: &[u8], got: usize, number: u64) -> bool {
 // Shows a block; whether another may follow. One that could not be read whole is a bad one.
 fn show_next(fd: i32, number: u64) -> bool {
     let mut block = [0u8; 512];
-    let g = read_on(fd, &mut block, 0);
+    let g = reading::read_on(fd, &mut block, 0);
     let n = g.n;
-    if g.how == FAILED {
+    if g.how == reading::FAILED {
         os::fail(b"showcalls: cannot read");
         show_block(&block, 0, number);
         return false;

@@ -1,6 +1,10 @@
 // Whether lent buffers are long enough, and the layout of a sound state.
 use audit::Audit;
+use entry::ALLOWANCE_MOST;
+use entry::CALLS_MOST;
 use entry::Row;
+use entry::SEQ_END;
+use entry::SIZE_END;
 ghost use mathlib.Core.Path.{_≡_};
 ghost use mathlib.Core.Bool.{true, false, not, _&&_, _||_};
 ghost use mathlib.Core.List.{[], _++_};
@@ -20,15 +24,6 @@ ghost use Rattle.shares.specs.Shares.{conns};
 ghost use Rattle.sound.specs.Sound.{limitsOk, countsOk, marksOk, headOk, rowOk, rowAfter, RowForm, flightOk, holderOk, flyingOk, sortedOk, wordTests, ownOk, eachOk, kindBy, idsApart, seqsAt, heldSeqs, heldRise, SameFrom, Met, apartBy, rowsUpTo, queueSeqs, queueApart, HubAt, SameRows, sizesAt, AlikeBy, tablesOk, connsAt, ownConns, sharesAt, lent, restOk};
 
 type SubRow = [u64; 16];
-
-const CALLS_MOST: u64 = 1099511627776;
-
-// A day.
-const ALLOWANCE_MOST: u64 = 86400000;
-
-const SEQ_END: u64 = 9223372036854775808;
-
-const SIZE_END: u64 = 4294967296;
 
 const PREFETCH_END: u64 = 2147483648;
 

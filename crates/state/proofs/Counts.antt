@@ -58,17 +58,8 @@ module _ (subs rows : List Row) (producers : List Id) (audits : List Audit) wher
   pub enqueued-view : (d : Head) → d .stats .enqueued < top → viewed (withCounters (withEnqueued (d .stats)) d) ≡ count (addEnqueued 1) (viewed d)
   enqueued-view d h = counted-view _ _ d (enqueued-plain (d .stats) h)
 
-  pub dequeued-view : (d : Head) (k : ℕ) → d .stats .dequeued + k ≤ top → viewed (withCounters (withDequeuedBy (d .stats) k) d) ≡ count (addDequeued k) (viewed d)
-  dequeued-view d k h = counted-view _ _ d (dequeued-plain (d .stats) k h)
-
   pub expired-view : (d : Head) (k : ℕ) → d .stats .expired + k ≤ top → viewed (withCounters (withExpiredBy (d .stats) k) d) ≡ count (addExpired k) (viewed d)
   expired-view d k h = counted-view _ _ d (expired-plain (d .stats) k h)
-
-  pub discarded-view : (d : Head) (k : ℕ) → d .stats .discarded + k ≤ top → viewed (withCounters (withDiscardedBy (d .stats) k) d) ≡ count (addDiscarded k) (viewed d)
-  discarded-view d k h = counted-view _ _ d (discarded-plain (d .stats) k h)
-
-  pub dispatched-view : (d : Head) → d .stats .dispatched < top → viewed (withCounters (withDispatched (d .stats)) d) ≡ count (addDispatched 1) (viewed d)
-  dispatched-view d h = counted-view _ _ d (dispatched-plain (d .stats) h)
 
   -- one call more
   pub used-view : (d : Head) → d .«calls_used» < top → viewed (withUsedCalls (more (d .«calls_used»)) d) ≡ used (viewed d)

@@ -187,9 +187,6 @@ module _ (b : Buffers) (events : ℕ) (long : Long b events) (s : soundBuffers b
   pub sound-loaded : loaded h (b .subs) ≡ headOf h (usedRows b)
   sound-loaded = loaded-used h (b .subs) (long .head) (counts .3)
 
-  pub sound-fits : fits (b .subs) (loaded h (b .subs)) (length (b .rows)) events ≡ true
-  sound-fits = ap (λ (d : Head). fits (b .subs) d (length (b .rows)) events) sound-loaded ∙ facts-fit (b .subs) (headOf h (usedRows b)) (length (b .rows)) events sound-facts
-
   -- and strict
   pub sound-strict : strictTables (headOf h (usedRows b)) (b .subs) (b .rows) ≡ true
   unfolding soundBuffers formed

@@ -6,7 +6,6 @@ use Prim.Native.Nat.{ℕ, _≤_}
 use native.Mathlib.Omega.{arith}
 use lib.ListN.{length, take}
 use Rattle.definition.specs.Types.{Id, Audit, Dest}
-use Rattle.definition.specs.Types as Def
 use Rattle.definition.specs.Destination.{Out, touchIdle}
 use Rattle.definition.specs.Layout.{Row, eventWords}
 use Rattle.definition.proofs.Lists.{agree-later}

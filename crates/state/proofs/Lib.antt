@@ -5,3 +5,4 @@ pub mod Fitting
 pub mod Leaves
 pub mod Ready
 pub mod Answers
+pub mod Parts

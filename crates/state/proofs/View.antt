@@ -6,7 +6,7 @@ use mathlib.Core.List.{List, [], _∷_, _++_}
 use mathlib.Core.Option.{Option, none, some}
 use Prim.Native.Nat.{ℕ, zero, suc, _+_, _≤_}
 use native.Mathlib.Omega.{arith}
-use borrow.Author.Tests.{lt-ltb, le-ltb}
+use borrow.Author.Tests.{le-ltb}
 use lib.Dec.{eqb, leb, eqb·suc-zero}
 use lib.ListN.{length, take, drop, set, length-drop, length-set}
 use lib.Seq.{drop-drop, drop-set-lt, getD-drop, getD-set-same, getD-set-other, set-getD}
@@ -14,7 +14,7 @@ use Rattle.words.proofs.Words.{flag-of-word}
 use Rattle.definition.specs.Base.{if_then_else_, every, empty}
 use Rattle.definition.proofs.Tests.{by-if}
 use Rattle.definition.proofs.Thin.{every-all}
-use Rattle.definition.specs.Types.{Kind, queue, Id, Audit, Dest}
+use Rattle.definition.specs.Types.{Kind, Id, Audit, Dest}
 use Rattle.definition.specs.Types as Def
 use Rattle.definition.specs.Destination.{idleMark, touchIdle}
 use Rattle.definition.specs.Words.{at, kindOf}
@@ -23,7 +23,7 @@ use Rattle.definition.proofs.Lists.{empty-length, empty-map}
 use Rattle.definition.specs.Queries.{isQueue}
 use Rattle.consumers.proofs.Strict.{mark-byte}
 use Rattle.state.specs.declared.Head.{Head}
-use Rattle.state.specs.State.{headOf, headWords, headView, strictTables, usedOf, loaded, storedHead, kindBy, kindWord, withEvents, withIdleMark, notIdle, touched}
+use Rattle.state.specs.State.{headOf, headWords, headView, strictTables, usedOf, loaded, storedHead, kindBy, kindWord, withIdleMark, notIdle, touched}
 
 -- ---- loaded and stored
 
@@ -46,10 +46,6 @@ settled d h = set (set (drop 17 h) 8328 (d .allowance)) 8329 (d .share)
 pub stored-long : (d : Head) (h : List ℕ) → 8347 ≤ length h → storedHead d h ≡ headWords d ++ settled d h
 unfolding storedHead headWords
 stored-long d h l = rw (le-ltb (length h) 8347 l)
-
-pub stored-short : (d : Head) (h : List ℕ) → length h ≤ 8346 → storedHead d h ≡ h
-unfolding storedHead
-stored-short d h l = rw (lt-ltb (length h) 8347 (omega arith))
 
 pub stored-length : (d : Head) (h : List ℕ) → 8347 ≤ length h → length (storedHead d h) ≡ length h
 unfolding headWords
@@ -125,15 +121,6 @@ empty-subs k (w ∷ ws) rows = refl
 module _ (subs rows : List Row) (producers : List Id) (audits : List Audit) where
   abbrev viewed : Head → Dest
   viewed d = headView d subs rows producers audits
-
-  -- how many events were sent, and how many rows are in use, is not in the view
-  pub events-view : (n : ℕ) (d : Head) → viewed (withEvents n d) ≡ viewed d
-  unfolding headView
-  events-view n d = refl
-
-  pub not-idle-view : (d : Head) → viewed (notIdle d) ≡ Def.withIdle none (viewed d)
-  unfolding headView
-  not-idle-view d = refl
 
   -- `touch_idle` by its tests: whether anything is left, and whether there is a mark
   touch-cases : (now : ℕ) (d : Head) (t b : Bool) → d .idle ≡ b

@@ -8,7 +8,7 @@ use lib.ListN.{length, take, drop, set}
 use mir.Val.{boolByte}
 use Rattle.words.specs.Pick.{if_then_else_}
 use Rattle.entry.specs.Entry.{entryOf}
-use Rattle.definition.specs.Types.{Kind, queue, topic, Id, Audit, Dest}
+use Rattle.definition.specs.Types.{queue, Id, Audit, Dest}
 use Rattle.definition.specs.Consumer.{zeroStats}
 use Rattle.definition.specs.Words.{at}
 pub use Rattle.definition.specs.Words.{kindBy}

@@ -11,6 +11,9 @@ ghost use Rattle.state.specs.Fits.{tablesFit, numbersFit, countersFit, f
 use consumers::SubRow;
 use stats::Stats;
 
+// The most rows: a table of them stands beside those of consumers and events.
+pub use entry::ROWS;
+
 // The head's words.
 pub const HEAD_WORDS: usize = 8347;
 
@@ -19,10 +22,8 @@ const ALLOWANCE: usize = 8345;
 
 const SHARE: usize = 8346;
 
-// The tables: consumers, rows, events.
+// The tables of consumers and events.
 pub const CONSUMERS: usize = 32;
-
-pub const ROWS: usize = 512;
 
 pub const EVENTS: usize = 545;
 

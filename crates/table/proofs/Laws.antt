@@ -6,14 +6,14 @@ use mathlib.Core.Bool.{Bool, not}
 use mathlib.Core.List.{List, _∷_, _++_, map, append-assoc}
 use Prim.Native.Nat.{ℕ, suc, _+_, _-_, _≤_}
 use native.Mathlib.Omega.{arith}
-use lib.ListN.{length, take, drop, getD, length-append, length-map}
-use lib.Seq.{slice, length-slice, length-take-le, take-at, getD-at}
+use lib.ListN.{length, take, drop, length-append}
+use lib.Seq.{slice, length-slice, take-at}
 use Rattle.definition.specs.Layout.{Row}
 use Rattle.definition.specs.Base.{keep, tally}
-use Rattle.table.specs.Table.{closed, closeGap, rowOpened, insertRow, lifted, openGap, findFrom, findSeq, placeFrom, placeOf, countRows, mapped, mapRows, rowsRemoved, removeRows, removedRows}
+use Rattle.table.specs.Table.{closed, closeGap, rowOpened, insertRow, lifted, openGap, placeFrom, placeOf, mapped, mapRows, rowsRemoved, removeRows, removedRows}
 use Rattle.table.proofs.Lists.{guarded, guarded₃, written, written-length, written-low, written-drop, written-take, slice-parts, drop-parts, take-parts}
-use Rattle.table.proofs.Bounds.{close-in, open-in, insert-in, find-in, place-in, count-in, map-in, remove-in, gone-in}
-use Rattle.table.proofs.Segments.{kept-length, tally-most}
+use Rattle.table.proofs.Bounds.{close-in, open-in, insert-in, place-in, map-in, remove-in, gone-in}
+use Rattle.table.proofs.Segments.{kept-length, tally-most, mapped-size}
 
 -- ---- each table is one that was written from a place on
 
@@ -42,9 +42,6 @@ module _ (at n : ℕ) (row : Row) (rs : List Row) (h : at ≤ n) (b : n + 1 ≤ 
   opened-is = let e : suc n ≡ n + 1 = omega arith in ap (λ (m : ℕ). take at rs ++ (row ∷ slice at n rs ++ drop m rs)) e
 
 module _ (f : Row → Row) (from to : ℕ) (rs : List Row) (h : from ≤ to) (b : to ≤ length rs) where
-  mapped-size : from + length (map f (slice from to rs)) ≡ to
-  mapped-size = omega (arith, length-map (slice from to rs) f, length-slice from to rs b)
-
   mapped-is : mapped f from to rs ≡ written from (map f (slice from to rs)) to rs
   unfolding mapped written
   mapped-is = refl
@@ -92,19 +89,6 @@ module _ (at k n : ℕ) (rs : List Row) where
   open-length = guarded (λ (l : List Row). length l ≡ length rs) at n (n + k) (length rs) (lifted at k n rs) rs
       (λ h b. ap length (lifted-is at k n rs h b) ∙ written-length (at + k) (n + k) (slice at n rs) rs (lifted-size at k n rs h b) b) refl
 
-  pub open-before : (m : ℕ) → m ≤ at + k → take m (openGap at k n rs) ≡ take m rs
-  unfolding openGap
-  open-before m l = guarded (λ (x : List Row). take m x ≡ take m rs) at n (n + k) (length rs) (lifted at k n rs) rs
-      (λ h b. ap (take m) (lifted-is at k n rs h b) ∙ written-low (at + k) (n + k) (slice at n rs) rs (lifted-size at k n rs h b) m l b) refl
-
-  pub open-after : (m : ℕ) → n + k ≤ m → drop m (openGap at k n rs) ≡ drop m rs
-  unfolding openGap
-  open-after m l = guarded (λ (x : List Row). drop m x ≡ drop m rs) at n (n + k) (length rs) (lifted at k n rs) rs
-      (λ h b. ap (drop m) (lifted-is at k n rs h b) ∙ written-drop (at + k) (n + k) (slice at n rs) rs (lifted-size at k n rs h b) m l b) refl
-
-  pub open-used : at ≤ n → n + k ≤ length rs → take (n + k) (openGap at k n rs) ≡ take (at + k) rs ++ slice at n rs
-  open-used h b = ap (take (n + k)) (open-in at k n rs h b ∙ lifted-is at k n rs h b) ∙ written-take (at + k) (n + k) (slice at n rs) rs (lifted-size at k n rs h b) b
-
 -- ---- insert_row
 
 module _ (at n : ℕ) (row : Row) (rs : List Row) where
@@ -113,22 +97,10 @@ module _ (at n : ℕ) (row : Row) (rs : List Row) where
   insert-length = guarded (λ (l : List Row). length l ≡ length rs) at n (n + 1) (length rs) (rowOpened at n row rs) rs
       (λ h b. ap length (opened-is at n row rs h b) ∙ written-length at (n + 1) (row ∷ slice at n rs) rs (opened-size at n row rs h b) b) refl
 
-  pub insert-before : (m : ℕ) → m ≤ at → take m (insertRow at n row rs) ≡ take m rs
-  unfolding insertRow
-  insert-before m l = guarded (λ (x : List Row). take m x ≡ take m rs) at n (n + 1) (length rs) (rowOpened at n row rs) rs
-      (λ h b. ap (take m) (opened-is at n row rs h b) ∙ written-low at (n + 1) (row ∷ slice at n rs) rs (opened-size at n row rs h b) m l b) refl
-
   pub insert-after : (m : ℕ) → n + 1 ≤ m → drop m (insertRow at n row rs) ≡ drop m rs
   unfolding insertRow
   insert-after m l = guarded (λ (x : List Row). drop m x ≡ drop m rs) at n (n + 1) (length rs) (rowOpened at n row rs) rs
       (λ h b. ap (drop m) (opened-is at n row rs h b) ∙ written-drop at (n + 1) (row ∷ slice at n rs) rs (opened-size at n row rs h b) m l b) refl
-
-  pub insert-used : at ≤ n → n + 1 ≤ length rs → take (n + 1) (insertRow at n row rs) ≡ take at rs ++ row ∷ slice at n rs
-  insert-used h b = ap (take (n + 1)) (insert-in at n row rs h b ∙ opened-is at n row rs h b) ∙ written-take at (n + 1) (row ∷ slice at n rs) rs (opened-size at n row rs h b) b
-
-  pub insert-at : (z : Row) → at ≤ n → n + 1 ≤ length rs → getD (insertRow at n row rs) at z ≡ row
-  unfolding rowOpened
-  insert-at z h b = ap (λ (l : List Row). getD l at z) (insert-in at n row rs h b) ∙ getD-at (take at rs) row (slice at n rs ++ drop (suc n) rs) z at (length-take-le at rs (omega arith))
 
 -- ---- mark_range, redeliver_range, unmark
 
@@ -231,14 +203,8 @@ module _ (from to : ℕ) (a s z : List Row) (ea : length a ≡ from) (es : from 
   middle : slice from to (a ++ (s ++ z)) ≡ s
   middle = slice-parts from to a s z ea es
 
-  pub find-parts : (seq : ℕ) → findSeq from to seq (a ++ (s ++ z)) ≡ findFrom from seq s
-  find-parts seq = find-in from to seq (a ++ (s ++ z)) (omega arith) size ∙ ap (findFrom from seq) middle
-
   pub place-parts : (seq : ℕ) → placeOf from to seq (a ++ (s ++ z)) ≡ placeFrom from seq s
   place-parts seq = place-in from to seq (a ++ (s ++ z)) (omega arith) size ∙ ap (placeFrom from seq) middle
-
-  pub count-parts : (p : Row → Bool) → countRows p from to (a ++ (s ++ z)) ≡ tally p s
-  count-parts p = count-in p from to (a ++ (s ++ z)) (omega arith) size ∙ ap (tally p) middle
 
   pub map-parts : (f : Row → Row) → mapRows f from to (a ++ (s ++ z)) ≡ a ++ (map f s ++ z)
   unfolding mapped

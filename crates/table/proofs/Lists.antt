@@ -10,7 +10,7 @@ use native.Mathlib.Omega.{arith}
 use borrow.Author.Tests.{le-leb, lt-leb, leb-true}
 use lib.Dec.{leb}
 use lib.ListN.{length, take, drop, getD, set, length-append, length-drop, take-append-drop}
-use lib.Seq.{take-nil, take-suc, drop-cons, append-snoc, set-at, slice, length-take-le, drop-append-le, getD-append-add, getD-drop, getD-take, drop-append-add, drop-drop, take-append-add, take-append-le, take-take, take-at, drop-at}
+use lib.Seq.{take-nil, take-suc, drop-cons, append-snoc, set-at, slice, length-take-le, drop-append-le, getD-append-add, getD-drop, drop-append-add, drop-drop, take-append-add, take-append-le, take-take, take-at, drop-at}
 use Rattle.words.specs.Pick.{if_then_else_}
 
 -- a test behind another
@@ -172,10 +172,6 @@ module _ {ℓ} {A : Type ℓ} where
       ∙ ap (λ (x : List A). take f l ++ x) (sym (take-append-drop (t - f) (drop f l)))
       ∙ ap (λ (x : List A). take f l ++ (x ++ drop (t - f) (drop f l))) (sym (slice-take f t l h))
       ∙ ap (λ (x : List A). take f l ++ (slice f t l ++ x)) (drop-drop (t - f) f l ∙ ap (λ (n : ℕ). drop n l) e)
-
-  -- an element of a part that two lists share
-  pub same-before : (m i : ℕ) (l r : List A) (z : A) → take m l ≡ take m r → i < m → getD l i z ≡ getD r i z
-  same-before m i l r z e h = sym (getD-take m l i z h) ∙ ap (λ (x : List A). getD x i z) e ∙ getD-take m r i z h
 
   pub same-after : (m i : ℕ) (l r : List A) (z : A) → drop m l ≡ drop m r → m ≤ i → getD l i z ≡ getD r i z
   same-after m i l r z e h =

@@ -1,6 +1,6 @@
 -- A row that a function changed: its entry, its words and its length.
 -- Assumes nothing.
-use mathlib.Core.Path.{_≡_, refl, ap, _∙_}
+use mathlib.Core.Path.{_≡_, ap, _∙_}
 use mathlib.Core.Bool.{Bool, true, false}
 use Prim.Native.Nat.{ℕ, _≤_, _<_}
 use native.Mathlib.Omega.{arith}
@@ -8,12 +8,11 @@ use lib.ListN.{length, getD, set, length-set}
 use lib.Seq.{getD-set-same, getD-set-other}
 use Rattle.words.specs.Words.{unsigned, int}
 use Rattle.words.proofs.Words.{int-fits, int-unsigned}
-use Rattle.definition.specs.Base.{if_then_else_}
 use Rattle.entry.specs.Entry.{entryOf, oneMore, redelivered}
 use Rattle.entry.proofs.Redelivery.{oneMore-fits}
 use Rattle.definition.specs.Consumer.{inflightOf}
 use Rattle.definition.specs.Layout.{flag, inflightAt, Row}
-use Rattle.table.specs.Table.{dseqBetween, isFreed, freedRow, markRow, raisedRow, redeliverRow, unmarkRow, flownRow}
+use Rattle.table.specs.Table.{isFreed, freedRow, raisedRow, unmarkRow, flownRow}
 
 -- another word is as it was
 pub word-kept : (w : Row) (k v j : ℕ) → (j ≡ k → ⊥) → getD (set w k v) j 0 ≡ getD w j 0
@@ -36,13 +35,6 @@ pub freed-entry : (tx : Bool) (w : Row) → entryOf (freedRow tx w) ≡ entryOf 
 freed-entry true w = place-kept (set w 7 1) 8 1 (omega arith) (omega arith) ∙ place-kept w 7 1 (omega arith) (omega arith)
 freed-entry false w = place-kept w 7 1 (omega arith) (omega arith)
 
-pub mark-entry : (first last : ℕ) (tx : Bool) (w : Row) → entryOf (markRow first last tx w) ≡ entryOf w
-mark-entry first last tx w = by (dseqBetween first last w)
-  where
-    by : (b : Bool) → entryOf (if b then freedRow tx w else w) ≡ entryOf w
-    by true = freed-entry tx w
-    by false = refl
-
 pub unmark-entry : (w : Row) → entryOf (unmarkRow w) ≡ entryOf w
 unmark-entry w = place-kept w 8 0 (omega arith) (omega arith)
 
@@ -56,36 +48,10 @@ raised-entry w h =
     rw
     (e, word-kept w 5 v 0 (below (omega arith)), word-kept w 5 v 1 (below (omega arith)), word-kept w 5 v 2 (below (omega arith)), word-kept w 5 v 3 (below (omega arith)), word-kept w 5 v 4 (below (omega arith)), word-kept w 5 v 9 (above (omega arith)))
 
-pub redeliver-entry : (first last : ℕ) (w : Row) → 5 < length w → entryOf (redeliverRow first last w) ≡ (if dseqBetween first last w then redelivered (entryOf w) else entryOf w)
-redeliver-entry first last w h = by (dseqBetween first last w)
-  where
-    by : (b : Bool) → entryOf (if b then raisedRow w else w) ≡ (if b then redelivered (entryOf w) else entryOf w)
-    by true = raised-entry w h
-    by false = refl
-
 -- a freed row is freed
 pub freed-is : (tx : Bool) (w : Row) → 7 < length w → isFreed (freedRow tx w) ≡ true
 freed-is true w h = rw (word-kept (set w 7 1) 8 1 7 (below (omega arith)), getD-set-same w 7 1 0 h)
 freed-is false w h = rw (getD-set-same w 7 1 0 h)
-
--- nothing changes a row's length
-pub freed-length : (tx : Bool) (w : Row) → length (freedRow tx w) ≡ length w
-freed-length true w = simp length-set
-freed-length false w = simp length-set
-
-pub mark-length : (first last : ℕ) (tx : Bool) (w : Row) → length (markRow first last tx w) ≡ length w
-mark-length first last tx w = by (dseqBetween first last w)
-  where
-    by : (b : Bool) → length (if b then freedRow tx w else w) ≡ length w
-    by true = freed-length tx w
-    by false = refl
-
-pub redeliver-length : (first last : ℕ) (w : Row) → length (redeliverRow first last w) ≡ length w
-redeliver-length first last w = by (dseqBetween first last w)
-  where
-    by : (b : Bool) → length (if b then raisedRow w else w) ≡ length w
-    by true = simp length-set
-    by false = refl
 
 -- ---- a row as it goes out
 

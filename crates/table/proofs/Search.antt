@@ -3,9 +3,9 @@
 use mathlib.Core.Path.{_≡_, refl, sym, ap, _∙_}
 use mathlib.Core.Bool.{Bool, true, false}
 use mathlib.Core.List.{List, [], _∷_}
-use Prim.Native.Nat.{ℕ, zero, suc, _+_, _-_, _≤_, _<_}
+use Prim.Native.Nat.{ℕ, suc, _+_, _-_, _≤_, _<_}
 use native.Mathlib.Omega.{arith}
-use borrow.Author.Tests.{eqb-true, eqb-false, leb-true, leb-false}
+use borrow.Author.Tests.{eqb-true}
 use lib.Dec.{eqb, leb}
 use lib.ListN.{length, getD}
 use lib.Seq.{slice, length-slice, getD-take, getD-drop}
@@ -34,18 +34,6 @@ find-from-at i seq j (r ∷ s) e = go (eqb (getD r 0 0) seq) (eqb-true (getD r 0
         let v : j - i ≡ suc (j - suc i) = omega arith in
         (omega arith, omega arith, rw v (t .2))
 
--- no row has it
-pub find-from-nothing : (i seq : ℕ) (s : List Row) → findFrom i seq s ≡ Nothing → (k : ℕ) → k < length s → getD (getD s k []) 0 0 ≡ seq → ⊥
-unfolding findFrom
-find-from-nothing i seq [] e k h q = omega arith
-find-from-nothing i seq (r ∷ s) e k h q = go (eqb (getD r 0 0) seq) (eqb-false (getD r 0 0) seq) (find-from-nothing (suc i) seq s) e k h q
-  where
-    go : (b : Bool) → (b ≡ false → getD r 0 0 ≡ seq → ⊥) → (findFrom (suc i) seq s ≡ Nothing → (m : ℕ) → m < length s → getD (getD s m []) 0 0 ≡ seq → ⊥)
-        → (if b then At i else findFrom (suc i) seq s) ≡ Nothing → (m : ℕ) → m < suc (length s) → getD (getD (r ∷ s) m []) 0 0 ≡ seq → ⊥
-    go true f ih t m l p = let z : _≡_ {A = ℕ} 0 1 = cc in omega arith
-    go false f ih t zero l p = f refl p
-    go false f ih t (suc m) l p = ih t m (omega arith) p
-
 -- the place lies in the segment or at its end
 pub place-from-within : (i seq : ℕ) (s : List Row) → (i ≤ placeFrom i seq s) × (placeFrom i seq s ≤ i + length s)
 unfolding placeFrom
@@ -53,31 +41,6 @@ place-from-within i seq [] = (omega arith, omega arith)
 place-from-within i seq (r ∷ s) =
     let t = place-from-within (suc i) seq s in
     by-test (leb seq (getD r 0 0)) (λ e. rw e (omega arith, omega arith)) (λ e. rw e (omega arith, omega arith))
-
--- each row before it has a number below, and the row at it has not
-pub place-from-below : (i seq : ℕ) (s : List Row) (k : ℕ) → i + k < placeFrom i seq s → getD (getD s k []) 0 0 < seq
-unfolding placeFrom
-place-from-below i seq [] k h = absurd (omega arith)
-place-from-below i seq (r ∷ s) k h = go (leb seq (getD r 0 0)) (leb-false seq (getD r 0 0)) (place-from-below (suc i) seq s) k h
-  where
-    go : (b : Bool) → (b ≡ false → getD r 0 0 < seq) → ((m : ℕ) → suc i + m < placeFrom (suc i) seq s → getD (getD s m []) 0 0 < seq)
-        → (m : ℕ) → i + m < (if b then i else placeFrom (suc i) seq s) → getD (getD (r ∷ s) m []) 0 0 < seq
-    go true f ih m l = absurd (omega arith)
-    go false f ih zero l = f refl
-    go false f ih (suc m) l = ih m (omega arith)
-
-pub place-from-reached : (i seq : ℕ) (s : List Row) (k : ℕ) → placeFrom i seq s ≡ i + k → k < length s → seq ≤ getD (getD s k []) 0 0
-unfolding placeFrom
-place-from-reached i seq [] k e h = absurd (omega arith)
-place-from-reached i seq (r ∷ s) k e h = go (leb seq (getD r 0 0)) (leb-true seq (getD r 0 0)) (place-from-reached (suc i) seq s) (place-from-within (suc i) seq s) k e h
-  where
-    go : (b : Bool) → (b ≡ true → seq ≤ getD r 0 0) → ((m : ℕ) → placeFrom (suc i) seq s ≡ suc i + m → m < length s → seq ≤ getD (getD s m []) 0 0)
-        → (suc i ≤ placeFrom (suc i) seq s) × (placeFrom (suc i) seq s ≤ suc i + length s)
-        → (m : ℕ) → (if b then i else placeFrom (suc i) seq s) ≡ i + m → m < suc (length s) → seq ≤ getD (getD (r ∷ s) m []) 0 0
-    go true f ih w zero q l = f refl
-    go true f ih w (suc m) q l = absurd (omega arith)
-    go false f ih w zero q l = absurd (omega arith)
-    go false f ih w (suc m) q l = ih m (omega arith) (omega arith)
 
 -- the same in the table
 

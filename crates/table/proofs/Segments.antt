@@ -61,9 +61,12 @@ module _ (f : Row → Row) where
   unfolding mapped written
   mapped-none from rs = written-none from rs ∙ ap (λ (l : List Row). take from rs ++ (map f l ++ drop from rs)) (sym (slice-empty from rs))
 
+  pub mapped-size : (from to : ℕ) (rs : List Row) → from ≤ to → to ≤ length rs → from + length (map f (slice from to rs)) ≡ to
+  mapped-size from to rs h b = omega (arith, length-map (slice from to rs) f, length-slice from to rs b)
+
   module _ (from i : ℕ) (rs now : List Row) (h : from ≤ i) (b : i < length rs) (q : now ≡ mapped f from i rs) where
     done-length : from + length (map f (slice from i rs)) ≡ i
-    done-length = omega (arith, length-map (slice from i rs) f, length-slice from i rs (omega arith))
+    done-length = mapped-size from i rs h (omega arith)
 
     more : (x : Row) → x ≡ f (getD rs i []) → map f (slice from i rs) ++ (x ∷ []) ≡ map f (slice from (i + 1) rs)
     more x e =

@@ -7,8 +7,8 @@ use Prim.Native.Nat.{ℕ, suc, _+_, _-_}
 use lib.Dec.{leb, eqb}
 use lib.ListN.{length, take, drop, getD, set}
 use lib.Seq.{slice}
-use Rattle.words.specs.Words.{signed, unsigned, int}
-use Rattle.entry.specs.Entry.{oneMore, entryOf}
+use Rattle.words.specs.Words.{unsigned, int}
+use Rattle.entry.specs.Entry.{oneMore}
 use Rattle.definition.specs.Base.{if_then_else_, keep, tally, member}
 use Rattle.definition.specs.Layout.{Row}
 use Rattle.entry.specs.declared.Found.{Found}

@@ -6,21 +6,6 @@ use libc::STDERR_FILENO;
 use libc::STDIN_FILENO;
 use libc::STDOUT_FILENO;
 
-// How a read ended: the buffer is full, the input has ended, or the read failed. AGAIN: it goes on.
-const FULL: u64 = 0;
-
-const END: u64 = 1;
-
-const FAILED: u64 = 2;
-
-const AGAIN: u64 = 3;
-
-// How many bytes stand in the buffer, and how the read ended.
-struct Got {
-    n: usize,
-    how: u64,
-}
-
 // What is carried from part to part: the bytes of the last line so far, the number of the next line, the calls in the block, whether a line was bad,
 // whether the output could not be written, and whether there is more to read.
 struct Work {
@@ -33,46 +18,6 @@ struct Work {
 }
 
 // ---- reading
-
-// One read, behind the bytes that stand in the buffer.
-fn read_once(fd: i32, buf: &mut [u8], at: usize) -> Got {
-    if buf.len() <= at {
-        return Got { n: at, how: FULL };
-    }
-    let got = libc::read(fd, &mut buf[at..]);
-    if got == 0 {
-        return Got { n: at, how: END };
-    }
-    if got < 0 {
-        if os::errno() == libc::EINTR {
-            return Got { n: at, how: AGAIN };
-        }
-        return Got { n: at, how: FAILED };
-    }
-    let n = io::count(got, buf);
-    if buf.len() - at < n {
-        return Got { n: at, how: FAILED };
-    }
-    Got {
-        n: at + n,
-        how: AGAIN,
-    }
-}
-
-// Reads until the buffer is full or the input ends.
-fn read_on(fd: i32, buf: &mut [u8], have: usize) -> Got {
-    let mut n = have;
-    let mut turns = 18446744073709551615u64;
-    while 0 < turns {
-        let g = read_once(fd, buf, n);
-        if g.how != AGAIN {
-            return g;
-        }
-        n = g.n;
-        turns -= 1;
-    }
-    Got { n, how: FAILED }
-}
 
 // The end of the last line that has one, or 0.
 fn last_end(buf: &[u8], n: usize) -> usize
@@ -259,13 +204,13 @@ fn turn(fd: i32, buf: &mut [u8], block: &mut [u8], w: Work, write: bool) -> Work
     requires { ⌜ w .k ≤ 6 ⌝ }
     ensures { λ r. ⌜ r .k ≤ 6 ⌝ }
 {
-    let g = read_on(fd, buf, w.have);
+    let g = reading::read_on(fd, buf, w.have);
     let n = g.n;
-    if g.how == FAILED {
+    if g.how == reading::FAILED {
         os::fail(b"textcalls: cannot read");
         return stopped(w);
     }
-    if g.how == END {
+    if g.how == reading::END {
         return last_part(buf, n, block, w, write);
     }
     let end = last_end(buf, n);

@@ -3,20 +3,20 @@ use Prim.Native.Nat.{ℕ, zero, suc, _+_, _*_, _≤_, _<_}
 use native.Mathlib.Numerals.{add-one}
 use native.Mathlib.Omega.{arith}
 use mathlib.Core.Path.{_≡_, refl, sym, _∙_}
-use mathlib.Core.Bool.{_&&_}
 use mathlib.Core.List.{List, [], _++_}
 use borrow.Author.Tests.{eq-eqb, ne-eqb, leb-true}
-use lib.Dec.{leb, eqb}
+use lib.Dec.{leb}
 use lib.ListN.{length, getD, length-append}
 use Rattle.words.proofs.Tests.{by-test}
 use Rattle.calls.specs.declared.Call.{Call}
-use Rattle.callfile.specs.Blocks.{numberAt, good, callsIn, callAt, check}
-use Rattle.callfile.specs.Lines.{decimal, wordField, newline, badLine}
+use Rattle.callfile.specs.Blocks.{callsIn, callAt}
+use Rattle.callfile.specs.Lines.{wordField, newline, badLine}
 use Rattle.callfile.proofs.Digits.{word-length}
-use Rattle.calltext.specs.Names.{nameAt, codePlace, kindAt, minusAt}
+use Rattle.calltext.specs.Names.{nameAt, codePlace, minusAt}
 use Rattle.calltext.specs.Shown.{shownWords, fields, codeField, callText}
 use Rattle.calltext.proofs.Tables.{short}
 use Rattle.calltext.proofs.Showing.{field-length}
+use Rattle.calltext.proofs.RoundTrip.{shown-within}
 use Rattle.texting.specs.Lines.{unknownCall, noNumber, tooMany, complaint}
 use Rattle.texting.specs.Shown.{callTexts, blockText}
 
@@ -42,11 +42,6 @@ unfolding fields
 fields-length place ws zero = omega arith
 fields-length place ws (suc n) = omega (arith, length-append (fields place ws n) (wordField (minusAt place n) (getD ws n 0)), fields-length place ws n, field-length (minusAt place n) (getD ws n 0))
 
-shown-most : (place : ℕ) (ws : List ℕ) (n : ℕ) → shownWords place ws n ≤ n
-unfolding shownWords
-shown-most place ws zero = omega arith
-shown-most place ws (suc n) = by-test (eqb (kindAt place n) 0 && eqb (getD ws n 0) 0) (λ t. rw t (omega (arith, shown-most place ws n))) (λ t. rw t (omega arith))
-
 place-known : (code : ℕ) → codePlace code < 17
 unfolding codePlace
 place-known code = by-test (leb code 15) (λ t. rw t (omega (arith, leb-true code 15 t))) (λ t. rw t (omega arith))
@@ -62,7 +57,7 @@ text-length c =
     let n = shownWords place (c .words) 8 in
     let f = fields place (c .words) n in
     let d = codeField (c .code) in
-    omega (arith, length-append (nameAt place) (d ++ (f ++ newline)), length-append d (f ++ newline), length-append f newline, short place (place-known (c .code)), code-length (c .code), fields-length place (c .words) n, shown-most place (c .words) 8)
+    omega (arith, length-append (nameAt place) (d ++ (f ++ newline)), length-append d (f ++ newline), length-append f newline, short place (place-known (c .code)), code-length (c .code), fields-length place (c .words) n, shown-within place (c .words) 8)
 
 pub no-texts : (block : List ℕ) → callTexts 0 block ≡ []
 unfolding callTexts
@@ -74,12 +69,6 @@ one-text k block = rw (add-one k)
 
 -- ---- the text of a block
 
-pub calls-few : (block : List ℕ) (got : ℕ) → callsIn block got ≤ 7
-unfolding callsIn good
-calls-few block got = by-test (leb (numberAt 504 block) 7)
-    (λ t. by-test (leb 512 (length block) && eqb got 512 && leb (numberAt 504 block) 7 && eqb (numberAt 508 block) (check block) && leb 1 (numberAt 504 block)) (λ g. rw g (leb-true (numberAt 504 block) 7 t)) (λ g. rw g (omega arith)))
-    (λ t. by-test (leb 512 (length block) && eqb got 512) (λ g. rw (g, t) (omega arith)) (λ g. rw g (omega arith)))
-
 module _ (n : ℕ) (block : List ℕ) (got k : ℕ) (e : k ≡ callsIn block got) where
   pub bad-block : k ≡ 0 → badLine n ≡ blockText n block got
   unfolding blockText
@@ -88,7 +77,3 @@ module _ (n : ℕ) (block : List ℕ) (got k : ℕ) (e : k ≡ callsIn block got
   pub good-block : (k ≡ 0 → ⊥) → callTexts k block ≡ blockText n block got
   unfolding blockText
   good-block z = rw (ne-eqb (callsIn block got) 0 (λ f. z (e ∙ f)), e)
-
-pub bad-short : (n : ℕ) → length (badLine n) ≤ 128
-unfolding badLine
-bad-short n = omega (arith, length-append (decimal n) newline, word-length n)

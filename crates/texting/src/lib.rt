@@ -1,6 +1,6 @@
 // The text of a call file to blocks, and a block to text, in lent buffers.
 ghost use mathlib.Core.Path.{_≡_};
-ghost use Prim.Native.Nat.{_+_, _<_, _≤_};
+ghost use Prim.Native.Nat.{_+_, _≤_};
 ghost use lib.ListN.{length, drop, replicate};
 ghost use Rattle.callfile.specs.Placed.{Puts, PutLine};
 ghost use Rattle.texting.specs.Lines.{linesOf, complaint, message};

@@ -1,6 +1,6 @@
 // Text in words and numbers.
 ghost use mathlib.Core.Path.{_≡_};
-ghost use Prim.Native.Nat.{_+_, _-_, _<_};
+ghost use Prim.Native.Nat.{_+_};
 ghost use lib.ListN.{drop};
 ghost use Rattle.textwords.specs.Text.{stops, run, blank, sameText};
 ghost use Rattle.textwords.specs.Numbers.{digitsAfter, negated, numberOf};
@@ -16,11 +16,6 @@ const NEW_LINE: u8 = 10;
 const REMARK: u8 = 35;
 
 const MINUS: u8 = 45;
-
-// 2^64 - 1, and 2^63.
-const LAST: u64 = 18446744073709551615;
-
-const LEAST: u64 = 9223372036854775808;
 
 // What a scan stops at: what parts words, a word, a remark, the end of a line.
 pub enum Stop {
@@ -102,7 +97,7 @@ fn digits(s: &[u8], from: usize) -> Number
             return Number::Bad;
         }
         let d = b - 48;
-        if (LAST - d) / 10 < n {
+        if (words::MINUS_ONE - d) / 10 < n {
             return Number::Bad;
         }
         n = n * 10 + d;
@@ -120,10 +115,10 @@ fn negative(m: Number) -> Number
     if n == 0 {
         return Number::Of(0);
     }
-    if LEAST < n {
+    if words::NEGATIVE < n {
         return Number::Bad;
     }
-    Number::Of(LAST - n + 1)
+    Number::Of(words::MINUS_ONE - n + 1)
 }
 
 // A word of text as a number.

@@ -6,6 +6,7 @@ use native.Mathlib.Numerals.{add-one}
 use native.Mathlib.Omega.{arith}
 use lib.ListN.{length, take, drop, getD, set}
 use lib.Seq.{drop-drop, drop-length}
+use Rattle.words.proofs.Lists.{set-next}
 use Rattle.stats.specs.declared.Stats.{Stats}
 use Rattle.definition.specs.Types.{topic}
 use Rattle.definition.specs.Types as Def
@@ -17,9 +18,10 @@ use Rattle.consumers.specs.declared.Sub.{Sub}
 use Rattle.consumers.specs.Consumers.{rowSub, subWords, subView}
 use Rattle.consumers.proofs.Words.{round}
 use Rattle.state.specs.declared.Head.{Head}
-use Rattle.topics.specs.Topics.{Seen, topicSeen, topicRan, ConsumerKept, topicMoved}
+use Rattle.state.specs.Parts.{headMoved}
+use Rattle.topics.specs.Topics.{Seen, topicSeen, topicRan, ConsumerKept}
 use Rattle.table.proofs.Lists.{agree-drop}
-use Rattle.consumers.proofs.Line.{stored-next, rows-one, subs-done, left-size, subs-next, subs-rest, LineStrict, line-own, line-turn}
+use Rattle.consumers.proofs.Line.{rows-one, subs-done, left-size, subs-next, subs-rest, LineStrict, line-own, line-turn}
 use Rattle.consumers.specs.Seats.{OwnStrict}
 use Rattle.consumers.proofs.Strict.{stored-strict}
 
@@ -78,7 +80,7 @@ pub record Ready (ws : List Row) (i base : ℕ) (d₀ d : Head) : Type 0 where
   pub sent : d₀ .events ≤ d .events
   pub expired : d .stats .expired + subRows (drop i ws) ≤ d₀ .stats .expired + d₀ .used
   pub dispatched : d .stats .dispatched + subRows (drop i ws) ≤ d₀ .stats .dispatched + d₀ .used
-  pub head : d ≡ topicMoved d₀ d
+  pub head : d ≡ headMoved d₀ d
 
 spans : (u v b f h f′ h′ : ℕ) → u + (f + h) ≡ v + (f′ + h′) → u - (b + f′ + h′) ≡ v - (b + f + h)
 spans u v b f h f′ h′ e = omega arith
@@ -135,11 +137,11 @@ module _ (now : ℕ) (ws : List Row) (i base : ℕ) (d₀ d : Head) (subs rows e
           sent = omega arith;
           expired = omega arith;
           dispatched = omega arith;
-          head = kept .head ∙ ap (λ (x : Head). topicMoved x r) (ready .head);
+          head = kept .head ∙ ap (λ (x : Head). headMoved x r) (ready .head);
         }
 
     pre-is : take (i + 1) subs′ ≡ take i subs ++ (subWords t ∷ [])
-    pre-is = stored-next subs i (subWords t) within
+    pre-is = set-next subs i (subWords t) within
 
     pub ends-turn : end′ ≡ subRows (take (i + 1) subs′)
     unfolding subWords

@@ -9,6 +9,7 @@ use lib.Dec.{ltb}
 use lib.ListN.{length, take, drop, getD, set, length-set}
 use lib.Seq.{length-take-le, getD-take, drop-length, drop-set-lt}
 use Rattle.words.proofs.Tests.{by-test}
+use Rattle.words.proofs.Lists.{set-next, take-next}
 use Rattle.entry.specs.Entry.{entryOf}
 use Rattle.definition.specs.Types.{Kind, topic, Id, Audit}
 use Rattle.definition.specs.Types as Def
@@ -26,10 +27,11 @@ use Rattle.state.specs.declared.Head.{Head}
 use Rattle.state.specs.State.{headView, strictTables, kindBy}
 use Rattle.state.specs.Fits.{Fits}
 use Rattle.state.specs.Leaves.{Leaves}
-use Rattle.topics.specs.Topics.{canServe, topicSeen, topicRan, TopicFine, ConsumerKept, topicMoved, Dispatched}
+use Rattle.state.specs.Parts.{headMoved}
+use Rattle.topics.specs.Topics.{canServe, topicSeen, topicRan, TopicFine, ConsumerKept, Dispatched}
 use Rattle.topics.proofs.All.{Whole, whole, whole-words, whole-start, whole-end, Ready, ready-turn, ends-turn, strict-turn, whole-turn}
 use Rattle.topics.proofs.Turn.{ran-none, ran-stop}
-use Rattle.consumers.proofs.Line.{stored-next, same-next, rows-one, subs-done, strict-done, left-size, LineStrict, line-start, line-end, line-words, line-own}
+use Rattle.consumers.proofs.Line.{rows-one, subs-done, strict-done, left-size, LineStrict, line-start, line-end, line-words, line-own}
 
 pub record Round (now : ℕ) (subs₀ rows₀ events₀ : List Row) (d₀ : Head) (subs rows events : List Row) (d : Head) (base i : ℕ) : Type 0 where
   pub within : i ≤ d₀ .consumers
@@ -157,7 +159,7 @@ module _ (now : ℕ) (subs₀ rows₀ events₀ : List Row) (d₀ : Head) (fits 
         ends-same : end ≡ subRows (take (i + 1) subs)
         unfolding rowSub
         ends-same =
-            let q : subRows (take (i + 1) subs) ≡ subRows (take i subs) + inflightCount x + heldCount x = ap subRows (same-next subs i long) ∙ rows-one (take i subs) x in
+            let q : subRows (take (i + 1) subs) ≡ subRows (take i subs) + inflightCount x + heldCount x = ap subRows (take-next subs i [] long) ∙ rows-one (take i subs) x in
             let f : s .inflight ≡ inflightCount x = ap (λ (y : Sub). y .inflight) e in
             let h : s .held ≡ heldCount x = ap (λ (y : Sub). y .held) e in
             omega (arith, g .ends)
@@ -167,10 +169,10 @@ module _ (now : ℕ) (subs₀ rows₀ events₀ : List Row) (d₀ : Head) (fits 
         unfolding rowSub subWords
         front =
             let y : Def.Sub = subView topic s (take (s .inflight) (drop base rows)) (take (s .held) (drop (base + s .inflight) rows)) in
-            ap (λ (l : List Row). subsAt topic l rows) (same-next subs i long)
+            ap (λ (l : List Row). subsAt topic l rows) (take-next subs i [] long)
             ∙ subs-done topic (take i subs) x base rows rows y (g .ends) refl (ap (λ (z : Sub). subView topic z (take (z .inflight) (drop base rows)) (take (z .held) (drop (base + z .inflight) rows))) (sym e))
             ∙ sym (subs-done topic (take i subs) (subWords s) base rows rows y (g .ends) refl (ap (λ (z : Sub). subView topic z (take (s .inflight) (drop base rows)) (take (s .held) (drop (base + s .inflight) rows))) (round s)))
-            ∙ sym (ap (λ (l : List Row). subsAt topic l rows) (stored-next subs i (subWords s) long))
+            ∙ sym (ap (λ (l : List Row). subsAt topic l rows) (set-next subs i (subWords s) long))
 
         strict-same : strictTables d₀ subs₀ rows₀ ≡ true → LineStrict (d₀ .reserved + d₀ .waiting) ws subs (i + 1) end rows
         strict-same h =
@@ -179,7 +181,7 @@ module _ (now : ℕ) (subs₀ rows₀ events₀ : List Row) (d₀ : Head) (fits 
             let own : OwnStrict base (inflightCount w) (heldCount w) rows = line-own n ws subs i base rows here l in
             let t : LineStrict n ws stored (i + 1) end rows = turn .strict h in
             record {
-              done = ap (λ (y : List Row). subsStrict y rows) (same-next subs i long ∙ ap (λ (y : Row). take i subs ++ (y ∷ [])) row-is)
+              done = ap (λ (y : List Row). subsStrict y rows) (take-next subs i [] long ∙ ap (λ (y : Row). take i subs ++ (y ∷ [])) row-is)
                   ∙ strict-done (take i subs) w base rows rows (g .ends) refl (l .done) (record { words = line-words n ws subs i base rows here l; flying = own .flying; held = own .held });
               left = t .left;
               others = t .others;
@@ -220,7 +222,7 @@ module _ (now : ℕ) (subs₀ rows₀ events₀ : List Row) (d₀ : Head) (fits 
       kind-is : kindBy (d₀ .queue) ≡ topic
       kind-is = ap kindBy plain
 
-      abbrev same : {A : Type 0} (f : Head → A) → f d ≡ f (topicMoved d₀ d)
+      abbrev same : {A : Type 0} (f : Head → A) → f d ≡ f (headMoved d₀ d)
       same f = ap f (g .ready .head)
 
       base-is : base ≡ subRows (take (d₀ .consumers) subs)

@@ -30,9 +30,10 @@ use Rattle.table.specs.Table.{closeGap, flownRow}
 use Rattle.table.proofs.Laws.{close-after, close-length}
 use Rattle.table.proofs.Rows.{flown-row}
 use Rattle.table.proofs.Strict.{flown-strict}
-use Rattle.topics.specs.Topics.{canServe, Parts, partsOf, Seen, topicSeen, topicStepped, topicRan, heldSent, TopicFine, ConsumerKept}
+use Rattle.state.specs.Parts.{Parts, partsOf, heldSent, lostSub}
+use Rattle.topics.specs.Topics.{canServe, Seen, topicSeen, topicStepped, topicRan, TopicFine, ConsumerKept}
 use Rattle.topics.proofs.Serve.{serve-none, serve-stop, serve-lost, serve-sent, ran-rest, ran-turn}
-use Rattle.topics.proofs.Parts.{held-first, parts-lost, parts-sent, first-strict, strict-lost, strict-sent}
+use Rattle.state.proofs.Parts.{held-first, parts-lost, parts-sent, first-strict, strict-lost, strict-sent}
 
 -- ---- the numbers after a turn
 
@@ -41,9 +42,6 @@ lostHead d = withCounters (withExpiredBy (d .stats) 1) (withUsed (d .used - 1) d
 
 abbrev pub sentHead : Head → Head
 sentHead d = withCounters (withDispatched (d .stats)) (withEvents (d .events + 1) d)
-
-abbrev pub lostSub : Sub → Sub
-lostSub s = withHeld (s .held - 1) s
 
 module _ (now base : ℕ) (s : Sub) (d : Head) (rows events : List Row) (fine : TopicFine (length rows) (length events) base s d now) where
   abbrev v : Seen

@@ -11,28 +11,13 @@ use Rattle.definition.specs.Types as Def
 use Rattle.definition.specs.Consumer.{_⊕_, Step, serveTopic}
 use Rattle.definition.specs.Layout.{Row, eventWords}
 use Rattle.consumers.specs.declared.Sub.{Sub}
-use Rattle.consumers.specs.Consumers.{rowSub, subView, creditOf, withHeld, sentSub}
+use Rattle.consumers.specs.Consumers.{rowSub, subView, creditOf}
 use Rattle.state.specs.declared.Head.{Head}
+use Rattle.state.specs.Parts.{Parts, partsOf, headMoved}
 
 -- it holds something, and has credit: else serving it leaves everything as it is
 abbrev pub canServe : Row → Bool
 canServe w = ltb 0 (rowSub w .held) && creditOf (rowSub w)
-
--- the rows in use about one consumer: those before its own, its own in flight and held, those after them
-pub record Parts : Type 0 where
-  pub before : List Row
-  pub flying : List Row
-  pub held : List Row
-  pub after : List Row
-
--- its rows begin at base: so many in flight, and then so many held
-abbrev pub partsOf : ℕ → ℕ → ℕ → ℕ → List Row → Parts
-partsOf base inflight held used rows = record {
-  before = take base rows;
-  flying = take inflight (drop base rows);
-  held = take held (drop (base + inflight) rows);
-  after = take (used - (base + inflight + held)) (drop (base + inflight + held) rows);
-}
 
 -- a consumer, the rows before and after its own, the counters and the events so far
 pub record Seen : Type 0 where
@@ -59,10 +44,6 @@ topicStepped t v = record { before = v .before; sub = t .sub; after = v .after; 
 abbrev pub topicRan : ℕ → Seen → Seen
 topicRan now v = topicStepped (serveTopic now (v .sub)) v
 
--- `Sub::send` of the first row that it holds, by value
-abbrev pub heldSent : Sub → Sub
-heldSent s = sentSub (withHeld (s .held - 1) s)
-
 -- the counts lie within the tables, and no number runs out
 pub record TopicFine (nrows nevents base : ℕ) (s : Sub) (d : Head) (now : ℕ) : Type 0 where
   pub rows : base + s .inflight + s .held ≤ d .used
@@ -74,28 +55,6 @@ pub record TopicFine (nrows nevents base : ℕ) (s : Sub) (d : Head) (now : ℕ)
   pub dispatched : d .stats .dispatched + s .held < 2 ^ 63
   pub clock : now ≤ 2 ^ 62
 
--- the second head's rows in use, events and counters, and the rest of the first
-abbrev pub topicMoved : Head → Head → Head
-topicMoved d r = record {
-  «topic_limit» = d .«topic_limit»;
-  «call_limit» = d .«call_limit»;
-  allowance = d .allowance;
-  share = d .share;
-  «calls_used» = d .«calls_used»;
-  turn = d .turn;
-  «idle_since» = d .«idle_since»;
-  stats = r .stats;
-  consumers = d .consumers;
-  producers = d .producers;
-  audits = d .audits;
-  reserved = d .reserved;
-  waiting = d .waiting;
-  used = r .used;
-  events = r .events;
-  queue = d .queue;
-  idle = d .idle;
-}
-
 -- what the counts do while the consumer is served
 pub record ConsumerKept (base : ℕ) (s : Sub) (d : Head) (t : Sub) (r : Head) : Type 0 where
   pub rows : base + t .inflight + t .held ≤ r .used
@@ -106,7 +65,7 @@ pub record ConsumerKept (base : ℕ) (s : Sub) (d : Head) (t : Sub) (r : Head) :
   pub sent : d .events ≤ r .events
   pub expired : r .stats .expired + t .held ≤ d .stats .expired + s .held
   pub dispatched : r .stats .dispatched + t .held ≤ d .stats .dispatched + s .held
-  pub head : r ≡ topicMoved d r
+  pub head : r ≡ headMoved d r
 
 -- what a topic's dispatch promises besides: the consumers stay, and it sends no more than there are rows in use
 pub record Dispatched (d r : Head) : Type 0 where

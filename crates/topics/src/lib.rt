@@ -1,6 +1,6 @@
 // A topic's dispatch (`dispatch_topic` of destination.rs): what its consumers hold goes out to those that have credit.
 ghost use mathlib.Core.Path.{_≡_};
-ghost use Prim.Native.Nat.{_+_, _≤_, _<_, _^_};
+ghost use Prim.Native.Nat.{_≤_, _^_};
 ghost use mathlib.Core.Bool.{false, not, _&&_};
 ghost use lib.Dec.{leb};
 ghost use mathlib.Core.List.{[]};

@@ -1,7 +1,7 @@
 -- Words and the signed numbers that they hold: round trips, ranges, that equal words hold equal numbers, and the tests
 -- of a sign as tests of the word; and a flag as a word. Assumes nothing.
 use mathlib.Core.Path.{_≡_, refl, sym, ap, _∙_}
-use mathlib.Core.Bool.{Bool, true, false, not, _&&_, and-true, and-false}
+use mathlib.Core.Bool.{Bool, true, false, not, _&&_, and-false}
 use Prim.Native.Nat.{ℕ, zero, suc, _-_, _%_, _≤_, _<_, _^_}
 use native.Mathlib.Omega.{arith}
 use borrow.Author.Tests.{ltb-true, ltb-false, leb-true, lt-ltb, le-ltb, le-leb, lt-leb}
@@ -84,15 +84,6 @@ unsigned-int w h t = ap unsigned (int-signed w h t) ∙ unsigned-signed w h
 
 pub signed-pos : (w : ℕ) → w < 2 ^ 63 → signed w ≡ pos w
 signed-pos w h = toZ-pos w64 w h
-
-pub below-zero : (w : ℕ) → ltZ (signed w) (pos 0) ≡ not (ltb w (2 ^ 63))
-below-zero w = by-test (ltb w (2 ^ 63)) (λ c. rw (c, le-ltb w 0 (omega arith))) (λ c. rw c)
-
-pub above-zero : (w : ℕ) → ltZ (pos 0) (signed w) ≡ (ltb 0 w && ltb w (2 ^ 63))
-above-zero w = by-test (ltb w (2 ^ 63)) (λ c. rw c (sym (and-true (ltb 0 w)))) (λ c. rw c (sym (and-false (ltb 0 w))))
-
-pub up-to : (w n : ℕ) → ltZ (pos 0) (signed w) ≡ true → leZ (signed w) (pos n) ≡ true → w ≤ n
-up-to w n = by-test (ltb w (2 ^ 63)) (λ c. rw c (λ p q. leb-true w n q)) (λ c. rw c (λ p q. absurd (let z : _≡_ {A = ℕ} 0 1 = cc in omega arith)))
 
 -- an expiration as a word, at a clock that is not negative
 pub expired-word : (now w : ℕ) → now < 2 ^ 63 → (ltZ (pos 0) (signed w) && leZ (signed w) (pos now)) ≡ (ltb 0 w && leb w now)

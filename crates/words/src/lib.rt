@@ -4,10 +4,10 @@ ghost use Prim.Native.Nat.{_<_};
 ghost use Rattle.words.specs.Words.{signed, unsigned, int, isInt};
 
 // From 2^63 on, a word holds a negative i64.
-const NEGATIVE: u64 = 9223372036854775808;
+pub const NEGATIVE: u64 = 9223372036854775808;
 
-// The word that holds -1.
-const MINUS_ONE: u64 = 18446744073709551615;
+// The word that holds -1: the last one, 2^64 - 1.
+pub const MINUS_ONE: u64 = 18446744073709551615;
 
 // The same of the lower half of a word and an i32.
 const HALF: u64 = 4294967296;

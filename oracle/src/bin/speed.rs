@@ -6,6 +6,8 @@
 //! between the timed parts. All calls are accepted by both sides, and compared in a run that is not timed.
 //! "Batch" is the library's entry for many calls, 256 at a time, which checks the state once for all.
 //! "Check" is a call with an unknown code, which is refused once the state was found sound.
+//! "Read" and "move" are what the machine itself takes with the rows: a plain loop over the four words that the check asks of
+//! each, and all but the first moved up by one place, as an acknowledgement of the first does.
 
 use std::env;
 use std::hint::black_box;
@@ -14,7 +16,7 @@ use std::time::{Duration, Instant};
 
 use destination_oracle::harness::callfile::Call;
 use destination_oracle::harness::engine::{Engine, Prepared};
-use destination_oracle::harness::library::{CallWords, Lent, Outcome, EVENTS};
+use destination_oracle::harness::library::{CallWords, Lent, Outcome, Row, EVENTS};
 use destination_oracle::harness::sides;
 use destination_oracle::harness::traffic::{Traffic, PROFILES};
 
@@ -41,8 +43,8 @@ fn main() -> ExitCode {
         return ExitCode::from(64);
     };
     println!("{runs} runs of {calls} calls, ns a call, best (median)\n");
-    println!("| Traffic | Rows | Rust | Prepared | Library | of Rust | of prepared | Batch | of Rust | of prepared | Check |");
-    println!("|---|---|---|---|---|---|---|---|---|---|---|");
+    println!("| Traffic | Rows | Rust | Prepared | Library | of Rust | of prepared | Batch | of Rust | of prepared | Check | Read | Move |");
+    println!("|---|---|---|---|---|---|---|---|---|---|---|---|---|");
     for (name, make) in PROFILES {
         if arguments.get(2).is_none_or(|wanted| wanted == name) {
             for rows in ROWS.into_iter().filter(|rows| only == 0 || only == *rows) {
@@ -58,7 +60,7 @@ fn line(name: &str, rows: usize, traffic: &Traffic, runs: usize) {
     if let Some(d) = sides::first_difference(&all) {
         panic!("{name}, {rows} rows, call {}: {} differs", d.index, d.what);
     }
-    let mut times = [const { Vec::new() }; 5];
+    let mut times = [const { Vec::new() }; 7];
     // The first run warms the buffers and the caches.
     for run in 0..=runs {
         let these = [
@@ -67,6 +69,8 @@ fn line(name: &str, rows: usize, traffic: &Traffic, runs: usize) {
             library(traffic),
             batch(traffic),
             check(traffic),
+            with_rows(traffic, rows, read),
+            with_rows(traffic, rows, move_up),
         ];
         if run > 0 {
             for (list, parts) in times.iter_mut().zip(these) {
@@ -74,7 +78,7 @@ fn line(name: &str, rows: usize, traffic: &Traffic, runs: usize) {
             }
         }
     }
-    let [rust, prepared, library, batch, check] = times.map(|runs| best_and_median(&runs, traffic.timed.len()));
+    let [rust, prepared, library, batch, check, read, move_up] = times.map(|runs| best_and_median(&runs, traffic.timed.len()));
     let cells = [
         nanoseconds(rust),
         nanoseconds(prepared),
@@ -85,6 +89,8 @@ fn line(name: &str, rows: usize, traffic: &Traffic, runs: usize) {
         ratio(batch, rust),
         ratio(batch, prepared),
         nanoseconds(check),
+        nanoseconds(read),
+        nanoseconds(move_up),
     ];
     println!("| {name} | {rows} | {} |", cells.join(" | "));
 }
@@ -209,6 +215,45 @@ fn check(traffic: &Traffic) -> Vec<Duration> {
         assert_eq!(sum, 3 * part.len() as u64, "the state is sound");
     }
     times
+}
+
+/// As many turns with the first rows of the state at the beginning.
+fn with_rows(traffic: &Traffic, rows: usize, turn: fn(&mut [Row]) -> bool) -> Vec<Duration> {
+    let mut lent = filled(traffic);
+    let mut times = Vec::new();
+    for part in traffic.timed.chunks(PART) {
+        let start = Instant::now();
+        for _ in part {
+            black_box(turn(black_box(&mut lent.rows[..rows])));
+        }
+        times.push(start.elapsed());
+    }
+    times
+}
+
+/// Whether the numbers differ from row to row and the words are in range; four rows a turn, as the check does.
+fn read(rows: &mut [Row]) -> bool {
+    let mut last = 0;
+    for four in rows.chunks_exact(4) {
+        let mut marks = 0;
+        let mut wide = 0;
+        let mut same = false;
+        for row in four {
+            same |= row[0] == last;
+            marks |= row[2];
+            wide |= row[5].wrapping_add(1 << 31) | row[9];
+            last = row[0];
+        }
+        if same | (marks > 1) | (wide >> 32 != 0) {
+            return false;
+        }
+    }
+    true
+}
+
+fn move_up(rows: &mut [Row]) -> bool {
+    rows.copy_within(1.., 0);
+    true
 }
 
 fn filled(traffic: &Traffic) -> Lent {

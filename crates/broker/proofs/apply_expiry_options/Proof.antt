@@ -6,7 +6,7 @@ use borrow.Author.Tests.{not-true, not-false}
 use mir.Syntax.{w64}
 use mir.Val.{SFits, toZ, ofZ}
 use mir.ValLaws.{toZ-ofZ}
-use Rattle.broker.specs.Broker.{timesAndSettingsOk, fromZeroTo, timeMost, rebased, baseOf, defaulted, capped, timesExpired, expirySteps, applyExpiryOptions}
+use Rattle.broker.specs.Broker.{timesAndSettingsOk, fromZeroTo, timeMost, rebased, baseOf, expirySteps, applyExpiryOptions}
 use Rattle.broker.proofs.Range.{ranges, base-within}
 use Rattle.broker.proofs.apply_expiry_options.Statement.{statement}
 use Rattle.broker.proofs.apply_expiry_options.Tie as tie

@@ -3,8 +3,9 @@ use Prim.Native.Nat.{_+_, _-_, _≤_}
 use mathlib.Core.Path.{_≡_}
 use lib.ListN.{length, take}
 use lib.Seq.{take-all}
+use Rattle.words.proofs.Lists.{take-next}
 use Rattle.callfile.specs.Placed.{Puts}
-use Rattle.callfile.proofs.Parts.{then, nothing, take-more}
+use Rattle.callfile.proofs.Parts.{then, nothing}
 use native.Mathlib.Omega.{arith}
 use borrow.Author.Needs.{needs}
 use Rattle.callfile.proofs.put_each.Statement.{statement}
@@ -37,7 +38,7 @@ loop-again c =
     let a = g .before .before .before .args in
     let v = g .loop .inv in
     let p = c .before .before .put .ensures in
-    (omega arith, omega (arith, p .next), rw (take-more (a .part .now) (g .loop .i) (c .before .before .before .before .before .loop-test .taken)) (then (v .2) p))
+    (omega arith, omega (arith, p .next), rw (take-next (a .part .now) (g .loop .i) 0 (c .before .before .before .before .before .loop-test .taken)) (then (v .2) p))
 
 same-length : tie.Need-same-length Inv-loop μ-loop
 same-length c = search needs

@@ -1,14 +1,14 @@
--- `calltext::put_code` meets its contract. Assumes nothing.
+-- `calltext::put_code` meets its contract. Assumes none-put.
 use mathlib.Core.Bool.{false}
-use Rattle.callfile.proofs.Parts.{line-puts}
-use Rattle.calltext.proofs.Showing.{field-length, nothing, code-known, code-raw}
+use Rattle.callfile.proofs.Parts.{line-puts, none-put}
+use Rattle.calltext.proofs.Showing.{field-length, code-known, code-raw}
 use native.Mathlib.Omega.{arith}
 use borrow.Author.Needs.{needs}
 use Rattle.calltext.proofs.put_code.Statement.{statement}
 use Rattle.calltext.proofs.put_code.Tie as tie
 
 returns : tie.Need-returns
-returns c = let a = c .before .before .args in (rw (code-known (a .code) (c .if1 .taken)) (nothing (a .at) (a .out .now)), omega arith)
+returns c = let a = c .before .before .args in (rw (code-known (a .code) (c .if1 .taken)) (none-put (a .at) (a .out .now)), omega arith)
 
 put-word-requires : tie.Need-put-word-requires
 put-word-requires c κs = search needs

@@ -1,12 +1,12 @@
--- `calltext::put_fields` meets its contract. Assumes nothing.
+-- `calltext::put_fields` meets its contract. Assumes none-put.
 use Prim.Native.Nat.{_+_, _-_, _*_, _≤_}
 use mathlib.Core.Path.{_≡_}
 use lib.ListN.{length, getD}
 use Rattle.callfile.specs.Placed.{Puts}
-use Rattle.callfile.proofs.Parts.{then, line-puts}
+use Rattle.callfile.proofs.Parts.{then, line-puts, none-put}
 use Rattle.calltext.specs.Names.{minusAt}
 use Rattle.calltext.specs.Shown.{fields}
-use Rattle.calltext.proofs.Showing.{field-length, nothing, no-field, one-field}
+use Rattle.calltext.proofs.Showing.{field-length, no-field, one-field}
 use native.Mathlib.Omega.{arith}
 use borrow.Author.Needs.{needs}
 use Rattle.calltext.proofs.put_fields.Statement.{statement}
@@ -19,7 +19,7 @@ abbrev μ-loop : tie.MeasureT-loop
 μ-loop out₀ at place n w next₀ k₀ out next k = n - k
 
 loop-holds : tie.Need-loop-holds Inv-loop μ-loop
-loop-holds c = let a = c .before .args in (search needs, omega arith, omega arith, rw (no-field (a .place) (a .t4)) (nothing (a .at) (a .out .now)))
+loop-holds c = let a = c .before .args in (search needs, omega arith, omega arith, rw (no-field (a .place) (a .t4)) (none-put (a .at) (a .out .now)))
 
 kind-at-requires : tie.Need-kind-at-requires Inv-loop μ-loop
 kind-at-requires c κs = search needs

@@ -1,12 +1,12 @@
--- `calltext::put_name` meets its contract. Assumes nothing.
+-- `calltext::put_name` meets its contract. Assumes none-put.
 use Prim.Native.Nat.{_+_, _-_, _≤_}
 use mathlib.Core.Path.{_≡_, sym}
 use lib.ListN.{take}
 use lib.Seq.{take-all}
+use Rattle.words.proofs.Lists.{take-next}
 use Rattle.callfile.specs.Placed.{Puts}
-use Rattle.callfile.proofs.Parts.{then, take-more, line-puts}
+use Rattle.callfile.proofs.Parts.{then, line-puts, none-put}
 use Rattle.calltext.specs.Names.{nameAt}
-use Rattle.calltext.proofs.Showing.{nothing}
 use native.Mathlib.Omega.{arith}
 use borrow.Author.Needs.{needs}
 use Rattle.calltext.proofs.put_name.Statement.{statement}
@@ -22,7 +22,7 @@ name-length-requires : tie.Need-name-length-requires Inv-loop μ-loop
 name-length-requires c κs = search needs
 
 loop-holds : tie.Need-loop-holds Inv-loop μ-loop
-loop-holds c = let a = c .before .before .args in (omega arith, omega arith, nothing (a .at) (a .out .now))
+loop-holds c = let a = c .before .before .args in (omega arith, omega arith, none-put (a .at) (a .out .now))
 
 name-byte-requires : tie.Need-name-byte-requires Inv-loop μ-loop
 name-byte-requires c κs = search needs
@@ -37,7 +37,7 @@ loop-less : tie.Need-loop-less Inv-loop μ-loop
 loop-less c = search needs
 
 loop-again : tie.Need-loop-again Inv-loop μ-loop
-loop-again c = let g = c .before .before .before .before .before .before in let a = g .before .before .before .args in let v = g .loop .inv in let p = line-puts (omega (arith, v .2 .same)) (omega arith) (c .before .before .put-byte .ensures) in (omega arith, omega (arith, p .next), rw (take-more (nameAt (a .place)) (g .loop .j) (omega (arith, g .before .name-length .ensures .0)), sym (c .before .before .before .name-byte .ensures)) (then (v .2) p))
+loop-again c = let g = c .before .before .before .before .before .before in let a = g .before .before .before .args in let v = g .loop .inv in let p = line-puts (omega (arith, v .2 .same)) (omega arith) (c .before .before .put-byte .ensures) in (omega arith, omega (arith, p .next), rw (take-next (nameAt (a .place)) (g .loop .j) 0 (omega (arith, g .before .name-length .ensures .0)), sym (c .before .before .before .name-byte .ensures)) (then (v .2) p))
 
 same-length : tie.Need-same-length Inv-loop μ-loop
 same-length c = search needs

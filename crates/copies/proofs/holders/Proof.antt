@@ -6,10 +6,11 @@ use lib.ListN.{take, getD}
 use lib.Seq.{slice}
 use mir.Val.{boolByte}
 use Rattle.words.specs.Pick.{if_then_else_}
+use Rattle.words.proofs.Words.{flag-small}
 use Rattle.definition.specs.Base.{tally}
 use Rattle.definition.specs.Layout.{Row}
 use Rattle.copies.specs.Copies.{mayCopy}
-use Rattle.copies.proofs.Laws.{one, byte-small, tally-turn, tally-end}
+use Rattle.copies.proofs.Laws.{one, tally-turn, tally-end}
 use native.Mathlib.Omega.{arith}
 use borrow.Author.Needs.{needs}
 use Rattle.copies.proofs.holders.Statement.{statement}
@@ -37,7 +38,7 @@ cast-count : tie.Need-cast-count Inv-loop μ-loop
 cast-count c = search needs
 
 add-count : tie.Need-add-count Inv-loop μ-loop
-add-count c = omega (arith, byte-small (c .holds .result))
+add-count c = omega (arith, flag-small (c .holds .result))
 
 add-i : tie.Need-add-i Inv-loop μ-loop
 add-i c = search needs
@@ -53,7 +54,7 @@ loop-again c =
     let h = c .before .before .loop-test .taken in
     let w : Row = getD subs (p .loop .i) [] in
     let e : boolByte (c .holds .result) ≡ (if mayCopy (a .on-queue) w then 1 else 0) = ap boolByte (c .holds .ensures) ∙ one (mayCopy (a .on-queue) w) in
-    (omega arith, omega (arith, byte-small (c .holds .result)), omega (arith, e, tally-turn subs (p .loop .i) (a .n) (p .before .pre) (mayCopy (a .on-queue)) h))
+    (omega arith, omega (arith, flag-small (c .holds .result)), omega (arith, e, tally-turn subs (p .loop .i) (a .n) (p .before .pre) (mayCopy (a .on-queue)) h))
 
 returns : tie.Need-returns Inv-loop μ-loop
 returns c =

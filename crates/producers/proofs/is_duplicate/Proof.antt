@@ -12,7 +12,7 @@ use mir.Val.{SFits}
 use Rattle.definition.specs.Calls.{testing}
 use Rattle.state.specs.State.{withAuditCount, refusedAs, doneAs}
 use Rattle.producers.specs.Groups.{hasId, firstOf}
-use Rattle.producers.specs.Producers.{headFits, HeadLeft, headLeft, checkedAt, tested, PerformsInHead}
+use Rattle.producers.specs.Producers.{headFits, HeadLeft, checkedAt, tested, PerformsInHead}
 use Rattle.producers.proofs.Tables.{counts}
 use Rattle.producers.proofs.Promises.{carried, promised}
 use Rattle.producers.proofs.Tested.{tested-unfit, tested-nobody, tested-at, found-performs, tested-full, tested-fresh, fresh-performs}

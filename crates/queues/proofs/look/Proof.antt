@@ -5,7 +5,6 @@ use borrow.Author.Needs.{needs}
 use denote.Ref.{now}
 use mir.Syntax.{w64}
 use mir.Val.{SFits}
-use Rattle.entry.specs.Entry.{expired}
 use Rattle.queues.proofs.Looking.{Looking, looking-from, looking-none, looking-before, looking-late, looking-taken, looking-refused, by-clock}
 use Rattle.queues.proofs.look.Statement.{statement}
 use Rattle.queues.proofs.look.Tie as tie

@@ -2,8 +2,9 @@
 use lib.ListN.{length}
 use denote.Ref.{now}
 use Rattle.definition.specs.Layout.{lengthsOf}
+use Rattle.callfile.proofs.Checks.{calls-few}
 use Rattle.sound.specs.Sound.{lent}
-use Rattle.running.proofs.Blocks.{few-calls, no-room, bad-block, good-block}
+use Rattle.running.proofs.Blocks.{no-room, bad-block, good-block}
 use native.Mathlib.Omega.{arith}
 use borrow.Author.Needs.{needs}
 use Rattle.running.proofs.run_block.Statement.{statement}
@@ -32,7 +33,7 @@ returns-2 c =
 run-calls-requires : tie.Need-run-calls-requires
 run-calls-requires c κs =
     let a = c .before .before .before .before .before .before .before .before .before .before .before .args in
-    (omega (arith, c .before .before .before .before .before .before .calls-in .ensures, few-calls (now (a .block)) (a .got)), c .before .before .before .before .before .before .before .if1 .left)
+    (omega (arith, c .before .before .before .before .before .before .calls-in .ensures, calls-few (now (a .block)) (a .got)), c .before .before .before .before .before .before .before .if1 .left)
 
 same-length-2 : tie.Need-same-length-2
 same-length-2 c = search needs

@@ -2,7 +2,6 @@
 use Prim.Native.Nat.{ℕ, _+_, _-_}
 use mathlib.Core.Path.{_≡_, refl, ap, sym, _∙_}
 use lib.ListN.{length, drop}
-use Rattle.stats.specs.Counted.{more}
 use Rattle.calltext.specs.declared.Parsed.{Parsed}
 use Rattle.texting.specs.Lines.{linesOf}
 use Rattle.texting.specs.Parts.{firstBad}

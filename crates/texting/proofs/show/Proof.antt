@@ -2,11 +2,13 @@
 use mathlib.Core.Path.{sym}
 use borrow.Author.Tests.{le-leb, lt-leb}
 use Rattle.callfile.proofs.Parts.{whole-line, no-room, line-puts}
-use Rattle.texting.proofs.Showing.{calls-few, bad-block, good-block, bad-short}
+use Rattle.texting.proofs.Showing.{bad-block, good-block}
 use native.Mathlib.Omega.{arith}
 use borrow.Author.Needs.{needs}
 use Rattle.texting.proofs.show.Statement.{statement}
 use Rattle.texting.proofs.show.Tie as tie
+use Rattle.callfile.proofs.Digits.{bad-length}
+use Rattle.callfile.proofs.Checks.{calls-few}
 
 returns : tie.Need-returns
 returns c = no-room _ (c .before .before .before .args .out .now) 0 (lt-leb 3584 _ (c .if1 .taken))
@@ -23,7 +25,7 @@ same-length c = search needs
 returns-2 : tie.Need-returns-2
 returns-2 c =
     let a = c .before .before .before .before .before .before .before .before .before .args in
-    let h = bad-short (a .number) in
+    let h = bad-length (a .number) in
     let p = line-puts (omega arith) (omega arith) (c .before .before .put-bad .ensures) in
     rw (sym (bad-block (a .number) (a .block .now) (a .got) (c .before .before .before .before .before .calls-in .result) (c .before .before .before .before .before .calls-in .ensures) (c .before .before .before .before .if2 .taken))) (whole-line (le-leb 3584 _ (c .before .before .before .before .before .before .if1 .left)) (p, omega (arith, p .next)))
 

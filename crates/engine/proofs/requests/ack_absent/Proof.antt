@@ -1,12 +1,12 @@
 -- `engine::requests::ack_absent` meets its contract. Assumes nothing.
-use mathlib.Core.Path.{_≡_, sym, ap, _∙_}
-use mathlib.Core.Bool.{Bool, true, false, _||_}
+use mathlib.Core.Path.{sym, _∙_}
 use native.Mathlib.Omega.{arith}
 use borrow.Author.Tests.{not-true, not-false}
 use lib.ListN.{length}
 use denote.Ref.{now}
+use Rattle.words.proofs.Tests.{or-left, or-right}
 use Rattle.definition.specs.Base.{empty}
-use Rattle.definition.specs.Types.{Id, Audit, Dest}
+use Rattle.definition.specs.Types.{Dest}
 use Rattle.definition.specs.Destination.{Out, reservedOf, ackReserved, ack}
 use Rattle.acks.specs.Acks.{ackOf}
 use Rattle.reserved.proofs.Loops.{has-reserved-view}
@@ -14,7 +14,7 @@ use Rattle.state.specs.State.{headView}
 use Rattle.state.proofs.Leaves.{leaves-when}
 use Rattle.state.proofs.Ready.{ready-test, ready-fits}
 use Rattle.engine.specs.Requests.{sentOn}
-use Rattle.engine.proofs.Asks.{ack-nothing, ack-reserved, reserved-keeps, either-left, either-right, neither}
+use Rattle.engine.proofs.Asks.{ack-nothing, ack-reserved, reserved-keeps, neither}
 use Rattle.engine.proofs.Parts.{rest-sends, sends-as, then-on}
 use borrow.Author.Needs.{needs}
 use Rattle.engine.proofs.requests.ack_absent.Statement.{statement}
@@ -26,7 +26,7 @@ returns c =
     let a = c .before .args in
     let p = c .before .pre in
     rest-sends (a .d) (now (a .subs)) (now (a .rows)) (now (a .events)) (p .0) (ack (a .clock) (a .id) (ackOf (a .a)))
-    (λ ps us. ack-nothing (a .clock) (a .id) (ackOf (a .a)) (headView (a .d) (now (a .subs)) (now (a .rows)) ps us) (p .2 ps us) (either-left (a .a .transacted) _ (c .if1 .taken)))
+    (λ ps us. ack-nothing (a .clock) (a .id) (ackOf (a .a)) (headView (a .d) (now (a .subs)) (now (a .rows)) ps us) (p .2 ps us) (or-left (a .a .transacted) _ (c .if1 .taken)))
 
 -- src/requests.rt:51:9
 has-reserved-requires : tie.Need-has-reserved-requires
@@ -45,7 +45,7 @@ returns-2 c =
     let f = ready-fits (a .d) (now (a .subs)) (now (a .rows)) (now (a .events)) (p .0) in
     rest-sends (a .d) (now (a .subs)) (now (a .rows)) (now (a .events)) (p .0) (ack (a .clock) (a .id) (ackOf (a .a)))
     (λ ps us. ack-nothing (a .clock) (a .id) (ackOf (a .a)) (headView (a .d) (now (a .subs)) (now (a .rows)) ps us) (p .2 ps us)
-    (either-right (a .a .transacted) (empty (reservedOf (a .id) (headView (a .d) (now (a .subs)) (now (a .rows)) ps us))) (not-false _ (sym (has-reserved-view (now (a .subs)) (now (a .rows)) (a .d) (length (now (a .events))) (a .id) ps us f) ∙ h))))
+    (or-right (a .a .transacted) (empty (reservedOf (a .id) (headView (a .d) (now (a .subs)) (now (a .rows)) ps us))) (not-false _ (sym (has-reserved-view (now (a .subs)) (now (a .rows)) (a .d) (length (now (a .events))) (a .id) ps us f) ∙ h))))
 
 -- src/requests.rt:54:9
 ack-reserved-requires : tie.Need-ack-reserved-requires

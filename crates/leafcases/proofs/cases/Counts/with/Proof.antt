@@ -37,14 +37,14 @@ with-requires-5 c κs = search needs
 enum-told-6 : tie.Need-enum-told-6
 enum-told-6 c = search needs
 
-more-requires : tie.Need-more-requires
-more-requires c κs = search needs
+more-of-requires : tie.Need-more-of-requires
+more-of-requires c κs = search needs
 
 enum-told-7 : tie.Need-enum-told-7
 enum-told-7 c = search needs
 
-more-requires-2 : tie.Need-more-requires-2
-more-requires-2 c κs = search needs
+more-of-requires-2 : tie.Need-more-of-requires-2
+more-of-requires-2 c κs = search needs
 
 returns : tie.Need-returns
 unfolding countedAs
@@ -68,11 +68,11 @@ returns-5 c = rw (c .with5 .ensures, c .before .before .enum-told5 .given .1)
 
 returns-6 : tie.Need-returns-6
 unfolding countedAs
-returns-6 c = rw (c .more .ensures, c .before .enum-told6 .given .1)
+returns-6 c = rw (c .more-of .ensures, c .before .enum-told6 .given .1)
 
 returns-7 : tie.Need-returns-7
 unfolding countedAs
-returns-7 c = rw (c .more2 .ensures, c .before .enum-told7 .given .1)
+returns-7 c = rw (c .more-of2 .ensures, c .before .enum-told7 .given .1)
 
 pub with-spec : {M : Type 1} → statement M
 with-spec =
@@ -89,9 +89,9 @@ with-spec =
     enum-told-5
     with-requires-5
     enum-told-6
-    more-requires
+    more-of-requires
     enum-told-7
-    more-requires-2
+    more-of-requires-2
     returns
     returns-2
     returns-3

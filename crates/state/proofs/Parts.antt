@@ -15,7 +15,7 @@ use Rattle.consumers.specs.Seats.{OwnStrict}
 use Rattle.table.specs.Table.{closeGap}
 use Rattle.table.proofs.Lists.{slice-take, agree-take, agree-drop}
 use Rattle.table.proofs.Laws.{close-before, close-used}
-use Rattle.topics.specs.Topics.{Parts, partsOf}
+use Rattle.state.specs.Parts.{Parts, partsOf}
 
 part-cons : (f h : ℕ) (l : List Row) → 0 < h → f < length l → take h (drop f l) ≡ getD l f [] ∷ take (h - 1) (drop (f + 1) l)
 part-cons f h l p q =
