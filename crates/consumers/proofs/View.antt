@@ -11,6 +11,7 @@ use Rattle.definition.specs.Base.{nth}
 use Rattle.definition.specs.Types.{Kind}
 use Rattle.definition.specs.Types as Def
 use Rattle.definition.specs.Layout.{Row, inflightCount, heldCount, subAt, eachSub, subsAt, subRows}
+use Rattle.definition.proofs.Stored.{each-sub-length}
 use Rattle.consumers.specs.declared.Sub.{Sub}
 use Rattle.consumers.specs.Consumers.{rowSub, subWords, subView}
 use Rattle.consumers.specs.Seats.{fromIn, flyingIn, heldIn, afterIn, subIn}
@@ -95,11 +96,6 @@ module _ {A : Type 0} where
   drop-past (y ∷ p) x q = drop-past p x q
 
 module _ {A : Type 0} (of : Row → List Row → List Row → A) where
-  pub each-length : (ws rows : List Row) → length (eachSub of ws rows) ≡ length ws
-  unfolding eachSub
-  each-length [] rows = refl
-  each-length (w ∷ ws) rows = ap suc (each-length ws _)
-
   -- some consumers, then others
   pub each-append : (ws vs rows : List Row) → eachSub of (ws ++ vs) rows ≡ eachSub of ws rows ++ eachSub of vs (drop (subRows ws) rows)
   unfolding eachSub subRows
@@ -163,7 +159,7 @@ module _ {A : Type 0} (of : Row → List Row → List Row → A) where
   each-split ws rows i h = ap (λ (l : List Row). eachSub of l rows) (split-at ws i [] h) ∙ each-append (take i ws) (getD ws i [] ∷ drop (suc i) ws) rows
 
   head-length : (ws rows : List Row) (i : ℕ) → i < length ws → length (eachSub of (take i ws) rows) ≡ i
-  head-length ws rows i h = each-length (take i ws) rows ∙ length-take-le i ws (omega arith)
+  head-length ws rows i h = each-sub-length of (take i ws) rows ∙ length-take-le i ws (omega arith)
 
   pub each-nth : (ws rows : List Row) (i : ℕ) → i < length ws → nth i (eachSub of ws rows) ≡ some (ofIn ws rows i)
   each-nth ws rows i h =
@@ -224,9 +220,6 @@ module _ {A : Type 0} (of : Row → List Row → List Row → A) where
 -- ---- the view of them
 
 module _ (k : Kind) where
-  pub subs-length : (ws rows : List Row) → length (subsAt k ws rows) ≡ length ws
-  subs-length = each-length (subAt k)
-
   pub subs-append : (ws vs rows : List Row) → subsAt k (ws ++ vs) rows ≡ subsAt k ws rows ++ subsAt k vs (drop (subRows ws) rows)
   subs-append = each-append (subAt k)
 

@@ -1,7 +1,7 @@
 -- Laws of the definitions' list functions. Assumes nothing.
 use Prim.Native.Nat.{ℕ, zero, suc, _≤_, _+_, _-_, _<_}
 use mathlib.Core.Path.{_≡_, refl, sym, _∙_, ap, subst}
-use mathlib.Core.Bool.{Bool, true, false, true≢false, _&&_}
+use mathlib.Core.Bool.{Bool, true, false, true≢false, _&&_, and-assoc}
 use mathlib.Core.List.{List, [], _∷_, _++_, map}
 use mathlib.Core.Option.{Option, none, some}
 use lib.ListN.{length, set, drop, take, getD}
@@ -240,3 +240,8 @@ module _ {A B : Type 0} (f : A → B) where
   map-drop zero l = refl
   map-drop (suc n) [] = refl
   map-drop (suc n) (a ∷ l) = map-drop n l
+
+-- of two lists after one another
+pub all-joined : {A : Type 0} (p : A → Bool) (a b : List A) → all p (a ++ b) ≡ (all p a && all p b)
+all-joined p [] b = refl
+all-joined p (x ∷ a) b = ap (λ (t : Bool). p x && t) (all-joined p a b) ∙ sym (and-assoc (p x) (all p a) (all p b))

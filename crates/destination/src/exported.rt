@@ -83,7 +83,7 @@ pub extern "C" fn destination_add_discarded(
 ) -> Outcome
     ensures { λ r. ⌜ Called (bufferCall (lent (now (head .entry)) (now (subs .entry)) (now (rows .entry))) (length (now (events .entry))) discarding) (lent (now (head .entry)) (now (subs .entry)) (now (rows .entry))) (lent (now (head .exit)) (now (subs .exit)) (now (rows .exit))) (now (events .entry)) (now (events .exit)) r ⌝ }
 {
-    engine::add_discarded(head, subs, rows, events)
+    uncoded::add_discarded(head, subs, rows, events)
 }
 
 // `Dest::expired_before_storing`.
@@ -96,7 +96,7 @@ pub extern "C" fn destination_expired_before_storing(
 ) -> Outcome
     ensures { λ r. ⌜ Called (bufferCall (lent (now (head .entry)) (now (subs .entry)) (now (rows .entry))) (length (now (events .entry))) missing) (lent (now (head .entry)) (now (subs .entry)) (now (rows .entry))) (lent (now (head .exit)) (now (subs .exit)) (now (rows .exit))) (now (events .entry)) (now (events .exit)) r ⌝ }
 {
-    engine::expired_before_storing(head, subs, rows, events)
+    uncoded::expired_before_storing(head, subs, rows, events)
 }
 
 // Many calls, nine words each, one after another, with one test of the state.

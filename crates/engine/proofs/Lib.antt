@@ -24,5 +24,4 @@ pub mod Going
 pub mod Handled
 pub mod Headed
 pub mod Ran
-pub mod Bare
 pub mod Batched

@@ -1,7 +1,7 @@
 -- Rows in order: those that a topic's consumer holds, and those that wait on a sound destination. Assumes nothing.
-use mathlib.Core.Path.{_≡_, refl, sym, ap, ap₂, _∙_}
+use mathlib.Core.Path.{_≡_, sym, ap, ap₂, _∙_}
 use mathlib.Core.Bool.{Bool, true, false}
-use mathlib.Core.List.{List, [], _∷_, map}
+use mathlib.Core.List.{List, []}
 use Prim.Native.Nat.{ℕ, _+_, _≤_, _<_}
 use native.Mathlib.Numerals.{add-one}
 use native.Mathlib.Omega.{arith}
@@ -11,12 +11,13 @@ use Rattle.entry.specs.Entry.{entryOf}
 use Rattle.definition.specs.Base.{all, ascending, empty}
 use Rattle.definition.specs.Types.{topic, Dest}
 use Rattle.definition.specs.Types as Def
-use Rattle.definition.specs.Calls.{seqs, placed, subSound}
+use Rattle.definition.specs.Calls.{placed, subSound}
 use Rattle.definition.specs.Layout.{Row, heldAt, inflightCount, heldCount, subAt, subsAt, subRows}
 use Rattle.definition.proofs.Tests.{and-left, and-right}
 use Rattle.definition.proofs.Lists.{empty-nil}
 use Rattle.definition.proofs.Fit as Fit
 use Rattle.definition.proofs.Sound.{facts}
+use Rattle.definition.proofs.Stored.{seqs-rows}
 use Rattle.consumers.specs.declared.Sub.{Sub}
 use Rattle.consumers.specs.Consumers.{rowSub}
 use Rattle.consumers.specs.Seats.{heldIn, subIn}
@@ -29,21 +30,15 @@ use Rattle.state.specs.Ready.{Ready}
 use Rattle.state.proofs.Fitting.{view-fits, facts-fit}
 use Rattle.state.proofs.Ready.{seen}
 use Rattle.engine.specs.Arrivals.{rowsInOrder, holdsInOrder, FannedOut, Standing}
-use Rattle.engine.proofs.Insert.{entry-seq}
 use Rattle.engine.proofs.Used.{reservedRows, waitingRows}
 use Rattle.engine.proofs.RowParts.{reserved-length, waiting-length}
 use Rattle.engine.proofs.Shares.{part}
-
--- the numbers of rows are those of their entries
-pub numbers : (l : List Row) → seqs (map entryOf l) ≡ map (λ r. getD r 0 0) l
-numbers [] = refl
-numbers (r ∷ l) = ap₂ (λ (n : ℕ) (ns : List ℕ). n ∷ ns) (entry-seq r) (numbers l)
 
 -- ---- the rows that a topic's consumer holds
 
 held-order : (ws rows : List Row) (i : ℕ) → holdsInOrder (subIn topic ws rows i) ≡ true → rowsInOrder (heldIn ws rows i) ≡ true
 unfolding subAt
-held-order ws rows i h = ap ascending (sym (numbers (heldIn ws rows i))) ∙ h
+held-order ws rows i h = ap ascending (seqs-rows (heldIn ws rows i)) ∙ h
 
 -- the consumer at i, as loaded; its rows begin at base
 module _ (ws rows : List Row) (i base : ℕ) (s : Sub) (begins : base ≡ subRows (take i ws)) (es : s ≡ rowSub (getD ws i [])) where
@@ -115,7 +110,7 @@ module _ (d : Head) (subs rows events : List Row) (a : Ready d subs rows events)
 
   waiting-order : rowsInOrder (slice (firstWaiting d) (d .used) rows) ≡ true
   unfolding headView
-  waiting-order = ap (λ (l : List Row). rowsInOrder l) (sym waiting-rows) ∙ ap ascending (sym (numbers (waitingRows d subs rows))) ∙ facts t (a .is-sound) .sorted
+  waiting-order = ap (λ (l : List Row). rowsInOrder l) (sym waiting-rows) ∙ ap ascending (seqs-rows (waitingRows d subs rows)) ∙ facts t (a .is-sound) .sorted
 
   each-order : d .queue ≡ false → all holdsInOrder (subsAt topic (take (d .consumers) subs) rows) ≡ true
   unfolding headView

@@ -24,7 +24,8 @@ use Rattle.consumers.specs.declared.Sub.{Sub}
 use Rattle.consumers.specs.Consumers.{rowSub, subWords, subView, acceptsOf}
 use Rattle.consumers.specs.Seats.{flyingIn, heldIn, afterIn, subIn}
 use Rattle.consumers.specs.Table.{takesEntry}
-use Rattle.consumers.proofs.View.{sub-at, sub-stored, inflight-stored, held-stored, inflight-loaded, held-loaded, rows-split, rows-take, rows-set, rows-append, each-before, subs-nth, subs-length, subs-put, rows-parts, flying-length, held-length, after-all, after-put}
+use Rattle.definition.proofs.Stored.{subs-length}
+use Rattle.consumers.proofs.View.{sub-at, sub-stored, inflight-stored, held-stored, inflight-loaded, held-loaded, rows-split, rows-take, rows-set, rows-append, each-before, subs-nth, subs-put, rows-parts, flying-length, held-length, after-all, after-put}
 use Rattle.consumers.proofs.Laws.{rows-of-sub, consumer-rows}
 use Rattle.consumers.proofs.Strict.{all-rest, stored-strict, strict-at, strict-put, tables-strict, strict-tables}
 use Rattle.state.specs.declared.Head.{Head}

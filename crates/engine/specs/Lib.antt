@@ -1,4 +1,3 @@
-pub mod Bare
 pub mod Batch
 pub mod Called
 pub mod Opened

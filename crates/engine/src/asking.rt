@@ -1,4 +1,4 @@
-// A consumer's request from the words of its call (codes 4 to 7).
+// A consumer's request from the words of its call (codes 4 and 5).
 ghost use mathlib.Core.Path.{_≡_};
 ghost use mathlib.Core.Bool.{true};
 ghost use Rattle.definition.specs.Base.{is-some};
@@ -68,38 +68,4 @@ pub(crate) fn ask_pull(
     let id = Id::of_words(w[0], w[1], w[2]);
     let timeout = words::signed_of(w[3]);
     requests::pull(subs, rows, events, d, id, timeout, w[4])
-}
-
-// Code 6.
-pub(crate) fn ask_timeout(
-    subs: &mut [SubRow],
-    rows: &[Row],
-    events: &mut [Event],
-    d: Head,
-    w: [u64; 8],
-) -> Answer
-    requires { ⌜ Ready d (now subs) (now rows) (now events) × (is-some (decode 6 w) ≡ true) ⌝ }
-    ensures { λ r. ⌜ PerformsBy (decode 6 w) d r (now (subs .entry)) (now (rows .entry)) (now (events .entry)) (now (subs .exit)) (now (rows .entry)) (now (events .exit)) ⌝ }
-{
-    let id = Id::of_words(w[0], w[1], w[2]);
-    let r = requests::pull_timeout(subs, rows, events, d, id, w[3]);
-    Answer::done(0, r)
-}
-
-// Code 7.
-pub(crate) fn ask_prefetch(
-    subs: &mut [SubRow],
-    rows: &mut [Row],
-    events: &mut [Event],
-    d: Head,
-    w: [u64; 8],
-) -> Answer
-    requires { ⌜ Ready d (now subs) (now rows) (now events) × (is-some (decode 7 w) ≡ true) ⌝ }
-    ensures { λ r. ⌜ PerformsBy (decode 7 w) d r (now (subs .entry)) (now (rows .entry)) (now (events .entry)) (now (subs .exit)) (now (rows .exit)) (now (events .exit)) ⌝ }
-{
-    let id = Id::of_words(w[0], w[1], w[2]);
-    calls::words_fit(w);
-    let prefetch = words::int_of(w[3]);
-    let r = requests::set_prefetch(subs, rows, events, d, id, prefetch, w[4]);
-    Answer::done(0, r)
 }

@@ -1,9 +1,12 @@
 // What goes from a destination (codes 3, 8 to 10 and 15): a consumer, a transaction's marks, expired entries, all of them, what is reserved.
 ghost use mathlib.Core.Path.{_≡_};
+ghost use mathlib.Core.Bool.{true};
 ghost use Prim.Native.Nat.{_≤_, _^_};
-ghost use Rattle.definition.specs.Calls.{leaving, unmarking, releasing, sweeping, clearing};
+ghost use Rattle.definition.specs.Base.{is-some};
+ghost use Rattle.definition.specs.Calls.{leaving, releasing, clearing};
+ghost use Rattle.definition.specs.Words.{decode};
 ghost use Rattle.state.specs.Ready.{Ready};
-ghost use Rattle.engine.specs.Called.{Performs};
+ghost use Rattle.engine.specs.Called.{Performs, PerformsBy};
 use consumers::SubRow;
 use entry::Row;
 use model::Id;
@@ -32,11 +35,18 @@ pub(crate) fn leave(
     Answer::done(1, sent)
 }
 
-// `Dest::release_reserved`, its first half: the transaction marks of a present consumer.
-pub(crate) fn unmark(subs: &[SubRow], rows: &mut [Row], events: &[Event], d: Head, id: Id) -> Answer
-    requires { ⌜ Ready d (now subs) (now rows) (now events) ⌝ }
-    ensures { λ r. ⌜ Performs (unmarking id) d r (now (subs .entry)) (now (rows .entry)) (now (events .entry)) (now (subs .entry)) (now (rows .exit)) (now (events .entry)) ⌝ }
+// `Dest::release_reserved`, its first half (code 8): the transaction marks of a present consumer.
+pub(crate) fn unmark(
+    subs: &[SubRow],
+    rows: &mut [Row],
+    events: &[Event],
+    d: Head,
+    w: [u64; 8],
+) -> Answer
+    requires { ⌜ Ready d (now subs) (now rows) (now events) × (is-some (decode 8 w) ≡ true) ⌝ }
+    ensures { λ r. ⌜ PerformsBy (decode 8 w) d r (now (subs .entry)) (now (rows .entry)) (now (events .entry)) (now (subs .entry)) (now (rows .exit)) (now (events .entry)) ⌝ }
 {
+    let id = Id::of_words(w[0], w[1], w[2]);
     returns::unmark(subs, rows, events, d, id);
     Answer::done(0, d)
 }
@@ -62,22 +72,22 @@ pub(crate) fn release(
     Answer::done(0, sent)
 }
 
-// `Dest::sweep_expired`, of at most so many.
+// `Dest::sweep_expired`, of at most so many (code 9).
 pub(crate) fn sweep(
     subs: &mut [SubRow],
     rows: &mut [Row],
     events: &[Event],
     d: Head,
-    most: usize,
-    clock: u64,
+    w: [u64; 8],
 ) -> Answer
-    requires { ⌜ Ready d (now subs) (now rows) (now events) × (clock ≤ 2 ^ 62) × (most ≤ 512) ⌝ }
-    ensures { λ r. ⌜ Performs (sweeping clock most) d r (now (subs .entry)) (now (rows .entry)) (now (events .entry)) (now (subs .exit)) (now (rows .exit)) (now (events .entry)) ⌝ }
+    requires { ⌜ Ready d (now subs) (now rows) (now events) × (is-some (decode 9 w) ≡ true) ⌝ }
+    ensures { λ r. ⌜ PerformsBy (decode 9 w) d r (now (subs .entry)) (now (rows .entry)) (now (events .entry)) (now (subs .exit)) (now (rows .exit)) (now (events .entry)) ⌝ }
 {
-    expiry::sweep(subs, rows, events, d, most, clock)
+    let most = w[1] as usize;
+    expiry::sweep(subs, rows, events, d, most, w[0])
 }
 
-// `Dest::clear`.
+// `Dest::clear` (code 10).
 pub(crate) fn clear(subs: &mut [SubRow], rows: &[Row], events: &[Event], d: Head) -> Answer
     requires { ⌜ Ready d (now subs) (now rows) (now events) ⌝ }
     ensures { λ r. ⌜ Performs clearing d r (now (subs .entry)) (now (rows .entry)) (now (events .entry)) (now (subs .exit)) (now (rows .entry)) (now (events .entry)) ⌝ }

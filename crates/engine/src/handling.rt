@@ -1,4 +1,4 @@
-// The other calls on the tables from their words (codes 1 to 3, 8 to 10 and 15).
+// The other calls on the tables from their words (codes 1 to 3 and 15).
 ghost use mathlib.Core.Path.{_≡_};
 ghost use mathlib.Core.Bool.{true};
 ghost use Rattle.definition.specs.Base.{is-some};
@@ -84,50 +84,6 @@ pub(crate) fn leave(
     let id = Id::of_words(w[0], w[1], w[2]);
     let last = words::signed_of(w[3]);
     departures::leave(subs, rows, events, d, id, last, w[4])
-}
-
-// Code 8.
-pub(crate) fn unmark(
-    subs: &[SubRow],
-    rows: &mut [Row],
-    events: &[Event],
-    d: Head,
-    w: [u64; 8],
-) -> Answer
-    requires { ⌜ Ready d (now subs) (now rows) (now events) × (is-some (decode 8 w) ≡ true) ⌝ }
-    ensures { λ r. ⌜ PerformsBy (decode 8 w) d r (now (subs .entry)) (now (rows .entry)) (now (events .entry)) (now (subs .entry)) (now (rows .exit)) (now (events .entry)) ⌝ }
-{
-    let id = Id::of_words(w[0], w[1], w[2]);
-    departures::unmark(subs, rows, events, d, id)
-}
-
-// Code 9.
-pub(crate) fn sweep(
-    subs: &mut [SubRow],
-    rows: &mut [Row],
-    events: &[Event],
-    d: Head,
-    w: [u64; 8],
-) -> Answer
-    requires { ⌜ Ready d (now subs) (now rows) (now events) × (is-some (decode 9 w) ≡ true) ⌝ }
-    ensures { λ r. ⌜ PerformsBy (decode 9 w) d r (now (subs .entry)) (now (rows .entry)) (now (events .entry)) (now (subs .exit)) (now (rows .exit)) (now (events .entry)) ⌝ }
-{
-    let most = w[1] as usize;
-    departures::sweep(subs, rows, events, d, most, w[0])
-}
-
-// Code 10.
-pub(crate) fn clear(
-    subs: &mut [SubRow],
-    rows: &[Row],
-    events: &[Event],
-    d: Head,
-    w: [u64; 8],
-) -> Answer
-    requires { ⌜ Ready d (now subs) (now rows) (now events) × (is-some (decode 10 w) ≡ true) ⌝ }
-    ensures { λ r. ⌜ PerformsBy (decode 10 w) d r (now (subs .entry)) (now (rows .entry)) (now (events .entry)) (now (subs .exit)) (now (rows .entry)) (now (events .entry)) ⌝ }
-{
-    departures::clear(subs, rows, events, d)
 }
 
 // Code 15.

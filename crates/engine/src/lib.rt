@@ -26,7 +26,6 @@ mod ordered;
 mod perform;
 mod requests;
 mod storing;
-mod uncoded;
 
 pub use batch::Done;
 pub use batch::calls;
@@ -37,8 +36,6 @@ use state::Answer;
 use state::Event;
 use state::Head;
 use stats::Stats;
-pub use uncoded::add_discarded;
-pub use uncoded::expired_before_storing;
 
 // The refusal (0: accepted), the answer, how many events were written.
 #[repr(C)]
@@ -118,7 +115,7 @@ fn open(head: &mut [u64], c: Call) -> Outcome
 }
 
 // Stores what a call leaves, with one call more used; a refused one stores nothing.
-fn finish(head: &mut [u64], a: Answer) -> Outcome
+pub fn finish(head: &mut [u64], a: Answer) -> Outcome
     ensures { λ r. ⌜ r ≡ finished a ⌝ }
     ensures { λ _. ⌜ now (head .exit) ≡ (if eqb (a .refusal) 0 then storedHead (counted (a .head)) (now (head .entry)) else now (head .entry)) ⌝ }
 {

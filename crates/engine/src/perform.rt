@@ -9,7 +9,9 @@ ghost use Rattle.producers.specs.Producers.{headFits};
 ghost use Rattle.state.specs.Ready.{Ready};
 ghost use Rattle.engine.specs.Called.{PerformsBy, HeadBy, onTables};
 use crate::asking;
+use crate::departures;
 use crate::handling;
+use crate::requests;
 use calls::Call;
 use consumers::SubRow;
 use entry::Row;
@@ -36,12 +38,12 @@ pub(crate) fn perform(
         Call::LEAVE => handling::leave(subs, rows, events, d, w),
         Call::ACK => asking::ask_ack(subs, rows, events, d, w),
         Call::PULL => asking::ask_pull(subs, rows, events, d, w),
-        Call::TIMEOUT => asking::ask_timeout(subs, rows, events, d, w),
-        Call::PREFETCH => asking::ask_prefetch(subs, rows, events, d, w),
-        Call::UNMARK => handling::unmark(subs, rows, events, d, w),
-        Call::SWEEP => handling::sweep(subs, rows, events, d, w),
+        Call::TIMEOUT => requests::pull_timeout(subs, rows, events, d, w),
+        Call::PREFETCH => requests::set_prefetch(subs, rows, events, d, w),
+        Call::UNMARK => departures::unmark(subs, rows, events, d, w),
+        Call::SWEEP => departures::sweep(subs, rows, events, d, w),
         Call::RELEASE => handling::release(subs, rows, events, d, w),
-        _ => handling::clear(subs, rows, events, d, w),
+        _ => departures::clear(subs, rows, events, d),
     }
 }
 

@@ -4,12 +4,14 @@ ghost use mathlib.Core.Bool.{true};
 ghost use Prim.Native.Nat.{_<_, _≤_, _^_};
 ghost use lib.ListN.{take};
 ghost use Rattle.model.specs.declared.Id.{Id};
-ghost use Rattle.definition.specs.Calls.{signedWithin};
-ghost use Rattle.definition.specs.Destination.{ack, setPrefetch, pullTimeout};
+ghost use Rattle.definition.specs.Base.{is-some};
+ghost use Rattle.definition.specs.Destination.{ack};
+ghost use Rattle.definition.specs.Words.{decode};
 ghost use Rattle.entry.specs.declared.Found.the-variants.{At};
 ghost use Rattle.consumers.specs.Table.{positionFrom};
 ghost use Rattle.acks.specs.Acks.{ackOf, acked};
 ghost use Rattle.state.specs.Ready.{Ready};
+ghost use Rattle.engine.specs.Called.{PerformsBy};
 ghost use Rattle.engine.specs.Requests.{sentOn, Absent, Sends, Pulled};
 use crate::acking;
 use acks::Ack;
@@ -83,36 +85,40 @@ pub(crate) fn ack(
     }
 }
 
-// `Dest::pull_timeout`.
+// `Dest::pull_timeout` (code 6).
 pub(crate) fn pull_timeout(
     subs: &mut [SubRow],
     rows: &[Row],
     events: &mut [Event],
     d: Head,
-    id: Id,
-    generation: u64,
-) -> Head
-    requires { ⌜ Ready d (now subs) (now rows) (now events) ⌝ }
-    ensures { λ r. ⌜ Sends (pullTimeout id generation) d r (now (subs .entry)) (now (rows .entry)) (now (events .entry)) (now (subs .exit)) (now (rows .entry)) (now (events .exit)) ⌝ }
+    w: [u64; 8],
+) -> Answer
+    requires { ⌜ Ready d (now subs) (now rows) (now events) × (is-some (decode 6 w) ≡ true) ⌝ }
+    ensures { λ r. ⌜ PerformsBy (decode 6 w) d r (now (subs .entry)) (now (rows .entry)) (now (events .entry)) (now (subs .exit)) (now (rows .entry)) (now (events .exit)) ⌝ }
 {
-    pulls::pull_timeout(subs, rows, events, d, id, generation)
+    let id = Id::of_words(w[0], w[1], w[2]);
+    let r = pulls::pull_timeout(subs, rows, events, d, id, w[3]);
+    Answer::done(0, r)
 }
 
-// `Dest::set_prefetch`.
+// `Dest::set_prefetch` (code 7).
 pub(crate) fn set_prefetch(
     subs: &mut [SubRow],
     rows: &mut [Row],
     events: &mut [Event],
     d: Head,
-    id: Id,
-    prefetch: i32,
-    clock: u64,
-) -> Head
-    requires { ⌜ Ready d (now subs) (now rows) (now events) × (clock ≤ 2 ^ 62) × (signedWithin 2147483648 prefetch ≡ true) ⌝ }
-    ensures { λ r. ⌜ Sends (setPrefetch clock id prefetch) d r (now (subs .entry)) (now (rows .entry)) (now (events .entry)) (now (subs .exit)) (now (rows .exit)) (now (events .exit)) ⌝ }
+    w: [u64; 8],
+) -> Answer
+    requires { ⌜ Ready d (now subs) (now rows) (now events) × (is-some (decode 7 w) ≡ true) ⌝ }
+    ensures { λ r. ⌜ PerformsBy (decode 7 w) d r (now (subs .entry)) (now (rows .entry)) (now (events .entry)) (now (subs .exit)) (now (rows .exit)) (now (events .exit)) ⌝ }
 {
+    let id = Id::of_words(w[0], w[1], w[2]);
+    calls::words_fit(w);
+    let prefetch = words::int_of(w[3]);
+    let clock = w[4];
     pulls::set_prefetch(subs, rows, events, d, id, prefetch);
-    dispatch::dispatch(subs, rows, events, d, clock)
+    let sent = dispatch::dispatch(subs, rows, events, d, clock);
+    Answer::done(0, sent)
 }
 
 // `Dest::pull`.

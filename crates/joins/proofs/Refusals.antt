@@ -23,7 +23,7 @@ use Rattle.table.proofs.Segments.{tally-map}
 use Rattle.entry.specs.declared.Found.{Found}
 use Rattle.entry.specs.declared.Found.the-variants.{At, Nothing}
 use Rattle.consumers.specs.Table.{positionFrom}
-use Rattle.consumers.proofs.View.{subs-length}
+use Rattle.definition.proofs.Stored.{subs-length}
 use Rattle.consumers.proofs.Seek.{found-at, found-none}
 use Rattle.consumers.proofs.Laws.{consumer-rows}
 use Rattle.state.specs.declared.Head.{Head}

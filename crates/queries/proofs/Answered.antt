@@ -21,7 +21,7 @@ use Rattle.sound.specs.Sound.{lent}
 use Rattle.definition.proofs.Lists.{empty-length}
 use Rattle.consumers.specs.Table.{keptRows}
 use Rattle.consumers.proofs.Laws.{held-subs, kept-few}
-use Rattle.consumers.proofs.View.{subs-length}
+use Rattle.definition.proofs.Stored.{subs-length}
 use Rattle.sound.proofs.Tests.{part-of, all-map}
 use Rattle.state.specs.declared.Head.{Head}
 use Rattle.state.specs.State.{headView, loaded, firstWaiting}

@@ -21,9 +21,9 @@ use Rattle.definition.proofs.Tests.{and-left, and-right}
 use Rattle.definition.proofs.Thin.{every-all}
 use Rattle.definition.proofs.Sums.{bad, occ, odd, sum, sum-append, ok-sum, sum-ok, once-sum, sum-once, agree-sum, sum-agree}
 use Rattle.definition.proofs.Bytes.{bytes-any-order}
+use Rattle.definition.proofs.Stored.{seqs-rows}
 use Rattle.distinct.proofs.Laws.{member-seqs}
 use Rattle.copies.proofs.Laws.{part-turn, row-more}
-use Rattle.sound.proofs.Subs.{seqs-rows}
 use Rattle.queries.specs.Bytes.{bytesAt, sizesOf, Small}
 
 -- ---- what the definitions say

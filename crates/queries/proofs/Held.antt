@@ -19,9 +19,9 @@ use Rattle.definition.proofs.Thin.{every-all}
 use Rattle.definition.proofs.Sums.{bad, sum-ok}
 use Rattle.definition.proofs.Sound as Def
 use Rattle.definition.proofs.Whole.{fine, rows-length}
+use Rattle.definition.proofs.Stored.{seqs-rows}
 use Rattle.copies.specs.Copies.{sharedBy}
 use Rattle.sound.specs.Sound.{lent, reservedAt, waitingAt, tableTests, tablesOk, restOk}
-use Rattle.sound.proofs.Subs.{seqs-rows}
 use Rattle.sound.proofs.Sizes.{used-parts}
 use Rattle.sound.proofs.Meaning.{sound-rest, all-rows}
 use Rattle.sound.proofs.Lone.{lone-distinct}

@@ -16,7 +16,7 @@ use Rattle.definition.specs.Layout.{Row, subRows, eventWords}
 use Rattle.definition.proofs.Tests.{if-true}
 use Rattle.definition.proofs.Lists.{empty-nil, length-nil}
 use Rattle.definition.proofs.Local.{rounds-none}
-use Rattle.consumers.proofs.View.{subs-length}
+use Rattle.definition.proofs.Stored.{subs-length}
 use Rattle.state.specs.declared.Head.{Head}
 use Rattle.state.specs.State.{headView, kindBy}
 use Rattle.state.specs.Leaves.{Leaves}

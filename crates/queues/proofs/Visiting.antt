@@ -29,7 +29,8 @@ use Rattle.table.proofs.Laws.{insert-parts}
 use Rattle.consumers.specs.declared.Sub.{Sub}
 use Rattle.consumers.specs.Consumers.{rowSub, subWords, subView, creditOf, sentSub}
 use Rattle.consumers.specs.Seats.{flyingIn, heldIn, afterIn}
-use Rattle.consumers.proofs.View.{sub-at, sub-stored, subs-length, subs-nth, subs-put, subs-reword, rows-parts, rows-set, rows-split, rows-take, flying-length, held-length}
+use Rattle.definition.proofs.Stored.{subs-length}
+use Rattle.consumers.proofs.View.{sub-at, sub-stored, subs-nth, subs-put, subs-reword, rows-parts, rows-set, rows-split, rows-take, flying-length, held-length}
 use Rattle.consumers.proofs.Laws.{credit, browser-sub, accepts-sub}
 use Rattle.consumers.proofs.Strict.{all-left, all-right, all-weaker, stored-strict, strict-at, strict-put, strict-reword}
 use Rattle.state.specs.declared.Head.{Head}

@@ -14,7 +14,7 @@ use Rattle.definition.specs.Calls.{seqs, flying, taken, held}
 use Rattle.definition.specs.Words.{at, kindBy}
 use Rattle.definition.specs.Layout.{Row, flag, subAt, subsAt, subRows}
 use Rattle.definition.proofs.Tests.{by-test, if-true, if-false}
-use Rattle.definition.proofs.Stored.{flying-rows, held-rows}
+use Rattle.definition.proofs.Stored.{flying-rows, held-rows, seqs-rows}
 use Rattle.table.specs.Table.{holdsSeq, hasSeqIn}
 use Rattle.table.proofs.Bounds.{has-in}
 use Rattle.state.specs.declared.Head.{Head}
@@ -23,7 +23,6 @@ use Rattle.fates.specs.Blocks.{heldAs}
 use Rattle.distinct.proofs.Laws.{member-seqs}
 use Rattle.report.specs.Report.{missed, HeldNumbers}
 use Rattle.sound.proofs.Tests.{part-of}
-use Rattle.sound.proofs.Subs.{seqs-rows}
 
 -- ---- numbers
 

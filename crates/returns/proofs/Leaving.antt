@@ -27,7 +27,8 @@ use Rattle.entry.specs.declared.Found.the-variants.{At}
 use Rattle.consumers.specs.Consumers.{rowSub}
 use Rattle.consumers.specs.Seats.{flyingIn, afterIn, subIn}
 use Rattle.consumers.specs.Table.{positionFrom, takenOut, subRemoved}
-use Rattle.consumers.proofs.View.{rows-append, rows-take, rows-split, rows-gone, subs-length, subs-gone, after-all, after-gone, sub-at}
+use Rattle.definition.proofs.Stored.{subs-length}
+use Rattle.consumers.proofs.View.{rows-append, rows-take, rows-split, rows-gone, subs-gone, after-all, after-gone, sub-at}
 use Rattle.consumers.proofs.Strict.{strict-at, strict-gone}
 use Rattle.consumers.proofs.Laws.{removed-first, browser-sub}
 use Rattle.consumers.proofs.Seek.{found-at, without-at}

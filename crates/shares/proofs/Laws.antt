@@ -1,6 +1,6 @@
 -- Laws of a share: of two lists one after the other, of entries by their connections, and the turns of the loops. Assumes nothing.
 use mathlib.Core.Path.{_≡_, refl, sym, ap, ap₂, _∙_}
-use mathlib.Core.Bool.{Bool, true, false, _&&_, and-false, and-assoc, and-comm}
+use mathlib.Core.Bool.{Bool, true, false, _&&_, and-false, and-comm}
 use mathlib.Core.List.{List, [], _∷_, _++_}
 use Prim.Native.Nat.{ℕ, suc, _+_, _%_, _≤_, _<_}
 use native.Mathlib.Nat.{add-comm}
@@ -15,6 +15,7 @@ use Rattle.definition.specs.Base.{if_then_else_, all, tally}
 use Rattle.definition.specs.Types.{Entry}
 use Rattle.definition.specs.Calls.{rowsFrom, withinShare}
 use Rattle.definition.proofs.Thin.{tally-append, tally-length, tally-less}
+use Rattle.definition.proofs.Lists.{all-joined}
 use Rattle.shares.specs.Shares.{withinEach, conns}
 
 -- ---- counts
@@ -22,10 +23,6 @@ use Rattle.shares.specs.Shares.{withinEach, conns}
 all-of : (p : ℕ → Bool) (l : List ℕ) → ((x : ℕ) → p x ≡ true) → all p l ≡ true
 all-of p [] h = refl
 all-of p (x ∷ l) h = ap₂ (λ (a b : Bool). a && b) (h x) (all-of p l h)
-
-all-append : (p : ℕ → Bool) (l m : List ℕ) → all p (l ++ m) ≡ (all p l && all p m)
-all-append p [] m = refl
-all-append p (x ∷ l) m = ap (λ (b : Bool). p x && b) (all-append p l m) ∙ sym (and-assoc (p x) (all p l) (all p m))
 
 -- ---- a share
 
@@ -36,9 +33,9 @@ within-full share l h = all-of (λ x. leb (tally (eqb x) l) share) l (λ x. le-l
 -- the order of two blocks does not matter
 pub within-turned : (share : ℕ) (l m : List ℕ) → withinEach share (l ++ m) ≡ withinEach share (m ++ l)
 within-turned share l m =
-    all-append (λ x. leb (tally (eqb x) (l ++ m)) share) l m
+    all-joined (λ x. leb (tally (eqb x) (l ++ m)) share) l m
     ∙ and-comm (all (λ x. leb (tally (eqb x) (l ++ m)) share) l) (all (λ x. leb (tally (eqb x) (l ++ m)) share) m)
-    ∙ sym (all-append (λ x. leb (tally (eqb x) (l ++ m)) share) m l)
+    ∙ sym (all-joined (λ x. leb (tally (eqb x) (l ++ m)) share) m l)
     ∙ (λ i. all (λ x. leb (same x i) share) (m ++ l))
   where
     same : (x : ℕ) → tally (eqb x) (l ++ m) ≡ tally (eqb x) (m ++ l)
@@ -56,7 +53,7 @@ within-swapped share l m n =
     p x = leb (tally (eqb x) (l ++ (m ++ n))) share
 
     split : (a b c : List ℕ) → all p (a ++ (b ++ c)) ≡ (all p a && (all p b && all p c))
-    split a b c = all-append p a (b ++ c) ∙ ap (λ (t : Bool). all p a && t) (all-append p b c)
+    split a b c = all-joined p a (b ++ c) ∙ ap (λ (t : Bool). all p a && t) (all-joined p b c)
 
     swap : (a b c : Bool) → (a && (b && c)) ≡ (b && (a && c))
     swap true b c = refl
@@ -90,12 +87,12 @@ pub tally-miss : (p : ℕ → Bool) (xs : List ℕ) (i : ℕ) → i < length xs 
 tally-miss p xs i h t = tally-next p xs i h ∙ rw t (omega arith)
 
 pub all-next : (p : ℕ → Bool) (xs : List ℕ) (i : ℕ) → i < length xs → all p (take i xs) ≡ true → p (getD xs i 0) ≡ true → all p (take (i + 1) xs) ≡ true
-all-next p xs i h a t = ap (all p) (take-next xs i 0 h) ∙ all-append p (take i xs) (getD xs i 0 ∷ []) ∙ rw (a, t)
+all-next p xs i h a t = ap (all p) (take-next xs i 0 h) ∙ all-joined p (take i xs) (getD xs i 0 ∷ []) ∙ rw (a, t)
 
 pub all-fails : (p : ℕ → Bool) (xs : List ℕ) (i n : ℕ) → i < n → n ≤ length xs → p (getD xs i 0) ≡ false → all p (take n xs) ≡ false
 all-fails p xs i n h k t =
     ap (all p) (sym (take-append-drop i (take n xs)))
-    ∙ all-append p (take i (take n xs)) (slice i n xs)
+    ∙ all-joined p (take i (take n xs)) (slice i n xs)
     ∙ ap (λ (b : Bool). all p (take i (take n xs)) && b) (ap (all p) (slice-cons i n xs 0 h k) ∙ ap (λ (b : Bool). b && all p (slice (suc i) n xs)) t)
     ∙ and-false (all p (take i (take n xs)))
 

@@ -15,11 +15,11 @@ use Rattle.definition.specs.Consumer.{isBrowser}
 use Rattle.definition.specs.Calls.{seqs, flying, rowsOf, taken}
 use Rattle.definition.specs.Words.{at}
 use Rattle.definition.specs.Layout.{Row, flag, browserAt, subAt, eachSub, subsAt}
-use Rattle.definition.proofs.Stored.{flying-rows}
+use Rattle.definition.proofs.Stored.{flying-rows, seqs-rows}
 use Rattle.definition.proofs.Thin.{map-append}
 use Rattle.sound.specs.Sound.{kindBy, seqsAt, apartBy}
 use Rattle.sound.proofs.Tests.{part-turn, part-end}
-use Rattle.sound.proofs.Subs.{seqs-rows, rows-of-sub}
+use Rattle.sound.proofs.Subs.{rows-of-sub}
 
 -- one number more
 pub seqs-more : (rows : List Row) (from i : ℕ) → from + i < length rows

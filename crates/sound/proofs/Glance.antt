@@ -13,9 +13,9 @@ use Rattle.definition.specs.Base.{all, member, distinct, ascending}
 use Rattle.definition.specs.Words.{at}
 use Rattle.definition.specs.Layout.{Row}
 use Rattle.definition.proofs.Tests.{and-left, and-right, and-both}
+use Rattle.definition.proofs.Lists.{all-joined}
 use Rattle.distinct.proofs.Laws.{apart, distinct-snoc, mark-kept}
 use Rattle.sound.specs.Sound.{seqsAt, slotsMarked, markedApart, Met}
-use Rattle.sound.proofs.Subs.{all-append}
 use Rattle.sound.proofs.Rising.{waiting-apart}
 use Rattle.sound.proofs.Gathered.{seqs-more}
 
@@ -44,7 +44,7 @@ module _ (slots : List Bool) (w : List ℕ) where
       let each = and-left (all (slotsMarked slots w) l) (distinct l) e in
       let here : slotsMarked s w x ≡ true = and-both (getD s (x % 256) false) (not (member x w)) (getD-set-same slots (x % 256) true false h) (ap not m) in
       and-both (all (slotsMarked s w) (l ++ x ∷ [])) (distinct (l ++ x ∷ []))
-      (all-append (slotsMarked s w) l (x ∷ []) ∙ and-both (all (slotsMarked s w) l) (slotsMarked s w x && true) (still-marked (x % 256) l each) (and-both (slotsMarked s w x) true here refl))
+      (all-joined (slotsMarked s w) l (x ∷ []) ∙ and-both (all (slotsMarked s w) l) (slotsMarked s w x && true) (still-marked (x % 256) l each) (and-both (slotsMarked s w x) true here refl))
       (distinct-snoc l x ∙ and-both (distinct l) (not (member x l)) (and-right (all (slotsMarked slots w) l) (distinct l) e) (ap not (new-number x l each f)))
 
   others-apart : (l : List ℕ) → all (slotsMarked slots w) l ≡ true → apart l w ≡ true

@@ -15,10 +15,12 @@ use Rattle.definition.specs.Types.{topic}
 use Rattle.definition.specs.Words.{at}
 use Rattle.definition.specs.Layout.{Row, subAt, subsAt, subRows}
 use Rattle.definition.proofs.Tests.{and-left, and-right, and-both}
+use Rattle.definition.proofs.Stored.{seqs-rows}
+use Rattle.definition.proofs.Lists.{all-joined}
 use Rattle.copies.specs.Copies.{alike, agreeAt}
 use Rattle.copies.proofs.Laws.{agree-means, alike-at, member-at}
 use Rattle.sound.specs.Sound.{seqsAt, apartBy, HubAt, SameRows, sizesAt}
-use Rattle.sound.proofs.Subs.{seqs-rows, all-append, rows-turn, walk-turn}
+use Rattle.sound.proofs.Subs.{rows-turn, walk-turn}
 use Rattle.sound.proofs.Gathered.{apart-here}
 use Rattle.sound.proofs.Sizes.{distinct-agree}
 
@@ -104,7 +106,7 @@ pub more-copies : (rows : List Row) (base k end many : ℕ) → distinct (seqsAt
 more-copies rows base k end many d b l m s e =
     let h : List Row = hub end many rows in
     ap (all (copy h)) (take-add base k rows)
-    ∙ all-append (copy h) (take base rows) (take k (drop base rows))
+    ∙ all-joined (copy h) (take base rows) (take k (drop base rows))
     ∙ and-both (all (copy h) (take base rows)) (all (copy h) (take k (drop base rows))) e
     (all-below (copy h) (drop base rows) k (simp length-drop (omega arith)) (λ i t.
     let j : ℕ = many - k + i in

@@ -22,14 +22,14 @@ use Rattle.definition.specs.Calls.{word, idOk, entryOk, clockOk, bound, seqs, f
 use Rattle.definition.specs.Words.{at, kindOf}
 use Rattle.definition.specs.Layout.{Row, Buffers, idAt, heldAt, subAt, eachSub, subsAt, subRows, idsAt, ringAt, auditsAt, view, usedRows, ringsFormed, isMark, entryStrict, subStrict, subsStrict, tablesStrict, strict, formed, soundBuffers}
 use Rattle.definition.proofs.Tests.{and-left, and-right, and-both}
-use Rattle.definition.proofs.Lists.{empty-nil, empty-map, all-first, all-rest, all-weaker}
-use Rattle.definition.proofs.Stored.{held-rows, ids-length, audits-length}
+use Rattle.definition.proofs.Lists.{empty-nil, empty-map, all-first, all-rest, all-weaker, all-joined}
+use Rattle.definition.proofs.Stored.{held-rows, ids-length, audits-length, seqs-rows, subs-length}
 use Rattle.definition.proofs.Thin.{every-all, all-every, map-append}
 use Rattle.distinct.proofs.Laws.{iff, distinct-left, distinct-right}
 use Rattle.sound.specs.Sound.{limitsOk, countsOk, marksOk, headOk, rowOk, holderOk, ownTests, ownSound, ownOk, eachOk, kindBy, seqsAt, apartBy, emptyBy, reservedAt, waitingAt, queueApart, sizesAt, tableTests, tablesOk, sharesAt, lent, restOk}
 use Rattle.sound.proofs.Tests.{swap-inner, empty-take, all-map}
 use Rattle.sound.proofs.Rows.{Words, words-drop, id-fits}
-use Rattle.sound.proofs.Subs.{seqs-rows, rows-ok, sorted-means, all-append, rows-of-sub, optional-test, ids-means}
+use Rattle.sound.proofs.Subs.{rows-ok, sorted-means, rows-of-sub, optional-test, ids-means}
 use Rattle.sound.proofs.Sizes.{agree-turned, used-parts}
 use Rattle.sound.proofs.Connected.{own-queue, own-topic}
 
@@ -65,7 +65,7 @@ ring-fits a l h e =
     let w = words-all l h in
     let m = drop (a .start) (take 1024 l) ++ take (a .start) l in
     let all-m : all word m ≡ true =
-    all-append word (drop (a .start) (take 1024 l)) (take (a .start) l)
+    all-joined word (drop (a .start) (take 1024 l)) (take (a .start) l)
     ∙ and-both (all word (drop (a .start) (take 1024 l))) (all word (take (a .start) l)) (all-rest word (a .start) (take 1024 l) (all-first word 1024 l w)) (all-first word (a .start) l w) in
     (le-leb (length (take (a .count) m)) 1024 (omega (arith, length-take (a .count) m, ring-count a e)), all-first word (a .count) m all-m)
 
@@ -192,11 +192,6 @@ own-subs topic u (s ∷ ss) o a t =
     (own-sub topic u s (and-left (ownSound topic (bound u) s) (all (ownSound topic (bound u)) ss) o) (and-left (apartBy topic s) (all (apartBy topic) ss) a))
     (own-subs topic u ss (and-right (ownSound topic (bound u) s) (all (ownSound topic (bound u)) ss) o) (and-right (apartBy topic s) (all (apartBy topic) ss) a) refl)
 
-subs-count : (k : Kind) (ws rows : List Row) → length (subsAt k ws rows) ≡ length ws
-unfolding eachSub
-subs-count k [] rows = refl
-subs-count k (w ∷ ws) rows = ap suc (subs-count k ws (drop (at 15 w) (drop (at 14 w) rows)))
-
 rows-count : (k : Kind) (ws rows : List Row) → length (consumerRows (subsAt k ws rows)) ≤ subRows ws
 unfolding eachSub subRows
 rows-count k [] rows = omega arith
@@ -284,7 +279,7 @@ module _ (h : List ℕ) (subs rows : List Row) (ls : 32 ≤ length subs) (lr : 5
   stands f = record { waits = ap (λ (l : List Row). map entryOf (take (at 16 h) l)) (drop-drop (at 15 h) (subRows us) rows); kept = refl; consumers = refl }
 
   subs-many : at 12 h ≤ 32 → length (subsAt k us rows) ≡ at 12 h
-  subs-many f = subs-count k us rows ∙ length-take-le (at 12 h) subs (omega arith)
+  subs-many f = subs-length k us rows ∙ length-take-le (at 12 h) subs (omega arith)
 
   turn-same : at 12 h ≤ 32 → (ltb (at 4 h) (length (subsAt k us rows)) || eqb (at 4 h) 0) ≡ (ltb (at 4 h) (at 12 h) || eqb (at 4 h) 0)
   turn-same f = ap (λ (n : ℕ). ltb (at 4 h) n || eqb (at 4 h) 0) (subs-many f)
@@ -294,7 +289,7 @@ module _ (h : List ℕ) (subs rows : List Row) (ls : 32 ≤ length subs) (lr : 5
   entries-same f =
       let s = stands f in
       ap₂ (λ (x y : List Entry). all entryOk (x ++ y)) (s .waits) (held-means (subRows us) (at 15 h) (at 16 h) us rows (in-table f) k (view b) s)
-      ∙ all-append entryOk (map entryOf (waitingAt (subRows us) (at 15 h) (at 16 h) rows)) (map entryOf (reservedAt (subRows us) (at 15 h) rows))
+      ∙ all-joined entryOk (map entryOf (waitingAt (subRows us) (at 15 h) (at 16 h) rows)) (map entryOf (reservedAt (subRows us) (at 15 h) rows))
 
   abbrev formedTests : List Bool
   formedTests = leb (at 12 h) 32 ∷ leb (at 13 h) 32 ∷ leb (at 14 h) 8 ∷ leb (usedRows b) 512 ∷ ringsFormed (at 14 h) (drop 113 h) ∷ strict b ∷ []
@@ -313,7 +308,7 @@ module _ (h : List ℕ) (subs rows : List Row) (ls : 32 ≤ length subs) (lr : 5
   strict-parts =
       let z : List Row = drop (subRows us) rows in
       ap (λ (l : List Row). subsStrict us rows && all entryStrict l) (take-add (at 15 h) (at 16 h) z ∙ ap (λ (l : List Row). kept-rows ++ take (at 16 h) l) (drop-drop (at 15 h) (subRows us) rows))
-      ∙ ap (λ (t : Bool). subsStrict us rows && t) (all-append entryStrict kept-rows waiting-rows)
+      ∙ ap (λ (t : Bool). subsStrict us rows && t) (all-joined entryStrict kept-rows waiting-rows)
 
   holders-same : all (λ x. idOk (x .holder)) (view b .reserved) ≡ all holderOk (reservedAt (subRows us) (at 15 h) rows)
   unfolding view

@@ -22,8 +22,8 @@ use Rattle.definition.specs.Words.{at}
 use Rattle.definition.specs.Layout.{Row, flag, idAt, inflightAt, browserAt, tpendingAt, subAt, eachSub, subsAt, subRows, isMark, entryStrict, flyingStrict, wordsStrict, subStrict}
 use Rattle.definition.proofs.Tests.{and-left, and-right, and-both}
 use Rattle.definition.proofs.Thin.{every-all, all-every}
-use Rattle.definition.proofs.Lists.{empty-map}
-use Rattle.definition.proofs.Stored.{flying-rows, holding}
+use Rattle.definition.proofs.Lists.{empty-map, all-joined}
+use Rattle.definition.proofs.Stored.{flying-rows, holding, seqs-rows}
 use Rattle.distinct.proofs.Laws.{iff}
 use Rattle.sound.specs.Sound.{upward, rowOk, flightOk, flyingOk, sortedOk, wordTests, heldOk, ownTests, ownSound, ownOk, eachOk, kindBy, idsApart, seqsAt, heldSeqs, heldRise, rowsUpTo}
 use Rattle.sound.proofs.Tests.{swap-inner, part-turn, part-end, part-of, empty-take}
@@ -45,11 +45,6 @@ dseqs-rows (w ∷ f) = ap (λ (l : List ℕ). at 6 w ∷ l) (dseqs-rows f)
 freed-rows : (f : List Row) → tally (λ w. flag (at 7 w)) f ≡ tally (λ i. i .freed) (map inflightAt f)
 freed-rows [] = refl
 freed-rows (w ∷ f) = ap (λ (n : ℕ). (if flag (at 7 w) then 1 else 0) + n) (freed-rows f)
-
-pub seqs-rows : (l : List Row) → map (at 0) l ≡ seqs (map entryOf l)
-unfolding entryOf
-seqs-rows [] = refl
-seqs-rows (w ∷ l) = ap (λ (m : List ℕ). at 0 w ∷ m) (seqs-rows l)
 
 pub rows-ok : (l : List Row) → all rowOk l ≡ (all entryOk (map entryOf l) && all entryStrict l)
 rows-ok [] = refl
@@ -78,10 +73,6 @@ sorted-means l = ap₂ _&&_ (rows-ok l) (upward-ascends (map (at 0) l) ∙ ap as
 pub sorted-rises : (l : List Row) → sortedOk 0 l ≡ true → ascending (seqsAt l) ≡ true
 unfolding sortedOk
 sorted-rises l e = sym (upward-ascends (seqsAt l)) ∙ and-right (all rowOk l) (upward 0 (seqsAt l)) e
-
-pub all-append : {A : Type 0} (p : A → Bool) (a b : List A) → all p (a ++ b) ≡ (all p a && all p b)
-all-append p [] b = refl
-all-append p (x ∷ a) b = ap (λ (t : Bool). p x && t) (all-append p a b) ∙ sym (and-assoc (p x) (all p a) (all p b))
 
 -- ---- one consumer
 
@@ -112,7 +103,7 @@ pull-test most a b = optional-test (λ g. leb g most) a b
 -- the parts that the code tests, for a queue's consumer and a topic's
 module _ (most : ℕ) (w : Row) (f h : List Row) (named : idOk (idAt w) ≡ true) (none-held : eqb (at 15 w) 0 ≡ empty h) where
   rows-parts : (k : Kind) → all entryOk (rowsOf (subAt k w f h)) ≡ (all entryOk (map entryOf f) && all entryOk (map entryOf h))
-  rows-parts k = ap (all entryOk) (rows-of-sub k w f h) ∙ all-append entryOk (map entryOf f) (map entryOf h)
+  rows-parts k = ap (all entryOk) (rows-of-sub k w f h) ∙ all-joined entryOk (map entryOf f) (map entryOf h)
 
   abbrev strictTests : List Bool
   strictTests = wordsStrict w ∷ all flyingStrict f ∷ all entryStrict h ∷ []

@@ -1,7 +1,10 @@
 -- `engine::perform::perform` meets its contract. Assumes nothing.
 use mathlib.Core.Path.{_≡_}
 use denote.Ref.{now}
-use Rattle.engine.proofs.Performed.{by-code, known-code, last-code}
+use Rattle.definition.specs.Calls.{clearing}
+use Rattle.definition.specs.Words.{decode}
+use Rattle.engine.proofs.Performed.{performs-by, by-code, known-code, last-code}
+use Rattle.engine.proofs.Handled.{clear-decoded}
 use borrow.Author.Needs.{needs}
 use Rattle.engine.proofs.perform.perform.Statement.{statement}
 use Rattle.engine.proofs.perform.perform.Tie as tie
@@ -41,15 +44,15 @@ ask-pull-requires c κs =
     let e : a .c .code ≡ 5 = c .before .before .before .match .keys5 in
     (p .0, known-code (a .c .code) 5 (a .c .words) e (p .1))
 
-ask-timeout-requires : tie.Need-ask-timeout-requires
-ask-timeout-requires c κs =
+pull-timeout-requires : tie.Need-pull-timeout-requires
+pull-timeout-requires c κs =
     let a = c .before .before .before .before .before .args in
     let p = c .before .before .before .before .before .pre in
     let e : a .c .code ≡ 6 = c .before .before .before .match .keys6 in
     (p .0, known-code (a .c .code) 6 (a .c .words) e (p .1))
 
-ask-prefetch-requires : tie.Need-ask-prefetch-requires
-ask-prefetch-requires c κs =
+set-prefetch-requires : tie.Need-set-prefetch-requires
+set-prefetch-requires c κs =
     let a = c .before .before .before .before .before .args in
     let p = c .before .before .before .before .before .pre in
     let e : a .c .code ≡ 7 = c .before .before .before .match .keys7 in
@@ -77,11 +80,7 @@ release-requires c κs =
     (p .0, known-code (a .c .code) 15 (a .c .words) e (p .1))
 
 clear-requires : tie.Need-clear-requires
-clear-requires c κs =
-    let a = c .before .before .before .before .before .args in
-    let p = c .before .before .before .before .before .pre in
-    let e : a .c .code ≡ 10 = last-code (a .c .code) (p .2) (p .3) (c .before .before .before .match .rest .0 .0 .0 .0 .0 .0 .0 .0 .0 .1) (c .before .before .before .match .rest .0 .0 .0 .0 .0 .0 .0 .0 .1) (c .before .before .before .match .rest .0 .0 .0 .0 .0 .0 .0 .1) (c .before .before .before .match .rest .0 .0 .0 .0 .0 .0 .1) (c .before .before .before .match .rest .0 .0 .0 .0 .0 .1) (c .before .before .before .match .rest .0 .0 .0 .0 .1) (c .before .before .before .match .rest .0 .0 .0 .1) (c .before .before .before .match .rest .0 .0 .1) (c .before .before .before .match .rest .0 .1) (c .before .before .before .match .rest .1) in
-    (p .0, known-code (a .c .code) 10 (a .c .words) e (p .1))
+clear-requires c κs = search needs
 
 same-length : tie.Need-same-length
 same-length c = search needs
@@ -175,7 +174,7 @@ same-length-18 c = search needs
 returns-6 : tie.Need-returns-6
 returns-6 c =
     let a = c .before .before .before .before .before .before .before .before .args in
-    let k = c .before .before .ask-timeout in
+    let k = c .before .before .pull-timeout in
     let e : a .c .code ≡ 6 = c .before .before .before .before .before .before .match .keys6 in
     by-code (a .c .code) 6 (a .c .words) (a .d) (k .result) (now (a .subs)) (now (a .rows)) (now (a .events)) (k .last .0) (now (a .rows)) (k .last .1 .1 .0) e (k .ensures)
 
@@ -191,7 +190,7 @@ same-length-21 c = search needs
 returns-7 : tie.Need-returns-7
 returns-7 c =
     let a = c .before .before .before .before .before .before .before .before .before .args in
-    let k = c .before .before .before .ask-prefetch in
+    let k = c .before .before .before .set-prefetch in
     let e : a .c .code ≡ 7 = c .before .before .before .before .before .before .before .match .keys7 in
     by-code (a .c .code) 7 (a .c .words) (a .d) (k .result) (now (a .subs)) (now (a .rows)) (now (a .events)) (k .last .0) (k .last .1 .0) (k .last .1 .1 .0) e (k .ensures)
 
@@ -258,7 +257,8 @@ returns-11 c =
     let p = c .before .before .before .before .before .before .before .pre in
     let k = c .before .clear in
     let e : a .c .code ≡ 10 = last-code (a .c .code) (p .2) (p .3) (c .before .before .before .before .before .match .rest .0 .0 .0 .0 .0 .0 .0 .0 .0 .1) (c .before .before .before .before .before .match .rest .0 .0 .0 .0 .0 .0 .0 .0 .1) (c .before .before .before .before .before .match .rest .0 .0 .0 .0 .0 .0 .0 .1) (c .before .before .before .before .before .match .rest .0 .0 .0 .0 .0 .0 .1) (c .before .before .before .before .before .match .rest .0 .0 .0 .0 .0 .1) (c .before .before .before .before .before .match .rest .0 .0 .0 .0 .1) (c .before .before .before .before .before .match .rest .0 .0 .0 .1) (c .before .before .before .before .before .match .rest .0 .0 .1) (c .before .before .before .before .before .match .rest .0 .1) (c .before .before .before .before .before .match .rest .1) in
-    by-code (a .c .code) 10 (a .c .words) (a .d) (k .result) (now (a .subs)) (now (a .rows)) (now (a .events)) (k .last .0) (now (a .rows)) (now (a .events)) e (k .ensures)
+    by-code (a .c .code) 10 (a .c .words) (a .d) (k .result) (now (a .subs)) (now (a .rows)) (now (a .events)) (k .last .0) (now (a .rows)) (now (a .events)) e
+    (performs-by clearing (a .d) (k .result) (now (a .subs)) (now (a .rows)) (now (a .events)) (k .last .0) (now (a .rows)) (now (a .events)) (decode 10 (a .c .words)) (clear-decoded (a .c .words) (known-code (a .c .code) 10 (a .c .words) e (p .1)) .call) (k .ensures))
 
 pub perform-spec : {M : Type 1} → statement M
 perform-spec =
@@ -269,8 +269,8 @@ perform-spec =
     leave-requires
     ask-ack-requires
     ask-pull-requires
-    ask-timeout-requires
-    ask-prefetch-requires
+    pull-timeout-requires
+    set-prefetch-requires
     unmark-requires
     sweep-requires
     release-requires

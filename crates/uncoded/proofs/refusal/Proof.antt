@@ -1,4 +1,4 @@
--- `engine::uncoded::refusal` meets its contract. Assumes nothing.
+-- `uncoded::refusal` meets its contract. Assumes nothing.
 use mathlib.Core.Path.{_≡_, sym, _∙_}
 use mathlib.Core.Bool.{true, false}
 use native.Mathlib.Omega.{arith}
@@ -8,11 +8,11 @@ use denote.Ref.{now}
 use Rattle.definition.specs.Calls.{stateShort, short}
 use Rattle.definition.specs.Layout.{soundBuffers, lengthsOf}
 use Rattle.sound.specs.Sound.{lent}
 use Rattle.engine.proofs.Ran.{short-state, short-events, not-short, both-no, both-yes}
-use Rattle.engine.proofs.Bare.{bare-short, bare-unsound, spent-refusal, left-refusal}
+use Rattle.uncoded.proofs.Bare.{bare-short, bare-unsound, spent-refusal, left-refusal}
 use borrow.Author.Needs.{needs}
-use Rattle.engine.proofs.uncoded.refusal.Statement.{statement}
-use Rattle.engine.proofs.uncoded.refusal.Tie as tie
+use Rattle.uncoded.proofs.refusal.Statement.{statement}
+use Rattle.uncoded.proofs.refusal.Tie as tie
 
 whole-requires : tie.Need-whole-requires
 whole-requires c κs = search needs

@@ -4,10 +4,10 @@ ghost use lib.ListN.{length};
 ghost use Rattle.definition.specs.Calls.{discarding, missing};
 ghost use Rattle.definition.specs.Layout.{bufferCall};
 ghost use Rattle.sound.specs.Sound.{lent};
 ghost use Rattle.engine.specs.Called.{Called};
-ghost use Rattle.engine.specs.Bare.{bareRefusal};
-use crate::Outcome;
+ghost use Rattle.uncoded.specs.Bare.{bareRefusal};
 use consumers::SubRow;
+use engine::Outcome;
 use entry::Row;
 use state::Answer;
 use state::Event;
@@ -47,7 +47,7 @@ pub fn add_discarded(
     }
     let d = state::load(head, subs);
     let a = Answer::done(0, d.count_discarded(1));
-    crate::finish(head, a)
+    engine::finish(head, a)
 }
 
 // `Dest::expired_before_storing`.
@@ -65,5 +65,5 @@ pub fn expired_before_storing(
     }
     let d = state::load(head, subs);
     let a = Answer::done(0, d.count_expired(1));
-    crate::finish(head, a)
+    engine::finish(head, a)
 }

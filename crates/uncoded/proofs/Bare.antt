@@ -25,14 +25,14 @@ use Rattle.state.specs.Leaves.{silent, Leaves}
 use Rattle.state.specs.Ready.{Ready}
 use Rattle.state.proofs.Counts.{count-view, expired-plain, discarded-plain}
 use Rattle.state.proofs.Ready.{ready-fits}
 use Rattle.engine.specs.declared.Outcome.{Outcome}
-use Rattle.engine.specs.Bare.{bareRefusal}
+use Rattle.uncoded.specs.Bare.{bareRefusal}
 use Rattle.engine.specs.Called.{outcome, Called, Performs}
 use Rattle.engine.specs.Opened.{counted, finished}
 use Rattle.engine.proofs.Refusing.{done, call-refused, call-done}
 use Rattle.engine.proofs.Called.{lent, refused-called, performed-called}
 use Rattle.engine.proofs.Performed.{silent-performs}
 use Rattle.engine.proofs.Ending as Ending
 
 -- ---- the tests, one by one
 

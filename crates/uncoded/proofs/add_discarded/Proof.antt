@@ -1,10 +1,10 @@
--- `engine::uncoded::expired_before_storing` meets its contract. Assumes nothing.
+-- `uncoded::add_discarded` meets its contract. Assumes nothing.
 use mathlib.Core.Path.{sym, _∙_}
 use denote.Ref.{now}
-use Rattle.engine.proofs.Bare.{missing-refused, missing-called}
+use Rattle.uncoded.proofs.Bare.{discarded-refused, discarded-called}
 use borrow.Author.Needs.{needs}
-use Rattle.engine.proofs.uncoded.expired_before_storing.Statement.{statement}
-use Rattle.engine.proofs.uncoded.expired_before_storing.Tie as tie
+use Rattle.uncoded.proofs.add_discarded.Statement.{statement}
+use Rattle.uncoded.proofs.add_discarded.Tie as tie
 
 refusal-requires : tie.Need-refusal-requires
 refusal-requires c κs = search needs
@@ -28,13 +28,13 @@ returns : tie.Need-returns
 returns c =
     let a = c .before .before .before .before .before .before .before .before .args in
     let k = c .before .before .refusal in
-    missing-refused (now (a .head)) (now (a .subs)) (now (a .rows)) (now (a .events)) (k .result) (k .ensures) (c .before .if1 .taken) (c .refused .result) (c .refused .ensures)
+    discarded-refused (now (a .head)) (now (a .subs)) (now (a .rows)) (now (a .events)) (k .result) (k .ensures) (c .before .if1 .taken) (c .refused .result) (c .refused .ensures)
 
 load-requires : tie.Need-load-requires
 load-requires c κs = search needs
 
-count-expired-requires : tie.Need-count-expired-requires
-count-expired-requires c κs = search needs
+count-discarded-requires : tie.Need-count-discarded-requires
+count-discarded-requires c κs = search needs
 
 done-requires : tie.Need-done-requires
 done-requires c κs = search needs
@@ -58,13 +58,13 @@ returns-2 : tie.Need-returns-2
 returns-2 c =
     let a = c .before .before .before .before .before .before .before .before .before .before .before .before .before .before .before .before .args in
     let d = c .before .before .before .before .before .before .load in
-    let x = c .before .before .before .before .before .count-expired in
+    let x = c .before .before .before .before .before .count-discarded in
     let y = c .before .before .before .before .done in
     let f = c .before .before .finish in
-    missing-called (now (a .head)) (now (a .subs)) (now (a .rows)) (now (a .events)) (sym (c .before .before .before .before .before .before .before .before .before .before .refusal .ensures) ∙ c .before .before .before .before .before .before .before .before .before .if1 .left) (d .result) (x .result) (d .ensures) (y .result) (y .ensures) (f .result) (f .ensures .0) (f .last .0) (f .ensures .1) (x .ensures)
+    discarded-called (now (a .head)) (now (a .subs)) (now (a .rows)) (now (a .events)) (sym (c .before .before .before .before .before .before .before .before .before .before .refusal .ensures) ∙ c .before .before .before .before .before .before .before .before .before .if1 .left) (d .result) (x .result) (d .ensures) (y .result) (y .ensures) (f .result) (f .ensures .0) (f .last .0) (f .ensures .1) (x .ensures)
 
-pub expired-before-storing-spec : {M : Type 1} → statement M
-expired-before-storing-spec =
+pub add-discarded-spec : {M : Type 1} → statement M
+add-discarded-spec =
     tie.close
     (tie.spec
     refusal-requires
@@ -75,7 +75,7 @@ expired-before-storing-spec =
     same-length-4
     returns
     load-requires
-    count-expired-requires
+    count-discarded-requires
     done-requires
     finish-requires
     same-length-5
