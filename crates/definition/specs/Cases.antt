@@ -98,6 +98,9 @@ slow = ran (enqueuing (entry 1 (pos 20)) 1 ∷ []) (opened queue 0 100 0 10 512)
 abbrev slowly : Call → List ℕ
 slowly c = let r = ran (c ∷ []) slow in r .seen ++ r .dest .stats .expired ∷ []
 
+abbrev slowTopic : ℕ → Ran
+slowTopic now = ran (joining (plain 9 (pos 0)) 1 ∷ enqueuing (entry 5 (pos 20)) 1 ∷ enqueuing (entry 6 (pos 0)) now ∷ []) (opened topic 1 100 0 10 512)
+
 -- what returns to the queue, as redelivery counts (each small and not negative)
 abbrev small : ℤ → ℕ
 small (pos k) = k
@@ -336,7 +339,7 @@ freedWith x = soundWith (lentHead 1) (set lentSub 13 1 ∷ []) (set (lentRow 5 0
 
 -- a row whose words are all out of range but for those that make it an entry, and a consumer whose marks are
 abbrev junkRow : List ℕ
-junkRow = 5 ∷ 0 ∷ 7 ∷ 7 ∷ 0 ∷ 4294967296 ∷ 9 ∷ 2 ∷ 2 ∷ []
+junkRow = 5 ∷ 0 ∷ 7 ∷ 7 ∷ 0 ∷ 4294967296 ∷ 9 ∷ 2 ∷ 2 ∷ 4294967296 ∷ []
 
 abbrev junkSub : List ℕ
 junkSub = set (set (set (set lentSub 5 2) 6 2) 7 2) 10 2
@@ -498,6 +501,11 @@ corners =
     ∷ sameNumbers (slowly (sweeping 30 512)) (0 ∷ 1 ∷ 1 ∷ [])
     ∷ sameNumbers (slowly (sweeping 5 512)) (0 ∷ 0 ∷ 0 ∷ [])
     ∷ eqb (or0 (ran (sweeping 30 512 ∷ []) slow .dest .idle)) 30
+    -- what returns, and what is surplus on a topic, go by it too
+    ∷ eqb (ran (joining (plain 9 (pos 1)) 20 ∷ leaving (consumer 9) (pos 0) 29 ∷ []) slow .dest .stats .expired) 0
+    ∷ eqb (ran (joining (plain 9 (pos 1)) 20 ∷ leaving (consumer 9) (pos 0) 30 ∷ []) slow .dest .stats .expired) 1
+    ∷ sameNumbers (stillWait (slowTopic 29)) (1 ∷ 0 ∷ 1 ∷ [])
+    ∷ sameNumbers (stillWait (slowTopic 30)) (1 ∷ 1 ∷ 0 ∷ [])
     -- Turn at 2, the third leaves: turn 0. Turn at 1, the first leaves: turn stays 1
     ∷ eqb (turned (10 ∷ 20 ∷ []) 3) 0
     ∷ eqb (turned (10 ∷ []) 1) 1
@@ -544,6 +552,9 @@ refusals =
     ∷ refusing 0 (filled 256) (joining (browsing 9 (pos 1)) 1)
     ∷ refusing 5 (filled 257) (joining (browsing 9 (pos 1)) 1)
     ∷ refusing 0 (filled 512) (joining (plain 9 (pos 1)) 1)
+    -- not for one that has expired, nor for one that its selector does not accept
+    ∷ refusing 0 (withPending (entry 1 (pos 5) ∷ entry 2 (pos 5) ∷ map (λ n. entry n (pos 0)) (upFrom 3 255)) (opened queue 0 100 0 0 512)) (joining (browsing 9 (pos 1)) 9)
+    ∷ refusing 0 (filled 512) (joining (record { id = consumer 9; prefetch = pos 1; selector = 0; noLocal = false; browser = true }) 1)
     ∷ refusing 0 (crowd 31) (joining (plain 99 (pos 1)) 1)
     ∷ refusing 7 (crowd 32) (joining (plain 99 (pos 1)) 1)
     -- 6 comes before 7
