@@ -1,16 +1,17 @@
 -- What is claimed of the state and of the sends that accepted calls make; `Orders` has the claim on orders, `Refusals` that on refusals. Assumes nothing.
-use Prim.Native.Nat.{ℕ, _+_, _-_, _*_, _≤_}
+use Prim.Native.Nat.{ℕ, _+_, _-_, _*_, _≤_, _<_, min}
 use mathlib.Core.Path.{_≡_}
 use mathlib.Core.Bool.{Bool, true, false, not, _||_}
 use mathlib.Core.Logic.{_↔_}
 use mathlib.Core.List.{List, [], _∷_, _++_, map}
+use lib.Dec.{ltb}
 use lib.IntN.{pos}
 use lib.ListN.{length, drop}
 use Rattle.definition.specs.Types.{Kind, queue, topic, Id, Entry, Dest, withCallsUsed}
 use Rattle.definition.specs.Consumer.{zeroStats, addDiscarded, expired, isBrowser}
-use Rattle.definition.specs.Base.{if_then_else_, tally, all, empty, member}
-use Rattle.definition.specs.Destination.{due, trim, releaseReserved}
-use Rattle.definition.specs.Calls.{Lengths, Call, rowsOf, sizesAgree, ownRows, rowsFrom, rowsFor, overShare, sound, Result, call}
+use Rattle.definition.specs.Base.{if_then_else_, keep, tally, all, empty, member, ascending}
+use Rattle.definition.specs.Destination.{due, Trimmed, trim, releaseReserved}
+use Rattle.definition.specs.Calls.{Lengths, Call, seqs, rowsOf, sizesAgree, ownRows, rowsFrom, rowsFor, overShare, sound, Result, call}
 use Rattle.definition.specs.Words.{at, idIn, entryIn, step}
 use Rattle.definition.specs.Queries.{bytesOf, bytesHeld}
 use Rattle.definition.specs.Orders.{Reached}
@@ -57,11 +58,25 @@ ExpiresBy = (now : ℕ) (t : Dest) (e : Entry) → (expired (pos (due now t)) e 
 abbrev pub NoAllowance : Type 0
 NoAllowance = (now : ℕ) (t : Dest) → t .allowance ≡ 0 → due now t ≡ now
 
--- document 02 §5: a list over the limit ends within it, one that is not over it stays whole, expired or not, and where none has expired the lowest numbers
--- go as in the Rust
+-- what is left of a list l over the limit, and what that adds to the counters: of the live entries, in their order, as many as the limit lets stay, and these
+-- at the end of the list; the expired are counted as expired, all of them, and the live ones that went as discarded
+pub record Over (now limit : ℕ) (l : List Entry) (r : Trimmed) : Type 0 where
+  -- the live ones that went
+  pub lost : List Entry
+  pub live : lost ++ r .list ≡ keep (λ e. not (expired (pos now) e)) l
+  pub stays : length (r .list) ≡ min limit (tally (λ e. not (expired (pos now) e)) l)
+  pub counted : r .counts ≡ record { enqueued = 0; dequeued = 0; expired = tally (expired (pos now)) l; discarded = length lost; dispatched = 0 }
+  -- no expired copy is left
+  pub fresh : all (λ e. not (expired (pos now) e)) (r .list) ≡ true
+  -- the numbers of those that went are below those of all that stay
+  pub highest : ascending (seqs l) ≡ true → all (λ e. all (λ f. ltb (e .seq) (f .seq)) (r .list)) lost ≡ true
+
+-- document 02 §5: a list over the limit ends within it, without its expired ones and with its highest numbers, one that is not over it stays whole, expired
+-- or not, and where none has expired the lowest numbers go as in the Rust
 pub record Trimming (now limit : ℕ) (l : List Entry) : Type 0 where
   pub within : length (trim now limit l .list) ≤ limit
   pub whole : length l ≤ limit → trim now limit l ≡ record { list = l; counts = zeroStats }
+  pub over : limit < length l → Over now limit l (trim now limit l)
   pub lowest : tally (expired (pos now)) l ≡ 0 → trim now limit l ≡ record { list = drop (length l - limit) l; counts = addDiscarded (length l - limit) }
 
 abbrev pub Surplus : Type 0
