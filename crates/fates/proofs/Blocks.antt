@@ -306,10 +306,10 @@ entered-blocks k g a n h = by-test (eqb (k .code) 0)
     blocks-are-kept (g .accepted) (g .gone) (g .dest) a (k .lengths) (k .code) (k .words) (p .0) low (p .1) h (subst (λ (o : Option Call). New g o) (p .1) n)
     ∙ sym (ap (λ (o : Option Call). Of (entered g (result k (g .dest) .dest) o)) (p .1)))
 
-next-blocks : (k : Lent) (ks : List Lent) (g : Ledger) → Account (g .accepted) (g .gone) (g .dest) → New g (decode (k .code) (k .words)) → along (k ∷ ks) (g .dest) (Of g) ≡ along ks (ledgerNext k g .dest) (Of (ledgerNext k g))
+next-blocks : (k : Lent) (ks : List Lent) (g : Ledger) → Account (g .accepted) (g .gone) (g .dest) → (eqb (result k (g .dest) .refusal) 0 ≡ true → New g (decode (k .code) (k .words))) → along (k ∷ ks) (g .dest) (Of g) ≡ along ks (ledgerNext k g .dest) (Of (ledgerNext k g))
 next-blocks k ks g a n = by-test (eqb (result k (g .dest) .refusal) 0)
     (λ c. if-true _ _ c
-    ∙ ap₂ (λ (d : Dest) (bs : List Block). along ks d bs) (sym (entered-dest g u o)) (entered-blocks k g a n (eqb-true (result k (g .dest) .refusal) 0 c))
+    ∙ ap₂ (λ (d : Dest) (bs : List Block). along ks d bs) (sym (entered-dest g u o)) (entered-blocks k g a (n c) (eqb-true (result k (g .dest) .refusal) 0 c))
     ∙ sym (ap (λ (x : Ledger). along ks (x .dest) (Of x)) (if-true (entered g u o) g c)))
     (λ c. if-false _ _ c ∙ sym (ap (λ (x : Ledger). along ks (x .dest) (Of x)) (if-false (entered g u o) g c)))
   where

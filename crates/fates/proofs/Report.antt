@@ -2,6 +2,7 @@
 use Prim.Native.Nat.{ℕ, _≤_}
 use native.Mathlib.Omega.{arith}
 use mathlib.Core.Path.{_≡_, refl, sym, _∙_, ap, subst, subst⁻¹}
+use mathlib.Core.Bool.{true}
 use mathlib.Core.List.{List, [], _∷_}
 use mathlib.Core.Option.{Option, none, some}
 use lib.Dec.{eqb}
@@ -39,9 +40,9 @@ pub entered-dest : (g : Ledger) (u : Dest) (o : Option Call) → entered g u o .
 entered-dest g u none = refl
 entered-dest g u (some c) = refl
 
-pub next-right : (k : Lent) (g : Ledger) → Right g → ledgerNext k g .dest .kind ≡ queue → New g (decode (k .code) (k .words)) → Right (ledgerNext k g)
+pub next-right : (k : Lent) (g : Ledger) → Right g → ledgerNext k g .dest .kind ≡ queue → (eqb (result k (g .dest) .refusal) 0 ≡ true → New g (decode (k .code) (k .words))) → Right (ledgerNext k g)
 next-right k g a q n = by-if (λ (x : Ledger). x .dest .kind ≡ queue → Right x) (eqb (result k (g .dest) .refusal) 0) _ g
-    (λ c z. entered-right k g a n (eqb-true (result k (g .dest) .refusal) 0 c) (sym (ap (λ (d : Dest). d .kind) (entered-dest g (result k (g .dest) .dest) (decode (k .code) (k .words)))) ∙ z))
+    (λ c z. entered-right k g a (n c) (eqb-true (result k (g .dest) .refusal) 0 c) (sym (ap (λ (d : Dest). d .kind) (entered-dest g (result k (g .dest) .dest) (decode (k .code) (k .words)))) ∙ z))
     (λ c z. a) q
 
 pub report-is-the-account : ReportIsTheAccount
