@@ -24,8 +24,9 @@ pub mod Halves
 pub mod Slow
 pub mod Surplus
 pub mod Bytes
-pub mod Shares
 pub mod Kept
+pub mod Shares
+pub mod Rows
 pub mod Order
 pub mod Room
 pub mod Sends

@@ -8,19 +8,21 @@ use mathlib.Core.List.{List, [], _∷_, _++_, map}
 use mathlib.Core.Option.{none}
 use lib.Dec.{ltb, eqb}
 use lib.ListN.{length}
-use borrow.Author.Tests.{eqb-true, eq-eqb, ltb-true}
+use borrow.Author.Tests.{eqb-true, eq-eqb, leb-true, ltb-true}
 use Rattle.definition.specs.Base.{if_then_else_, tally, all, empty, member}
 use Rattle.definition.specs.Types.{Kind, queue, topic, Entry, Sub, Dest}
 use Rattle.definition.specs.Consumer.{isBrowser}
-use Rattle.definition.specs.Calls.{Lengths, short, seqs, rowsOf, allRows, ownRows, rowsFrom, rowsFor, overShare, freeRows, sound, Call, enqueuing, argumentsOk, ownRefusal, refusal, refused, Result, call}
+use Rattle.definition.specs.Calls.{Lengths, short, seqs, rowsOf, allRows, ownRows, rowsFrom, withinShare, rowsFor, overShare, freeRows, sound, Call, enqueuing, argumentsOk, ownRefusal, refusal, refused, Result, call}
 use Rattle.definition.specs.Words.{at, entryIn, provided, read, rangedCall, decode, callStep, step}
-use Rattle.definition.specs.Claims.{connections, holders, browsersEmpty, SharesSuffice, FullShare}
-use Rattle.definition.proofs.Tests.{if-false, by-test, and-left, and-right}
+use Rattle.definition.specs.Layout.{view, formed, lengthsOf, bufferStep}
+use Rattle.definition.specs.Claims.{connections, holders, browsersEmpty, SharesSuffice, BufferSharesSuffice, FullShare, FullShareSound}
+use Rattle.definition.proofs.Tests.{if-false, by-if, by-test, and-left, and-right}
 use Rattle.definition.proofs.Lists.{All, empty-nil}
 use Rattle.definition.proofs.Thin.{tally-append}
-use Rattle.definition.proofs.Sums.{sum, one, from, from-own, from-other, from-length, sum-from, sum-append, sum-one}
+use Rattle.definition.proofs.Sums.{sum, one, from, from-own, from-other, from-length, sum-from, sum-append, sum-one, sum-share}
 use Rattle.definition.proofs.Whole.{sums, rowsM, countM, rowsSum, ownSum, own-length, rows-length, Sane, Fine, fine}
 use Rattle.definition.proofs.Dispatch.{plain-rows, count-plain}
+use Rattle.definition.proofs.Kept.{own-few}
 
 -- ---- rows by connection
 
@@ -183,3 +185,17 @@ shares-suffice lent words t b m w h =
 
 pub full-share : FullShare
 full-share e t h = ap (λ n. ltb n 512 && ltb n (rowsFrom (e .producer) (ownRows t (t .kind)) + rowsFor e t (t .kind))) h
+
+-- ---- and on buffers
+
+pub buffer-shares-suffice : BufferSharesSuffice
+unfolding bufferStep
+buffer-shares-suffice b events words f m w = by-if (λ (r : Result). r .refusal ≡ 5 → ⊥) (not (short (lengthsOf b events)) && (not (eqb 1 0) && not (formed b))) _ _
+    (λ c h. omega (arith, h))
+    (λ c h. shares-suffice (lengthsOf b events) words (view b) f m w h)
+
+-- ---- a share of 512
+
+pub full-share-sound : FullShareSound
+full-share-sound t h r = subst⁻¹ (λ n. withinShare n (ownRows t (t .kind)) ≡ true) h
+    (sum-share 512 (ownRows t (t .kind)) (λ c. omega (arith, own-few (t .kind) c t, own-length (t .kind) (from c) t, rows-length one t, sum-one (allRows t), leb-true (length (allRows t)) 512 r)))

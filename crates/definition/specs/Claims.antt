@@ -4,16 +4,17 @@ use mathlib.Core.Path.{_≡_}
 use mathlib.Core.Bool.{Bool, true, false, not, _||_}
 use mathlib.Core.Logic.{_↔_}
 use mathlib.Core.List.{List, [], _∷_, _++_, map}
-use lib.Dec.{ltb}
+use lib.Dec.{leb, ltb}
 use lib.IntN.{pos}
 use lib.ListN.{length, drop}
-use Rattle.definition.specs.Types.{Kind, queue, topic, Id, Entry, Dest, withCallsUsed}
-use Rattle.definition.specs.Consumer.{zeroStats, addDiscarded, expired, isBrowser}
+use Rattle.definition.specs.Types.{Kind, queue, topic, Id, Entry, Sub, Dest, withTpending, withCallsUsed}
+use Rattle.definition.specs.Consumer.{zeroStats, addDiscarded, expired, isBrowser, snapshot, accepts}
 use Rattle.definition.specs.Base.{if_then_else_, keep, tally, all, empty, member, ascending}
-use Rattle.definition.specs.Destination.{due, Trimmed, trim, releaseReserved}
-use Rattle.definition.specs.Calls.{Lengths, Call, seqs, rowsOf, sizesAgree, ownRows, rowsFrom, rowsFor, overShare, sound, Result, call}
+use Rattle.definition.specs.Destination.{due, dispatch, insert, Trimmed, trim, stored, fannedOut, Spec, joined, addSub, releaseReserved}
+use Rattle.definition.specs.Calls.{Lengths, Call, seqs, rowsOf, consumerRows, allRows, sizesAgree, ownRows, rowsFrom, withinShare, rowsFor, snapshotRows, overShare, sound, Result, call}
 use Rattle.definition.specs.Words.{at, idIn, entryIn, step}
 use Rattle.definition.specs.Queries.{bytesOf, bytesHeld}
+use Rattle.definition.specs.Layout.{Buffers, view, bufferStep}
 use Rattle.definition.specs.Orders.{Reached}
 
 -- every accepted call leaves a sound state, open too
@@ -115,3 +116,48 @@ SharesSuffice = (lent : Lengths) (words : List ℕ) (t : Dest) →
 -- a share of 512 refuses nothing
 abbrev pub FullShare : Type 0
 FullShare = (e : Entry) (t : Dest) → t .share ≡ 512 → overShare e t ≡ false
+
+-- nor does it make a state unsound: with as many rows as there are, no connection holds more than 512
+abbrev pub FullShareSound : Type 0
+FullShareSound = (t : Dest) → t .share ≡ 512 → leb (length (allRows t)) 512 ≡ true → withinShare (t .share) (ownRows t (t .kind)) ≡ true
+
+-- `SharesSuffice` of a call on buffers
+abbrev pub BufferSharesSuffice : Type 0
+BufferSharesSuffice = (b : Buffers) (events : ℕ) (words : List ℕ) →
+    let t = view b in
+    browsersEmpty t (t .kind) ≡ true →
+    t .share * connections (at 3 words ∷ holders t) ≤ 512 →
+    rowsFrom (at 3 words) (ownRows t (t .kind)) + rowsFor (entryIn words) t (t .kind) ≤ t .share →
+    bufferStep b events 1 words .refusal ≡ 5 → ⊥
+
+-- ---- refusal 5: the rows that a call is asked to leave free are those that it makes
+
+-- a join's consumer stands last with as many rows, a browser's being its snapshot, and then entries are sent
+pub record JoinMakes (now : ℕ) (p : Spec) (t : Dest) : Type 0 where
+  pub sub : Sub
+  pub last : joined now p t .subs ≡ t .subs ++ sub ∷ []
+  pub browses : isBrowser sub ≡ p .browser
+  pub rows : length (rowsOf sub) ≡ snapshotRows now p t
+  pub shows : length (snapshot sub) ≡ snapshotRows now p t
+  pub runs : addSub now p t ≡ dispatch now (joined now p t)
+
+abbrev pub JoinRows : Type 0
+JoinRows = (now : ℕ) (p : Spec) (t : Dest) → JoinMakes now p t
+
+-- a consumer of a topic with its copy of e, if it accepts e
+abbrev pub withCopy : Entry → Sub → Sub
+withCopy e s = if accepts s e then withTpending (insert e (s .tpending)) s else s
+
+-- and what the limit leaves of its list then
+abbrev pub trimmedFor : ℕ → ℕ → Entry → Sub → Sub
+trimmedFor now limit e s = if accepts s e then withTpending (trim now limit (s .tpending) .list) s else s
+
+-- an enqueue of a number that no row has: on a queue one row more, on a topic as many copies more as are asked for, and each list that got one is trimmed
+-- only then
+pub record EnqueueMakes (now : ℕ) (e : Entry) (t : Dest) : Type 0 where
+  pub stores : length (allRows (stored e t)) ≡ length (allRows t) + rowsFor e t queue
+  pub copies : length (consumerRows (map (withCopy e) (t .subs))) ≡ length (consumerRows (t .subs)) + rowsFor e t topic
+  pub trims : fannedOut now e t .subs ≡ map (trimmedFor now (t .topicLimit) e) (map (withCopy e) (t .subs))
+
+abbrev pub EnqueueRows : Type 0
+EnqueueRows = (now : ℕ) (e : Entry) (t : Dest) → member (e .seq) (seqs (allRows t)) ≡ false → EnqueueMakes now e t
