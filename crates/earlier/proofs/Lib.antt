@@ -1,3 +1,4 @@
 pub mod Settings
 pub mod Stays
 pub mod Plain
+pub mod Before

@@ -1,9 +1,11 @@
--- Document 02 §4: allowance 0 keeps every earlier case. Assumes nothing.
-use Prim.Native.Nat.{ℕ, _≤_}
+-- Document 02 §4: allowance 0 keeps every earlier case, and an allowance is an earlier clock; what an open fixes. Assumes nothing.
+use Prim.Native.Nat.{ℕ, _-_, _≤_}
 use mathlib.Core.Path.{_≡_}
+use mathlib.Core.Bool.{true}
 use mathlib.Core.List.{List}
-use Rattle.definition.specs.Types.{Kind, Dest}
-use Rattle.definition.specs.Calls.{Lengths, Call, call}
+use mathlib.Core.Option.{Option, none, some}
+use Rattle.definition.specs.Types.{Kind, Dest, withIdle}
+use Rattle.definition.specs.Calls.{Lengths, clockOk, Request, acknowledge, pulling, timedOut, prefetching, Call, enqueuing, joining, leaving, asking, unmarking, releasing, sweeping, clearing, adding, removing, testing, forgetting, discarding, missing, Result, call}
 use Rattle.definition.specs.Words.{at, kindOf, shareOf, step}
 use Rattle.definition.specs.Layout.{Buffers, view, bufferStep}
 use Rattle.earlier.specs.Plain.{plainCall}
@@ -15,6 +17,72 @@ AsWithout = (lent : Lengths) (c : Call) (t : Dest) → t .allowance ≡ 0 → ca
 -- and no call changes the allowance, so it is 0 from an open with 0 to the next open
 abbrev pub AllowanceStays : Type 0
 AllowanceStays = (lent : Lengths) (c : Call) (t : Dest) → call lent c t .dest .allowance ≡ t .allowance
+
+-- ---- document 02 §4: a call of clock c, with allowance a, is the call without an allowance of clock c less a
+
+-- the clock that a call has; 0 for one without
+abbrev pub askedAt : Request → ℕ
+askedAt (acknowledge a now) = now
+askedAt (pulling timeout now) = now
+askedAt (timedOut generation) = 0
+askedAt (prefetching p now) = now
+
+abbrev pub callClock : Call → ℕ
+callClock (enqueuing e now) = now
+callClock (joining p now) = now
+callClock (leaving i last now) = now
+callClock (asking i q) = askedAt q
+callClock (unmarking i) = 0
+callClock (releasing i now) = now
+callClock (sweeping now most) = now
+callClock clearing = 0
+callClock (adding i) = 0
+callClock (removing i now) = now
+callClock (testing i q) = 0
+callClock (forgetting conn) = 0
+callClock discarding = 0
+callClock missing = 0
+
+-- the call with its clock less a, or 0 where that is below 0
+abbrev pub askedLess : ℕ → Request → Request
+askedLess a (acknowledge k now) = acknowledge k (now - a)
+askedLess a (pulling timeout now) = pulling timeout (now - a)
+askedLess a (timedOut generation) = timedOut generation
+askedLess a (prefetching p now) = prefetching p (now - a)
+
+abbrev pub atLess : ℕ → Call → Call
+atLess a (enqueuing e now) = enqueuing e (now - a)
+atLess a (joining p now) = joining p (now - a)
+atLess a (leaving i last now) = leaving i last (now - a)
+atLess a (asking i q) = asking i (askedLess a q)
+atLess a (unmarking i) = unmarking i
+atLess a (releasing i now) = releasing i (now - a)
+atLess a (sweeping now most) = sweeping (now - a) most
+atLess a clearing = clearing
+atLess a (adding i) = adding i
+atLess a (removing i now) = removing i (now - a)
+atLess a (testing i q) = testing i q
+atLess a (forgetting conn) = forgetting conn
+atLess a discarding = discarding
+atLess a missing = missing
+
+-- the idle mark that a call of clock now leaves, by what it was and what the call at the earlier clock leaves: a new mark is the call's own clock
+abbrev pub markedBy : ℕ → Option ℕ → Option ℕ → Option ℕ
+markedBy now none none = none
+markedBy now none (some k) = some now
+markedBy now (some m) o = o
+
+-- what the call of clock now got on t beside what the call at the earlier clock got: the idle mark apart, all is the same
+pub record Beside (now : ℕ) (t : Dest) (r p : Result) : Type 0 where
+  pub refusal : r .refusal ≡ p .refusal
+  pub answer : r .answer ≡ p .answer
+  pub events : r .events ≡ p .events
+  pub dest : withIdle none (r .dest) ≡ withIdle none (p .dest)
+  pub idle : r .dest .idle ≡ markedBy now (t .idle) (p .dest .idle)
+
+-- of every call, refused or not, whose clock is in its range
+abbrev pub AsEarlier : Type 0
+AsEarlier = (lent : Lengths) (c : Call) (t : Dest) → clockOk (callClock c) ≡ true → Beside (callClock c) t (call lent c t) (plainCall lent (atLess (t .allowance) c) t)
 
 -- ---- document 02 §4 and §11: what an open fixes
 
