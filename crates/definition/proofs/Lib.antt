@@ -27,6 +27,7 @@ pub mod Bytes
 pub mod Kept
 pub mod Shares
 pub mod Rows
+pub mod Present
 pub mod Order
 pub mod Room
 pub mod Sends

@@ -10,5 +10,6 @@ pub mod Cases
 pub mod Refusals
 pub mod Runs
 pub mod Orders
+pub mod Histories
 pub mod Claims
 pub mod Singles
