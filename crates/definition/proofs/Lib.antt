@@ -28,6 +28,8 @@ pub mod Kept
 pub mod Shares
 pub mod Rows
 pub mod Present
+pub mod Waits
+pub mod Flights
 pub mod Order
 pub mod Room
 pub mod Sends

@@ -103,7 +103,7 @@ thin-ok l m (skip {e = e} {l = l′} r) h = thin-ok l′ m r (and-right (entryOk
 thin-ok l m (stay {e = e} {f = f} {l = l′} {m = m′} a r) h =
     and-both (entryOk f) (all entryOk m′) (a .ok (and-left (entryOk e) (all entryOk l′) h)) (thin-ok l′ m′ r (and-right (entryOk e) (all entryOk l′) h))
 
-thin-member : (x : ℕ) (l m : List Entry) → Thin l m → member x (seqs l) ≡ false → member x (seqs m) ≡ false
+pub thin-member : (x : ℕ) (l m : List Entry) → Thin l m → member x (seqs l) ≡ false → member x (seqs m) ≡ false
 thin-member x l m done h = h
 thin-member x l m (skip {e = e} {l = l′} r) h = thin-member x l′ m r (or-no-right (eqb x (e .seq)) (member x (seqs l′)) h)
 thin-member x l m (stay {e = e} {f = f} {l = l′} {m = m′} a r) h =

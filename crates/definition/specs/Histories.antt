@@ -1,13 +1,15 @@
--- What accepted calls say of who is present, without a look at the state. Assumes nothing.
+-- What accepted calls say of who is present, without a look at the state, what begins to wait, and what comes in flight. Assumes nothing.
 use Prim.Native.Nat.{ℕ}
 use mathlib.Core.Path.{_≡_}
-use mathlib.Core.Bool.{Bool, false, not, _||_}
+use mathlib.Core.Bool.{Bool, true, false, not, _&&_, _||_}
 use mathlib.Core.List.{List, [], _∷_, _++_, map}
+use mathlib.Core.Option.{Option, none, some}
 use lib.Dec.{eqb}
-use Rattle.definition.specs.Base.{if_then_else_, keep, is-some}
-use Rattle.definition.specs.Types.{Id, Dest}
+use Rattle.definition.specs.Base.{if_then_else_, keep, all, member, is-some}
+use Rattle.definition.specs.Types.{Id, Sub, Dest, Event, letter, message, null}
 use Rattle.definition.specs.Consumer.{sameId}
-use Rattle.definition.specs.Destination.{subOf}
+use Rattle.definition.specs.Destination.{isId, subOf, reservedOf}
+use Rattle.definition.specs.Calls.{Lengths, seqs, flying, Call, enqueuing, joining, leaving, asking, unmarking, releasing, sweeping, clearing, adding, removing, testing, forgetting, discarding, missing, call}
 use Rattle.definition.specs.Words.{idIn}
 use Rattle.definition.specs.Orders.{Reached, opening, calling, discards, misses}
 
@@ -36,3 +38,47 @@ pub record Presence (ids : List Id) (t : Dest) : Type 0 where
 
 abbrev pub PresentByHistory : Type 0
 PresentByHistory = (b : Bool) (t : Dest) (r : Reached b t) → Presence (presentIn b t r) t
+
+-- ---- what begins to wait on a queue
+
+abbrev pub flyingAt : Option Sub → List ℕ
+flyingAt none = []
+flyingAt (some s) = seqs (flying s)
+
+-- the numbers that a call can make wait: an enqueue's, those in flight at the consumer that leaves, those reserved for the one that is released
+abbrev pub canWait : Dest → Call → List ℕ
+canWait t (enqueuing e now) = e .seq ∷ []
+canWait t (leaving i last now) = flyingAt (subOf i t)
+canWait t (releasing i now) = seqs (reservedOf i t)
+canWait t (joining p now) = []
+canWait t (asking i q) = []
+canWait t (unmarking i) = []
+canWait t (sweeping now most) = []
+canWait t clearing = []
+canWait t (adding i) = []
+canWait t (removing i now) = []
+canWait t (testing i q) = []
+canWait t (forgetting conn) = []
+canWait t discarding = []
+canWait t missing = []
+
+-- "from the enqueue that stores it, or its return": no call makes another number wait
+abbrev pub WaitsFrom : Type 0
+WaitsFrom = (lent : Lengths) (c : Call) (t : Dest) (q : ℕ) → member q (seqs (t .pending)) ≡ false → member q (canWait t c) ≡ false → member q (seqs (call lent c t .dest .pending)) ≡ false
+
+-- ---- what comes in flight
+
+-- a `d` of the number q to the consumer i
+abbrev pub sends : Id → ℕ → Event → Bool
+sends i q (message j s redelivery) = sameId j i && eqb q s
+sends i q (letter s redelivery cause) = false
+sends i q (null j) = false
+
+-- q is in flight at a consumer i
+abbrev pub flies : Id → ℕ → List Sub → Bool
+flies i q [] = false
+flies i q (s ∷ ss) = (isId i s && member q (seqs (flying s))) || flies i q ss
+
+-- what is in flight at i after a call, and was not before, was sent to i in it with a `d`
+abbrev pub FliesFrom : Type 0
+FliesFrom = (lent : Lengths) (c : Call) (t : Dest) (i : Id) (q : ℕ) → flies i q (t .subs) ≡ false → all (λ v. not (sends i q v)) (call lent c t .events) ≡ true → flies i q (call lent c t .dest .subs) ≡ false
