@@ -30,6 +30,7 @@ pub mod Rows
 pub mod Present
 pub mod Waits
 pub mod Flights
+pub mod Lasts
 pub mod Order
 pub mod Room
 pub mod Sends

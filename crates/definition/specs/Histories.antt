@@ -1,15 +1,16 @@
--- What accepted calls say of who is present, without a look at the state, what begins to wait, and what comes in flight. Assumes nothing.
+-- What accepted calls say of who is present, without a look at the state, what begins to wait and goes on waiting, and what comes in flight. Assumes nothing.
 use Prim.Native.Nat.{ℕ}
 use mathlib.Core.Path.{_≡_}
 use mathlib.Core.Bool.{Bool, true, false, not, _&&_, _||_}
 use mathlib.Core.List.{List, [], _∷_, _++_, map}
 use mathlib.Core.Option.{Option, none, some}
 use lib.Dec.{eqb}
+use lib.IntN.{pos}
 use Rattle.definition.specs.Base.{if_then_else_, keep, all, member, is-some}
-use Rattle.definition.specs.Types.{Id, Sub, Dest, Event, letter, message, null}
-use Rattle.definition.specs.Consumer.{sameId}
-use Rattle.definition.specs.Destination.{isId, subOf, reservedOf}
-use Rattle.definition.specs.Calls.{Lengths, seqs, flying, Call, enqueuing, joining, leaving, asking, unmarking, releasing, sweeping, clearing, adding, removing, testing, forgetting, discarding, missing, call}
+use Rattle.definition.specs.Types.{Id, Entry, Sub, Dest, Event, letter, message, null}
+use Rattle.definition.specs.Consumer.{sameId, expired, snapshot}
+use Rattle.definition.specs.Destination.{due, isId, subOf, reservedOf}
+use Rattle.definition.specs.Calls.{Lengths, seqs, flying, taken, Request, acknowledge, pulling, timedOut, prefetching, Call, enqueuing, joining, leaving, asking, unmarking, releasing, sweeping, clearing, adding, removing, testing, forgetting, discarding, missing, call}
 use Rattle.definition.specs.Words.{idIn}
 use Rattle.definition.specs.Orders.{Reached, opening, calling, discards, misses}
 
@@ -82,3 +83,45 @@ flies i q (s ∷ ss) = (isId i s && member q (seqs (flying s))) || flies i q ss
 -- what is in flight at i after a call, and was not before, was sent to i in it with a `d`
 abbrev pub FliesFrom : Type 0
 FliesFrom = (lent : Lengths) (c : Call) (t : Dest) (i : Id) (q : ℕ) → flies i q (t .subs) ≡ false → all (λ v. not (sends i q v)) (call lent c t .events) ≡ true → flies i q (call lent c t .dest .subs) ≡ false
+
+-- ---- what goes on waiting
+
+-- the clock that a call has; 0 for one without
+abbrev pub askedAt : Request → ℕ
+askedAt (acknowledge a now) = now
+askedAt (pulling timeout now) = now
+askedAt (timedOut generation) = 0
+askedAt (prefetching p now) = now
+
+abbrev pub callClock : Call → ℕ
+callClock (enqueuing e now) = now
+callClock (joining p now) = now
+callClock (leaving i last now) = now
+callClock (asking i q) = askedAt q
+callClock (unmarking i) = 0
+callClock (releasing i now) = now
+callClock (sweeping now most) = now
+callClock clearing = 0
+callClock (adding i) = 0
+callClock (removing i now) = now
+callClock (testing i q) = 0
+callClock (forgetting conn) = 0
+callClock discarding = 0
+callClock missing = 0
+
+-- what browsers have yet to show
+abbrev pub yetToShow : List Sub → List Entry
+yetToShow [] = []
+yetToShow (s ∷ ss) = snapshot s ++ yetToShow ss
+
+-- e has another number than q, or has not expired at n
+abbrev pub aliveAt : ℕ → ℕ → Entry → Bool
+aliveAt n q e = not (eqb q (e .seq)) || not (expired (pos n) e)
+
+-- "until it is sent .. to a consumer that is no browser, expires out of the queue or is cleared": where no copy that waits or that a browser has yet to show has
+-- expired by the clock of an accepted call other than a clear, a number that waited and waits no more is in flight at a consumer that is no browser
+abbrev pub WaitsOn : Type 0
+WaitsOn = (lent : Lengths) (c : Call) (t : Dest) (q : ℕ) → call lent c t .refusal ≡ 0 → (c ≡ clearing → ⊥) → member q (seqs (t .pending)) ≡ true →
+    all (aliveAt (due (callClock c) t) q) (t .pending ++ yetToShow (t .subs)) ≡ true →
+    let u = call lent c t .dest in
+    member q (seqs (u .pending)) ≡ false → member q (seqs (taken (u .subs))) ≡ true

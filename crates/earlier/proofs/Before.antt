@@ -16,8 +16,9 @@ use Rattle.definition.specs.Types.{Kind, queue, topic, Id, Entry, Sub, Audit, D
 use Rattle.definition.specs.Consumer.{addExpired, isBrowser, hasCredit, redelivered, sameId, Ack, ackSub}
 use Rattle.definition.specs.Destination.{Out, Answer, Spec, Look, look, given, Turn, visitAt, visit, scan, turns, rounds, browsers, dispatchQueue, dispatchTopic, dispatchBy, dispatch, due, idleMark, touchIdle, count, subOf, putSub, stored, fannedOut, enqueueBy, joined, addSub, prefetchAt, setPrefetch, reinsert, heldBy, reservedOf, ackReserved, ackAt, ack, pulled, resumed, pullAt, pull, fired, timeoutAt, pullTimeout, returnedFrom, reservedFrom, returning, dropSub, removeAt, removeSub, returnReserved, sweepList, sweepSubs, sweepExpired, clear, auditOf, testAt, isDuplicate}
 use Rattle.definition.specs.Calls.{Lengths, short, sound, signedWithin, clockOk, idOk, entryOk, ackOk, specOk, Request, acknowledge, pulling, timedOut, prefetching, Call, enqueuing, joining, leaving, asking, unmarking, releasing, sweeping, clearing, adding, removing, testing, forgetting, discarding, missing, argumentsOk, requestOk, ownRefusal, ask, perform, refusal, Result, refused, used, call}
+use Rattle.definition.specs.Histories.{askedAt, callClock}
 use Rattle.earlier.specs.Plain.{plainDispatch, plainEnqueueBy, plainJoined, plainReinsert, plainSweepExpired, plainAckAt, plainPullAt, plainReturning, plainRemoveAt, plainReturnReserved, plainAsk, plainPerform, plainOwnRefusal, plainRefusal, plainCall}
-use Rattle.earlier.specs.Claims.{askedAt, callClock, askedLess, atLess, markedBy, Beside, AsEarlier}
+use Rattle.earlier.specs.Claims.{askedLess, atLess, markedBy, Beside, AsEarlier}
 use Rattle.earlier.proofs.Settings.{either}
 use Rattle.earlier.proofs.Stays.{touch-stays, joined-stays, prefetch-stays, reserved-stays, returning-stays}
 

@@ -8,6 +8,7 @@ use Rattle.definition.specs.Types.{Kind, Dest, withIdle}
 use Rattle.definition.specs.Calls.{Lengths, clockOk, Request, acknowledge, pulling, timedOut, prefetching, Call, enqueuing, joining, leaving, asking, unmarking, releasing, sweeping, clearing, adding, removing, testing, forgetting, discarding, missing, Result, call}
 use Rattle.definition.specs.Words.{at, kindOf, shareOf, step}
 use Rattle.definition.specs.Layout.{Buffers, view, bufferStep}
+use Rattle.definition.specs.Histories.{callClock}
 use Rattle.earlier.specs.Plain.{plainCall}
 
 -- with allowance 0 every call, refused or not, is the call without an allowance: refusal, answer, events and state
@@ -19,29 +20,6 @@ abbrev pub AllowanceStays : Type 0
 AllowanceStays = (lent : Lengths) (c : Call) (t : Dest) → call lent c t .dest .allowance ≡ t .allowance
 
 -- ---- document 02 §4: a call of clock c, with allowance a, is the call without an allowance of clock c less a
-
--- the clock that a call has; 0 for one without
-abbrev pub askedAt : Request → ℕ
-askedAt (acknowledge a now) = now
-askedAt (pulling timeout now) = now
-askedAt (timedOut generation) = 0
-askedAt (prefetching p now) = now
-
-abbrev pub callClock : Call → ℕ
-callClock (enqueuing e now) = now
-callClock (joining p now) = now
-callClock (leaving i last now) = now
-callClock (asking i q) = askedAt q
-callClock (unmarking i) = 0
-callClock (releasing i now) = now
-callClock (sweeping now most) = now
-callClock clearing = 0
-callClock (adding i) = 0
-callClock (removing i now) = now
-callClock (testing i q) = 0
-callClock (forgetting conn) = 0
-callClock discarding = 0
-callClock missing = 0
 
 -- the call with its clock less a, or 0 where that is below 0
 abbrev pub askedLess : ℕ → Request → Request
