@@ -13,7 +13,7 @@ use Rattle.state.specs.declared.Head.{Head}
 
 -- `browsers` of the definitions, as a part of a call
 abbrev pub browsed : ℕ → Dest → Out
-browsed now t = let b = browsers now (t .subs) (t .pending) in record { dest = count (b .counts) (withPending (b .pending) (withSubs (b .subs) t)); events = b .events }
+browsed by t = let b = browsers by (t .subs) (t .pending) in record { dest = count (b .counts) (withPending (b .pending) (withSubs (b .subs) t)); events = b .events }
 
 -- what it promises besides: which numbers stay, and how far the others go
 pub record BrowsersServed (d r : Head) (subs′ : List Row) : Type 0 where

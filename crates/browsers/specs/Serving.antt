@@ -72,7 +72,7 @@ browserStepped b v = record {
 }
 
 abbrev pub browserRan : ℕ → Shown → Shown
-browserRan now v = browserStepped (dispatchBrowser now (v .pending) (v .sub)) v
+browserRan by v = browserStepped (dispatchBrowser by (v .pending) (v .sub)) v
 
 -- the closing null has been sent
 abbrev pub closedSub : Sub → Sub
@@ -102,7 +102,7 @@ abbrev pub rowsBetween : ℕ → Sub → Head → ℕ
 rowsBetween base s d = d .used - (base + s .inflight + s .held + d .waiting)
 
 -- the counts lie within the tables, and no number runs out
-pub record BrowserFine (nrows nevents base : ℕ) (s : Sub) (d : Head) (now : ℕ) : Type 0 where
+pub record BrowserFine (nrows nevents base : ℕ) (s : Sub) (d : Head) (by : ℕ) : Type 0 where
   pub browser : s .browser ≡ true
   pub rows : base + s .inflight + s .held + d .waiting ≤ d .used
   pub used : d .used ≤ 512
@@ -110,7 +110,7 @@ pub record BrowserFine (nrows nevents base : ℕ) (s : Sub) (d : Head) (now : �
   pub events : d .events + s .held < nevents
   pub next : s .«next_dseq» + s .held < 2 ^ 63
   pub expired : d .stats .expired + d .waiting < 2 ^ 63
-  pub clock : now ≤ 2 ^ 62
+  pub clock : by ≤ 2 ^ 62
 
 -- what the numbers do while it is served, with m rows between its own and the waiting ones
 pub record BrowserKept (base m : ℕ) (s : Sub) (d : Head) (t : Sub) (r : Head) : Type 0 where
@@ -130,11 +130,11 @@ pub record BrowserStrict (base m : ℕ) (s : Sub) (d : Head) (rows : List Row) :
   pub waiting : all entryStrict (drop m (partsOf base (s .inflight) (s .held) (d .used) rows .after)) ≡ true
 
 -- while its snapshot is sent: the definition says the same of what is there now as of what was there
-pub record Sending (now base : ℕ) (rows₀ events₀ : List Row) (s₀ : Sub) (d₀ : Head) (rows events : List Row) (s : Sub) (d : Head) : Type 0 where
-  pub fine : BrowserFine (length rows) (length events) base s d now
+pub record Sending (by base : ℕ) (rows₀ events₀ : List Row) (s₀ : Sub) (d₀ : Head) (rows events : List Row) (s : Sub) (d : Head) : Type 0 where
+  pub fine : BrowserFine (length rows) (length events) base s d by
   pub same-rows : length rows ≡ length rows₀
   pub same-events : length events ≡ length events₀
-  pub said : browserRan now (shownAt base (rowsBetween base s₀ d₀) s d rows events) ≡ browserRan now (shownAt base (rowsBetween base s₀ d₀) s₀ d₀ rows₀ events₀)
+  pub said : browserRan by (shownAt base (rowsBetween base s₀ d₀) s d rows events) ≡ browserRan by (shownAt base (rowsBetween base s₀ d₀) s₀ d₀ rows₀ events₀)
   pub later : drop (d .events) events ≡ drop (d .events) events₀
   pub past : drop (d₀ .used) rows ≡ drop (d₀ .used) rows₀
   pub kept : BrowserKept base (rowsBetween base s₀ d₀) s₀ d₀ s d
@@ -142,8 +142,8 @@ pub record Sending (now base : ℕ) (rows₀ events₀ : List Row) (s₀ : Sub) 
   pub strict : BrowserStrict base (rowsBetween base s₀ d₀) s₀ d₀ rows₀ → BrowserStrict base (rowsBetween base s₀ d₀) s d rows
 
 -- when it is served: it is as the definition has it
-pub record Done (now base : ℕ) (rows₀ events₀ : List Row) (s₀ : Sub) (d₀ : Head) (rows events : List Row) (s : Sub) (d : Head) : Type 0 where
-  pub said : shownAt base (rowsBetween base s₀ d₀) s d rows events ≡ browserRan now (shownAt base (rowsBetween base s₀ d₀) s₀ d₀ rows₀ events₀)
+pub record Done (by base : ℕ) (rows₀ events₀ : List Row) (s₀ : Sub) (d₀ : Head) (rows events : List Row) (s : Sub) (d : Head) : Type 0 where
+  pub said : shownAt base (rowsBetween base s₀ d₀) s d rows events ≡ browserRan by (shownAt base (rowsBetween base s₀ d₀) s₀ d₀ rows₀ events₀)
   pub later : drop (d .events) events ≡ drop (d .events) events₀
   pub past : drop (d₀ .used) rows ≡ drop (d₀ .used) rows₀
   pub kept : BrowserKept base (rowsBetween base s₀ d₀) s₀ d₀ s d

@@ -52,10 +52,10 @@ fn send_snapshot(
     base: usize,
     start: Sub,
     before: Head,
-    clock: u64,
+    by: u64,
 ) -> Left
-    requires { ⌜ BrowserFine (length (now rows)) (length (now events)) base start before clock ⌝ }
-    ensures { λ r. ⌜ Sending clock base (now (rows .entry)) (now (events .entry)) start before (now (rows .exit)) (now (events .exit)) (r .sub) (r .head) ⌝ }
+    requires { ⌜ BrowserFine (length (now rows)) (length (now events)) base start before by ⌝ }
+    ensures { λ r. ⌜ Sending by base (now (rows .entry)) (now (events .entry)) start before (now (rows .exit)) (now (events .exit)) (r .sub) (r .head) ⌝ }
     ensures { λ r. ⌜ (0 < r .sub .held → creditOf (r .sub) ≡ false) ⌝ }
 {
     let mut s = start;
@@ -67,7 +67,7 @@ fn send_snapshot(
         let first = base + s.inflight;
         let row = rows[first];
         let e = entry::entry_of(row);
-        if entry::expired_by(e, clock) {
+        if entry::expired_by(e, by) {
             d = drop_waiting(rows, d, e.seq);
             table::close_gap(rows, first, 1, d.used);
             d.used = d.used - 1;
@@ -89,12 +89,12 @@ fn dispatch_browser(
     base: usize,
     start: Sub,
     before: Head,
-    clock: u64,
+    by: u64,
 ) -> Left
-    requires { ⌜ BrowserFine (length (now rows)) (length (now events)) base start before clock ⌝ }
-    ensures { λ r. ⌜ Done clock base (now (rows .entry)) (now (events .entry)) start before (now (rows .exit)) (now (events .exit)) (r .sub) (r .head) ⌝ }
+    requires { ⌜ BrowserFine (length (now rows)) (length (now events)) base start before by ⌝ }
+    ensures { λ r. ⌜ Done by base (now (rows .entry)) (now (events .entry)) start before (now (rows .exit)) (now (events .exit)) (r .sub) (r .head) ⌝ }
 {
-    let r = send_snapshot(rows, events, base, start, before, clock);
+    let r = send_snapshot(rows, events, base, start, before, by);
     let s = r.sub;
     let d = r.head;
     if !s.has_credit() {
@@ -116,10 +116,10 @@ fn serve_each(
     rows: &mut [Row],
     events: &mut [Event],
     before: Head,
-    clock: u64,
+    by: u64,
 ) -> Head
-    requires { ⌜ Fits (now subs) before (length (now rows)) (length (now events)) × (before .queue ≡ true) × (clock ≤ 2 ^ 62) ⌝ }
-    ensures { λ r. ⌜ Leaves (browsed clock) before r (now (subs .entry)) (now (rows .entry)) (now (events .entry)) (now (subs .exit)) (now (rows .exit)) (now (events .exit)) × BrowsersServed before r (now (subs .exit)) ⌝ }
+    requires { ⌜ Fits (now subs) before (length (now rows)) (length (now events)) × (before .queue ≡ true) × (by ≤ 2 ^ 62) ⌝ }
+    ensures { λ r. ⌜ Leaves (browsed by) before r (now (subs .entry)) (now (rows .entry)) (now (events .entry)) (now (subs .exit)) (now (rows .exit)) (now (events .exit)) × BrowsersServed before r (now (subs .exit)) ⌝ }
 {
     let n = before.consumers;
     let mut d = before;
@@ -128,7 +128,7 @@ fn serve_each(
     while i < n {
         let s = consumers::load(subs, i);
         if s.browser {
-            let r = dispatch_browser(rows, events, base, s, d, clock);
+            let r = dispatch_browser(rows, events, base, s, d, by);
             let t = r.sub;
             d = r.head;
             base = base + t.inflight + t.held;
@@ -149,11 +149,11 @@ pub fn serve_browsers(
     rows: &mut [Row],
     events: &mut [Event],
     d: Head,
-    clock: u64,
+    by: u64,
 ) -> Head
-    ensures { λ r. ⌜ LeavesIf (fits (now (subs .entry)) d (length (now (rows .entry))) (length (now (events .entry))) && (leb clock (2 ^ 62) && d .queue)) (BrowsersServed d r (now (subs .exit))) (browsed clock) d r (now (subs .entry)) (now (rows .entry)) (now (events .entry)) (now (subs .exit)) (now (rows .exit)) (now (events .exit)) ⌝ }
+    ensures { λ r. ⌜ LeavesIf (fits (now (subs .entry)) d (length (now (rows .entry))) (length (now (events .entry))) && (leb by (2 ^ 62) && d .queue)) (BrowsersServed d r (now (subs .exit))) (browsed by) d r (now (subs .entry)) (now (rows .entry)) (now (events .entry)) (now (subs .exit)) (now (rows .exit)) (now (events .exit)) ⌝ }
 {
-    if entry::CLOCK_MOST < clock {
+    if entry::CLOCK_MOST < by {
         return d;
     }
     if !d.queue {
@@ -162,5 +162,5 @@ pub fn serve_browsers(
     if !state::fits(subs, d, rows.len(), events.len()) {
         return d;
     }
-    serve_each(subs, rows, events, d, clock)
+    serve_each(subs, rows, events, d, by)
 }

@@ -1,13 +1,14 @@
 -- Refusals come exactly from document 01's table, and a refused call changes and sends nothing: the claims of specs/Refusals. Assumes nothing.
-use Prim.Native.Nat.{ℕ, _≤_}
+use Prim.Native.Nat.{ℕ}
 use native.Mathlib.Omega.{arith}
 use mathlib.Core.Path.{_≡_, refl, sym, _∙_, ap}
-use mathlib.Core.Bool.{Bool, true, false, not, _&&_, _||_, true≢false}
-use mathlib.Core.List.{List, [], _∷_, _++_}
+use mathlib.Core.Bool.{Bool, true, false, not, _&&_, _||_}
+use mathlib.Core.List.{List, [], _∷_}
 use mathlib.Core.Option.{Option, none, some}
 use lib.Dec.{leb, ltb, eqb}
 use lib.ListN.{drop}
 use borrow.Author.Tests.{leb-true, eqb-true}
+use Rattle.words.proofs.Places.{firstOf, exact}
 use Rattle.definition.specs.Base.{if_then_else_, all, is-some}
 use Rattle.definition.specs.Types.{Dest}
 use Rattle.definition.specs.Consumer.{zeroStats}
@@ -15,49 +16,10 @@ use Rattle.definition.specs.Calls.{Lengths, stateShort, short, sound, Ca
 use Rattle.definition.specs.Words.{provided, read, rangedCall, decode, openWords, openStep, callStep, step}
 use Rattle.definition.specs.Queries.{queryRefusal, queryOk, Asked, query, Counted, counters, pageMax, Page, page}
 use Rattle.definition.specs.Layout.{Buffers, view, formed, soundBuffers, lengthsOf, bufferStep, bufferCall, bufferQuery, bufferCounters, bufferPage}
-use Rattle.definition.specs.Refusals.{CheckPlace, _when_, table, checkPlaces, bufferPlaces, uncodedPlaces, bufferUncodedPlaces, queryPlaces, passes, Comes, Exact, Refuses, StepRefuses, BufferRefuses, UncodedRefuses, QueryRefuses, CountersRefuse, PageRefuses, BufferUncodedRefuses, BufferQueryRefuses, BufferCountersRefuse, BufferPageRefuses}
-use Rattle.definition.proofs.Tests.{if-true, if-false, by-if, by-test, and-left, and-right, and-both}
+use Rattle.definition.specs.Refusals.{CheckPlace, _when_, table, checkPlaces, bufferPlaces, uncodedPlaces, bufferUncodedPlaces, queryPlaces, Refuses, StepRefuses, BufferRefuses, UncodedRefuses, QueryRefuses, CountersRefuse, PageRefuses, BufferUncodedRefuses, BufferQueryRefuses, BufferCountersRefuse, BufferPageRefuses}
+use Rattle.definition.proofs.Tests.{if-true, if-false, by-if, by-test}
 use Rattle.definition.proofs.Lists.{none-some, some-inj}
 use Rattle.definition.proofs.Made.{inRange-ok}
-
--- ---- the first place that refuses
-
-abbrev pub firstOf : List CheckPlace → ℕ
-firstOf [] = 0
-firstOf (p ∷ ps) = if p .test then p .number else firstOf ps
-
-comes : (ps : List CheckPlace) (n : ℕ) → 1 ≤ n → firstOf ps ≡ n → Comes n ps
-comes [] n h e = absurd (omega (arith, h, e))
-comes (p ∷ ps) n h e = by-test (p .test)
-    (λ c. record { before = []; here = p; after = ps; split = refl; passed = refl; refuses = c; numbered = sym (if-true (p .number) (firstOf ps) c) ∙ e })
-    (λ c.
-    let r = comes ps n h (sym (if-false (p .number) (firstOf ps) c) ∙ e) in
-    record { before = p ∷ r .before; here = r .here; after = r .after; split = ap (λ (l : List CheckPlace). p ∷ l) (r .split); passed = and-both _ _ (ap not c) (r .passed); refuses = r .refuses; numbered = r .numbered })
-
-firstOf-is : (before after : List CheckPlace) (here : CheckPlace) → all passes before ≡ true → here .test ≡ true → firstOf (before ++ here ∷ after) ≡ here .number
-firstOf-is [] after here h c = if-true (here .number) (firstOf after) c
-firstOf-is (p ∷ before) after here h c = by-test (p .test)
-    (λ d. absurd (true≢false (sym (and-left _ _ h) ∙ ap not d)))
-    (λ d. if-false (p .number) (firstOf (before ++ here ∷ after)) d ∙ firstOf-is before after here (and-right (passes p) _ h) c)
-
-all-pass : (ps : List CheckPlace) → all (λ p. leb 1 (p .number)) ps ≡ true → firstOf ps ≡ 0 → all passes ps ≡ true
-all-pass [] h e = refl
-all-pass (p ∷ ps) h e = by-test (p .test)
-    (λ c. absurd (omega (arith, leb-true 1 (p .number) (and-left _ _ h), sym (if-true (p .number) (firstOf ps) c) ∙ e)))
-    (λ c. and-both _ _ (ap not c) (all-pass ps (and-right (leb 1 (p .number)) _ h) (sym (if-false (p .number) (firstOf ps) c) ∙ e)))
-
-none-refuses : (ps : List CheckPlace) → all passes ps ≡ true → firstOf ps ≡ 0
-none-refuses [] h = refl
-none-refuses (p ∷ ps) h = by-test (p .test)
-    (λ d. absurd (true≢false (sym (and-left _ _ h) ∙ ap not d)))
-    (λ d. if-false (p .number) (firstOf ps) d ∙ none-refuses ps (and-right (passes p) _ h))
-
--- a refusal that is the first place's number is exact
-pub exact : (refusal : ℕ) (ps : List CheckPlace) → all (λ p. leb 1 (p .number)) ps ≡ true → refusal ≡ firstOf ps → Exact refusal ps
-exact refusal ps h e = record {
-  number = λ n m. (λ q. comes ps n m (sym e ∙ q), λ r. e ∙ ap firstOf (r .split) ∙ firstOf-is (r .before) (r .after) (r .here) (r .passed) (r .refuses) ∙ r .numbered);
-  accepted = (λ q. all-pass ps h (sym e ∙ q), λ q. e ∙ none-refuses ps q);
-}
 
 -- ---- a call of the call file
 

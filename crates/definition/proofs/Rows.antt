@@ -74,12 +74,12 @@ copied-rows e s h = by-test (accepts s e)
 all-copied : (e : Entry) (l : List Sub) → member (e .seq) (seqs (consumerRows l)) ≡ false → length (consumerRows (map (withCopy e) l)) ≡ length (consumerRows l) + tally (λ s. accepts s e) l
 all-copied e [] h = refl
 all-copied e (s ∷ l) h = omega (
-    arith,
-    length-append (rowsOf (withCopy e s)) (consumerRows (map (withCopy e) l)),
-    length-append (rowsOf s) (consumerRows l),
-    copied-rows e s (member-left (e .seq) (rowsOf s) (consumerRows l) h),
-    all-copied e l (member-right (e .seq) (rowsOf s) (consumerRows l) h),
-  )
+  arith,
+  length-append (rowsOf (withCopy e s)) (consumerRows (map (withCopy e) l)),
+  length-append (rowsOf s) (consumerRows l),
+  copied-rows e s (member-left (e .seq) (rowsOf s) (consumerRows l) h),
+  all-copied e l (member-right (e .seq) (rowsOf s) (consumerRows l) h),
+)
 
 trimmed-one : (now limit : ℕ) (e : Entry) (s : Sub) → fanOut now limit e s .sub ≡ trimmedFor now limit e (withCopy e s)
 unfolding fanOut accepts

@@ -4,7 +4,7 @@ use mathlib.Core.Bool.{Bool, true, false, not, _&&_, _||_}
 use mathlib.Core.List.{List, [], _∷_}
 use mathlib.Core.Option.{Option, none, some}
 use lib.Dec.{ltb, eqb}
-pub use Rattle.words.specs.Pick.{if_then_else_, every}
+pub use Rattle.words.specs.Pick.{if_then_else_, all, every}
 
 module _ {ℓ} {A : Type ℓ} where
   -- the elements that pass a test (`retain`, `filter`)
@@ -16,10 +16,6 @@ module _ {ℓ} {A : Type ℓ} where
   abbrev pub tally : (A → Bool) → List A → ℕ
   tally p [] = 0
   tally p (x ∷ xs) = (if p x then 1 else 0) + tally p xs
-
-  abbrev pub all : (A → Bool) → List A → Bool
-  all p [] = true
-  all p (x ∷ xs) = p x && all p xs
 
   -- the first that passes it (`position`, `find`)
   abbrev pub find : (A → Bool) → List A → Option A

@@ -1,6 +1,7 @@
 -- Document 01's cases of the destination, the starred ones and more, as one table that antt computes. A line's comment has the paper's words.
 -- Assumes nothing.
 use Prim.Native.Nat.{ℕ, _-_}
+use mathlib.Core.Path.{_≡_, refl}
 use mathlib.Core.Bool.{Bool, true, false, not, _&&_}
 use mathlib.Core.List.{List, [], _∷_, _++_, map}
 use mathlib.Core.Option.{Option, none, some}
@@ -19,7 +20,7 @@ use Rattle.definition.specs.Words.{step, wordsOpen}
 use Rattle.definition.specs.Queries.{Asked, Page, ofKind, consumers, expirations, messages, bytes, idle, sequence, query, page, queriesOpen}
 use Rattle.entry.specs.Entry as Rows
 use Rattle.audit.specs.Audit as Ring
-use Rattle.definition.specs.Layout.{Buffers, view, soundBuffers, bufferStep, layoutOpen}
+use Rattle.definition.specs.Layout.{Buffers, view, soundBuffers, bufferStep, zeroBuffers, zeroDest, layoutOpen}
 
 -- an event as numbers: 0 x, 1 d, 2 n
 abbrev numbers : List Event → List ℕ
@@ -156,7 +157,11 @@ minus n = 18446744073709551616 - n
 
 -- the state before any open
 abbrev zeros : Dest
-zeros = opened queue 0 0 0 0 512
+zeros = zeroDest
+
+zeros-held : view zeroBuffers ≡ zeroDest
+unfolding layoutOpen
+zeros-held = refl
 
 abbrev wordsRan : List (ℕ × List ℕ) → Dest → Ran
 wordsRan [] t = record { seen = []; dest = t }

@@ -61,27 +61,27 @@ NoAllowance = (now : ℕ) (t : Dest) → t .allowance ≡ 0 → due now t ≡ no
 
 -- what is left of a list l over the limit, and what that adds to the counters: of the live entries, in their order, as many as the limit lets stay, and these
 -- at the end of the list; the expired are counted as expired, all of them, and the live ones that went as discarded
-pub record Over (now limit : ℕ) (l : List Entry) (r : Trimmed) : Type 0 where
+pub record Over (by limit : ℕ) (l : List Entry) (r : Trimmed) : Type 0 where
   -- the live ones that went
   pub lost : List Entry
-  pub live : lost ++ r .list ≡ keep (λ e. not (expired (pos now) e)) l
-  pub stays : length (r .list) ≡ min limit (tally (λ e. not (expired (pos now) e)) l)
-  pub counted : r .counts ≡ record { enqueued = 0; dequeued = 0; expired = tally (expired (pos now)) l; discarded = length lost; dispatched = 0 }
+  pub live : lost ++ r .list ≡ keep (λ e. not (expired (pos by) e)) l
+  pub stays : length (r .list) ≡ min limit (tally (λ e. not (expired (pos by) e)) l)
+  pub counted : r .counts ≡ record { enqueued = 0; dequeued = 0; expired = tally (expired (pos by)) l; discarded = length lost; dispatched = 0 }
   -- no expired copy is left
-  pub fresh : all (λ e. not (expired (pos now) e)) (r .list) ≡ true
+  pub fresh : all (λ e. not (expired (pos by) e)) (r .list) ≡ true
   -- the numbers of those that went are below those of all that stay
   pub highest : ascending (seqs l) ≡ true → all (λ e. all (λ f. ltb (e .seq) (f .seq)) (r .list)) lost ≡ true
 
 -- document 02 §5: a list over the limit ends within it, without its expired ones and with its highest numbers, one that is not over it stays whole, expired
 -- or not, and where none has expired the lowest numbers go as in the Rust
-pub record Trimming (now limit : ℕ) (l : List Entry) : Type 0 where
-  pub within : length (trim now limit l .list) ≤ limit
-  pub whole : length l ≤ limit → trim now limit l ≡ record { list = l; counts = zeroStats }
-  pub over : limit < length l → Over now limit l (trim now limit l)
-  pub lowest : tally (expired (pos now)) l ≡ 0 → trim now limit l ≡ record { list = drop (length l - limit) l; counts = addDiscarded (length l - limit) }
+pub record Trimming (by limit : ℕ) (l : List Entry) : Type 0 where
+  pub within : length (trim by limit l .list) ≤ limit
+  pub whole : length l ≤ limit → trim by limit l ≡ record { list = l; counts = zeroStats }
+  pub over : limit < length l → Over by limit l (trim by limit l)
+  pub lowest : tally (expired (pos by)) l ≡ 0 → trim by limit l ≡ record { list = drop (length l - limit) l; counts = addDiscarded (length l - limit) }
 
 abbrev pub Surplus : Type 0
-Surplus = (now limit : ℕ) (l : List Entry) → 1 ≤ limit → Trimming now limit l
+Surplus = (by limit : ℕ) (l : List Entry) → 1 ≤ limit → Trimming by limit l
 
 -- document 02 §3: a sound state's bytes are at most 512 sizes, and it is all one in which order its rows are looked at
 abbrev pub BytesFit : Type 0
@@ -150,14 +150,14 @@ withCopy e s = if accepts s e then withTpending (insert e (s .tpending)) s else 
 
 -- and what the limit leaves of its list then
 abbrev pub trimmedFor : ℕ → ℕ → Entry → Sub → Sub
-trimmedFor now limit e s = if accepts s e then withTpending (trim now limit (s .tpending) .list) s else s
+trimmedFor by limit e s = if accepts s e then withTpending (trim by limit (s .tpending) .list) s else s
 
 -- an enqueue of a number that no row has: on a queue one row more, on a topic as many copies more as are asked for, and each list that got one is trimmed
 -- only then
-pub record EnqueueMakes (now : ℕ) (e : Entry) (t : Dest) : Type 0 where
+pub record EnqueueMakes (by : ℕ) (e : Entry) (t : Dest) : Type 0 where
   pub stores : length (allRows (stored e t)) ≡ length (allRows t) + rowsFor e t queue
   pub copies : length (consumerRows (map (withCopy e) (t .subs))) ≡ length (consumerRows (t .subs)) + rowsFor e t topic
-  pub trims : fannedOut now e t .subs ≡ map (trimmedFor now (t .topicLimit) e) (map (withCopy e) (t .subs))
+  pub trims : fannedOut by e t .subs ≡ map (trimmedFor by (t .topicLimit) e) (map (withCopy e) (t .subs))
 
 abbrev pub EnqueueRows : Type 0
-EnqueueRows = (now : ℕ) (e : Entry) (t : Dest) → member (e .seq) (seqs (allRows t)) ≡ false → EnqueueMakes now e t
+EnqueueRows = (by : ℕ) (e : Entry) (t : Dest) → member (e .seq) (seqs (allRows t)) ≡ false → EnqueueMakes by e t

@@ -205,14 +205,14 @@ ackSub a s =
 
 -- one entry that was popped from a topic consumer's list: expired, or sent
 unfoldable pub meetTopic : ℕ → Entry → List Entry → Step → Step
-meetTopic now e es t =
-    if expired (pos now) e then record { sub = withTpending es (t .sub); counts = t .counts ⊕ addExpired 1; events = t .events }
+meetTopic by e es t =
+    if expired (pos by) e then record { sub = withTpending es (t .sub); counts = t .counts ⊕ addExpired 1; events = t .events }
     else record { sub = send e (withTpending es (t .sub)); counts = t .counts ⊕ addDispatched 1; events = t .events ++ sent (t .sub) e ∷ [] }
 
 -- while sub.has_credit() { pop_first .. }
 unfoldable pub drainTopic : ℕ → List Entry → Step → Step
-drainTopic now [] t = t
-drainTopic now (e ∷ es) t = if hasCredit (t .sub) then drainTopic now es (meetTopic now e es t) else t
+drainTopic by [] t = t
+drainTopic by (e ∷ es) t = if hasCredit (t .sub) then drainTopic by es (meetTopic by e es t) else t
 
 -- nothing done yet
 abbrev pub atRest : Sub → Step
@@ -220,7 +220,7 @@ atRest s = record { sub = s; counts = zeroStats; events = [] }
 
 -- Dest::dispatch_topic, of one consumer
 abbrev pub serveTopic : ℕ → Sub → Step
-serveTopic now s = drainTopic now (s .tpending) (atRest s)
+serveTopic by s = drainTopic by (s .tpending) (atRest s)
 
 -- what dispatch to a browser leaves: the browser, the queue, what it adds to the counters, what it sends
 pub record Browse : Type 0 where
@@ -234,8 +234,8 @@ sameSeq e f = eqb (e .seq) (f .seq)
 
 -- one entry that was popped from the snapshot: expired, and deleted if it still waits on the queue; or sent
 unfoldable pub meetBrowser : ℕ → Entry → List Entry → Browse → Browse
-meetBrowser now e es b =
-    if expired (pos now) e then record {
+meetBrowser by e es b =
+    if expired (pos by) e then record {
       sub = withSnapshot es (b .sub);
       pending = keep (λ f. not (sameSeq e f)) (b .pending);
       counts = b .counts ⊕ addExpired (tally (sameSeq e) (b .pending));
@@ -256,12 +256,12 @@ closeBrowser b =
 
 -- Dest::dispatch_browser: the loop
 unfoldable pub drainBrowser : ℕ → List Entry → Browse → Browse
-drainBrowser now [] b = if hasCredit (b .sub) then closeBrowser b else b
-drainBrowser now (e ∷ es) b = if hasCredit (b .sub) then drainBrowser now es (meetBrowser now e es b) else b
+drainBrowser by [] b = if hasCredit (b .sub) then closeBrowser b else b
+drainBrowser by (e ∷ es) b = if hasCredit (b .sub) then drainBrowser by es (meetBrowser by e es b) else b
 
 -- Dest::dispatch_browser
 abbrev pub dispatchBrowser : ℕ → List Entry → Sub → Browse
-dispatchBrowser now pending s = drainBrowser now (snapshot s) (record { sub = s; pending = pending; counts = zeroStats; events = [] })
+dispatchBrowser by pending s = drainBrowser by (snapshot s) (record { sub = s; pending = pending; counts = zeroStats; events = [] })
 
 -- opens the definitions of this file
 unfoldable pub consumerOpen : Unit {0}

@@ -1,5 +1,4 @@
--- The destination: `impl Dest` of destination.rs. A call's clock is `now`; entries expire by `due now`, from `dispatch` on, and there `now` is that one.
--- Assumes nothing.
+-- The destination: `impl Dest` of destination.rs. A call's clock is `now`; the clock that entries expire by is `by`: `due now`, the call's less the allowance. Assumes nothing.
 use Prim.Native.Nat.{ℕ, zero, suc, _+_, _-_, _%_, min}
 use mathlib.Core.Bool.{Bool, true, false, not, _&&_, _||_}
 use mathlib.Core.List.{List, [], _∷_, _++_, map}
@@ -60,13 +59,13 @@ losing l = record { pending = l .pending; chosen = l .chosen; cursor = l .cursor
 
 -- Dest::dispatch_queue: `for (seq, e) in pending.range(sub.cursor + 1..)`
 unfoldable pub look : ℕ → Sub → ℕ → List Entry → Look
-look now s c [] = record { pending = []; chosen = none; cursor = c; gone = 0 }
-look now s c (e ∷ es) =
-    let before = passing e (look now s c es) in
-    let late = losing (look now s c es) in
-    let refused = passing e (look now s (e .seq) es) in
+look by s c [] = record { pending = []; chosen = none; cursor = c; gone = 0 }
+look by s c (e ∷ es) =
+    let before = passing e (look by s c es) in
+    let late = losing (look by s c es) in
+    let refused = passing e (look by s (e .seq) es) in
     if leb (e .seq) (s .cursor) then before
-    else if expired (pos now) e then late
+    else if expired (pos by) e then late
     else if accepts s e then record { pending = es; chosen = some e; cursor = e .seq; gone = 0 }
     else refused
 
@@ -91,20 +90,20 @@ given i s l t (some e) = record {
 
 -- Dest::dispatch_queue: one k of `for k in 0..n`
 unfoldable pub visitAt : ℕ → ℕ → Dest → Option Sub → Turn
-visitAt now i t none = record { took = false; dest = t; events = [] }
-visitAt now i t (some s) =
-    let l = look now s (s .cursor) (t .pending) in
+visitAt by i t none = record { took = false; dest = t; events = [] }
+visitAt by i t (some s) =
+    let l = look by s (s .cursor) (t .pending) in
     if isBrowser s || not (hasCredit s) then record { took = false; dest = t; events = [] } else given i s l t (l .chosen)
 
 unfoldable pub visit : ℕ → ℕ → Dest → Turn
-visit now i t = visitAt now i t (nth i (t .subs))
+visit by i t = visitAt by i t (nth i (t .subs))
 
 -- the scan over consumers stops at the first that takes an entry
 unfoldable pub scan : ℕ → List ℕ → Dest → Turn
-scan now [] t = record { took = false; dest = t; events = [] }
-scan now (i ∷ is) t =
-    let here = visit now i t in
-    let later = scan now is (here .dest) in
+scan by [] t = record { took = false; dest = t; events = [] }
+scan by (i ∷ is) t =
+    let here = visit by i t in
+    let later = scan by is (here .dest) in
     if here .took then here else later
 
 -- for k in 0..n: (rr + k) % n
@@ -113,10 +112,10 @@ turns t = map (λ k. k % length (t .subs)) (upFrom (t .rr) (length (t .subs)))
 
 -- the scan starts again after each entry taken; each takes one off the queue
 unfoldable pub rounds : ℕ → ℕ → Dest → Out
-rounds zero now t = record { dest = t; events = [] }
-rounds (suc fuel) now t =
-    let here = scan now (turns t) t in
-    let later = rounds fuel now (here .dest) in
+rounds zero by t = record { dest = t; events = [] }
+rounds (suc fuel) by t =
+    let here = scan by (turns t) t in
+    let later = rounds fuel by (here .dest) in
     if not (here .took) || empty (here .dest .pending) then record { dest = here .dest; events = here .events }
     else record { dest = later .dest; events = here .events ++ later .events }
 
@@ -129,19 +128,19 @@ pub record Browsed : Type 0 where
 
 -- Dest::dispatch_queue: `for sub in subs.iter_mut().filter(|s| s.browser.is_some())`
 unfoldable pub browsers : ℕ → List Sub → List Entry → Browsed
-browsers now [] pending = record { subs = []; pending = pending; counts = zeroStats; events = [] }
-browsers now (s ∷ ss) pending =
-    let b : Browse = if isBrowser s then dispatchBrowser now pending s else record { sub = s; pending = pending; counts = zeroStats; events = [] } in
-    let r = browsers now ss (b .pending) in
+browsers by [] pending = record { subs = []; pending = pending; counts = zeroStats; events = [] }
+browsers by (s ∷ ss) pending =
+    let b : Browse = if isBrowser s then dispatchBrowser by pending s else record { sub = s; pending = pending; counts = zeroStats; events = [] } in
+    let r = browsers by ss (b .pending) in
     record { subs = b .sub ∷ r .subs; pending = r .pending; counts = b .counts ⊕ r .counts; events = b .events ++ r .events }
 
 -- Dest::dispatch_queue
 unfoldable pub dispatchQueue : ℕ → Dest → Out
-dispatchQueue now t =
+dispatchQueue by t =
     if empty (t .subs) then record { dest = t; events = [] }
     else
-    let b = browsers now (t .subs) (t .pending) in
-    let r = rounds (suc (length (b .pending))) now (count (b .counts) (withPending (b .pending) (withSubs (b .subs) t))) in
+    let b = browsers by (t .subs) (t .pending) in
+    let r = rounds (suc (length (b .pending))) by (count (b .counts) (withPending (b .pending) (withSubs (b .subs) t))) in
     record { dest = r .dest; events = b .events ++ r .events }
 
 -- what serving each consumer of a topic leaves
@@ -152,20 +151,20 @@ pub record Served : Type 0 where
 
 -- Dest::dispatch_topic: `for sub in subs.iter_mut()`
 unfoldable pub serveAll : ℕ → List Sub → Served
-serveAll now [] = record { subs = []; counts = zeroStats; events = [] }
-serveAll now (s ∷ ss) =
-    let a = serveTopic now s in
-    let r = serveAll now ss in
+serveAll by [] = record { subs = []; counts = zeroStats; events = [] }
+serveAll by (s ∷ ss) =
+    let a = serveTopic by s in
+    let r = serveAll by ss in
     record { subs = a .sub ∷ r .subs; counts = a .counts ⊕ r .counts; events = a .events ++ r .events }
 
 -- Dest::dispatch_topic
 unfoldable pub dispatchTopic : ℕ → Dest → Out
-dispatchTopic now t = let r = serveAll now (t .subs) in record { dest = count (r .counts) (withSubs (r .subs) t); events = r .events }
+dispatchTopic by t = let r = serveAll by (t .subs) in record { dest = count (r .counts) (withSubs (r .subs) t); events = r .events }
 
 -- Dest::dispatch
 unfoldable pub dispatchBy : ℕ → Dest → Kind → Out
-dispatchBy now t queue = dispatchQueue now t
-dispatchBy now t topic = dispatchTopic now t
+dispatchBy by t queue = dispatchQueue by t
+dispatchBy by t topic = dispatchTopic by t
 
 -- the clock that entries expire by: the call's clock less the allowance, or 0 where that is below 0
 abbrev pub due : ℕ → Dest → ℕ
@@ -199,25 +198,25 @@ pub record Trimmed : Type 0 where
 
 -- a list over the limit first loses all that have expired, and then the lowest numbers while it is over (document 02 §5); limit 0 is off
 unfoldable pub trim : ℕ → ℕ → List Entry → Trimmed
-trim now limit l =
-    let live = keep (λ e. not (expired (pos now) e)) l in
+trim by limit l =
+    let live = keep (λ e. not (expired (pos by) e)) l in
     let over = length live - limit in
     if eqb limit 0 || leb (length l) limit then record { list = l; counts = zeroStats }
-    else record { list = drop over live; counts = addExpired (tally (expired (pos now)) l) ⊕ addDiscarded over }
+    else record { list = drop over live; counts = addExpired (tally (expired (pos by)) l) ⊕ addDiscarded over }
 
 -- the copy for one consumer of a topic, and what is surplus gone
 unfoldable pub fanOut : ℕ → ℕ → Entry → Sub → Step
-fanOut now limit e s =
-    let r = trim now limit (insert e (s .tpending)) in
+fanOut by limit e s =
+    let r = trim by limit (insert e (s .tpending)) in
     if accepts s e then record { sub = withTpending (r .list) s; counts = r .counts; events = [] }
     else record { sub = s; counts = zeroStats; events = [] }
 
 -- Dest::enqueue on a topic: `for sub in st.subs.iter_mut()`
 unfoldable pub fanOutAll : ℕ → ℕ → Entry → List Sub → Served
-fanOutAll now limit e [] = record { subs = []; counts = zeroStats; events = [] }
-fanOutAll now limit e (s ∷ ss) =
-    let a = fanOut now limit e s in
-    let r = fanOutAll now limit e ss in
+fanOutAll by limit e [] = record { subs = []; counts = zeroStats; events = [] }
+fanOutAll by limit e (s ∷ ss) =
+    let a = fanOut by limit e s in
+    let r = fanOutAll by limit e ss in
     record { subs = a .sub ∷ r .subs; counts = a .counts ⊕ r .counts; events = [] }
 
 -- stored (queue)
@@ -226,7 +225,7 @@ stored e t = withIdle none (withPending (insert e (t .pending)) (withSubs (map (
 
 -- fanned out (topic), by the clock that entries expire by
 abbrev pub fannedOut : ℕ → Entry → Dest → Dest
-fannedOut now e t = let r = fanOutAll now (t .topicLimit) e (t .subs) in count (r .counts) (withSubs (r .subs) (count (addEnqueued 1) t))
+fannedOut by e t = let r = fanOutAll by (t .topicLimit) e (t .subs) in count (r .counts) (withSubs (r .subs) (count (addEnqueued 1) t))
 
 -- Dest::enqueue
 unfoldable pub enqueueBy : ℕ → Entry → Dest → Kind → Out
@@ -516,8 +515,8 @@ sooner e none = some e
 sooner e (some f) = if isSooner e f then some e else some f
 
 abbrev pub soonest : ℕ → List Entry → Option Entry
-soonest now [] = none
-soonest now (e ∷ es) = if expired (pos now) e then sooner e (soonest now es) else soonest now es
+soonest by [] = none
+soonest by (e ∷ es) = if expired (pos by) e then sooner e (soonest by es) else soonest by es
 
 pub record Swept : Type 0 where
   pub list : List Entry
@@ -533,8 +532,8 @@ sweepAt l go (some e) = sweptMore (go e)
 
 -- Dest::sweep_expired, of one list and its expiry index
 unfoldable pub sweepList : ℕ → ℕ → List Entry → Swept
-sweepList zero now l = record { list = l; gone = 0 }
-sweepList (suc budget) now l = sweepAt l (λ e. sweepList budget now (keep (λ f. not (eqb (f .seq) (e .seq))) l)) (soonest now l)
+sweepList zero by l = record { list = l; gone = 0 }
+sweepList (suc budget) by l = sweepAt l (λ e. sweepList budget by (keep (λ f. not (eqb (f .seq) (e .seq))) l)) (soonest by l)
 
 pub record SweptSubs : Type 0 where
   pub subs : List Sub
@@ -542,10 +541,10 @@ pub record SweptSubs : Type 0 where
 
 -- Dest::sweep_expired: `for sub in subs.iter_mut()`
 unfoldable pub sweepSubs : ℕ → ℕ → List Sub → SweptSubs
-sweepSubs budget now [] = record { subs = []; gone = 0 }
-sweepSubs budget now (s ∷ ss) =
-    let w = sweepList budget now (s .tpending) in
-    let r = sweepSubs (budget - w .gone) now ss in
+sweepSubs budget by [] = record { subs = []; gone = 0 }
+sweepSubs budget by (s ∷ ss) =
+    let w = sweepList budget by (s .tpending) in
+    let r = sweepSubs (budget - w .gone) by ss in
     record { subs = withTpending (w .list) s ∷ r .subs; gone = w .gone + r .gone }
 
 -- Dest::sweep_expired

@@ -6,7 +6,7 @@ use mathlib.Core.Bool.{Bool, true, false, not, _&&_, _||_}
 use mathlib.Core.List.{List, [], _∷_, map}
 use mathlib.Core.Option.{Option, none, some}
 use lib.Dec.{leb, ltb, eqb}
-use lib.ListN.{length, take, drop}
+use lib.ListN.{length, take, drop, replicate}
 use mir.Val.{boolByte}
 use Rattle.words.specs.Words.{unsigned, isInt}
 use Rattle.audit.specs.Audit as Ring
@@ -28,6 +28,9 @@ pub record Buffers : Type 0 where
   pub head : List ℕ
   pub subs : List Row
   pub rows : List Row
+
+abbrev pub lent : List ℕ → List Row → List Row → Buffers
+lent head subs rows = record { head = head; subs = subs; rows = rows }
 
 abbrev pub flag : ℕ → Bool
 flag w = not (eqb w 0)
@@ -244,6 +247,30 @@ unfoldable pub bufferPage : Buffers → ℕ → ℕ → ℕ → Page
 bufferPage b lines offset limit =
     if not (stateShort (lengthsOf b 0) || ltb lines pageMax) && not (formed b) then record { refusal = 2; total = 0; lines = [] }
     else page (lengthsOf b 0) lines offset limit (view b)
+
+-- ---- before any open
+
+-- buffers of zeros, which a program begins with, and what they hold (specs/Cases.antt computes that)
+abbrev pub zeroBuffers : Buffers
+zeroBuffers = lent (replicate 8347 0) (replicate 32 (replicate 16 0)) (replicate 512 (replicate 10 0))
+
+abbrev pub zeroDest : Dest
+zeroDest = record {
+  kind = queue;
+  topicLimit = 0;
+  callLimit = 0;
+  allowance = 0;
+  share = 0;
+  callsUsed = 0;
+  pending = [];
+  subs = [];
+  rr = 0;
+  producers = [];
+  audits = [];
+  stats = zeroStats;
+  idle = none;
+  reserved = [];
+}
 
 -- opens the definitions of this file
 unfoldable pub layoutOpen : Unit {0}

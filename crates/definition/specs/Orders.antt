@@ -21,7 +21,7 @@ pub data Reached : Bool → Dest → Type 0 where
   discards : {b : Bool} {t : Dest} (lent : Lengths) → Reached b t → call lent discarding t .refusal ≡ 0 → Reached b (call lent discarding t .dest)
   misses : {b : Bool} {t : Dest} (lent : Lengths) → Reached b t → call lent missing t .refusal ≡ 0 → Reached b (call lent missing t .dest)
 
--- one call of the list: its code, its eight words, and how many events its list holds
+-- one call of the list: its code, its eight words, and the four lengths of what it is lent: the state's three buffers and its own event list
 pub record Lent : Type 0 where
   pub code : ℕ
   pub words : List ℕ
@@ -53,7 +53,7 @@ callsOf i l = keep (λ c. sameId (caller c) i) l
 abbrev pub repliesOf : Id → List (Lent × Reply) → List (Lent × Reply)
 repliesOf i l = keep (λ r. sameId (caller (r .0)) i) l
 
--- each has a code from 4 to 7 and the ID of a present consumer; its other words are any
+-- each has a code from 4 to 7 and the ID of a present consumer (one that accepted calls joined and did not remove since: `PresentByHistory`); its other words are any
 pub record Present (c : Lent) (t : Dest) : Type 0 where
   pub low : 4 ≤ c .code
   pub high : c .code ≤ 7
@@ -63,7 +63,7 @@ abbrev pub AllPresent : List Lent → Dest → Type 0
 AllPresent [] t = Unit {0}
 AllPresent (c ∷ cs) t = Present c t × AllPresent cs t
 
--- any topic, or any queue never cleared with nothing waiting
+-- any topic, or any queue never cleared with nothing waiting (what waits, from which call and until when: `WaitsFrom`, `WaitsOn`, `FliesFrom`)
 abbrev pub Qualifies : Bool → Dest → Type 0
 Qualifies cleared t = t .kind ≡ queue → (cleared ≡ false) × (t .pending ≡ [])
 

@@ -1,12 +1,12 @@
--- Document 01's table "Refused, by place of checking" as a list of places, and that a refusal's number comes exactly from it. Assumes nothing.
-use Prim.Native.Nat.{ℕ, _≤_}
+-- Document 01's table "Refused, by place of checking" as a list of places, and that a refusal's number comes exactly from it (`Exact` of crate `words`). Assumes nothing.
+use Prim.Native.Nat.{ℕ}
 use mathlib.Core.Path.{_≡_}
 use mathlib.Core.Bool.{Bool, true, not, _&&_, _||_}
-use mathlib.Core.List.{List, [], _∷_, _++_}
-use mathlib.Core.Logic.{_↔_}
+use mathlib.Core.List.{List, [], _∷_}
 use lib.Dec.{leb, ltb, eqb}
 use lib.ListN.{length}
-use Rattle.definition.specs.Base.{if_then_else_, all, find, member, is-some}
+pub use Rattle.words.specs.Places.{CheckPlace, _when_, passes, Comes, Exact}
+use Rattle.definition.specs.Base.{if_then_else_, find, member, is-some}
 use Rattle.definition.specs.Types.{Dest}
 use Rattle.definition.specs.Consumer.{zeroStats}
 use Rattle.definition.specs.Destination.{subOf, isProducer, auditOf}
@@ -14,15 +14,6 @@ use Rattle.definition.specs.Calls.{Lengths, stateShort, short, sound, se
 use Rattle.definition.specs.Words.{at, idIn, entryIn, specIn, openWords, decode, step}
 use Rattle.definition.specs.Queries.{Query, queryOk, query, counters, page}
 use Rattle.definition.specs.Layout.{Buffers, view, soundBuffers, lengthsOf, bufferStep, bufferCall, bufferQuery, bufferCounters, bufferPage}
-
--- a place of checking: its number, and whether it refuses
-pub record CheckPlace : Type 0 where
-  pub number : ℕ
-  pub test : Bool
-
-infix 70 _when_
-abbrev pub _when_ : ℕ → Bool → CheckPlace
-n when b = record { number = n; test = b }
 
 -- an open's words are an open's; any other call's code is known, its numbers are in their ranges and its unused words 0
 abbrev pub argumentsRight : ℕ → List ℕ → Bool
@@ -80,26 +71,6 @@ queryTable isShort isSound inRange = 1 when isShort ∷ 2 when not isSound ∷ 3
 
 abbrev pub queryPlaces : Bool → Bool → Dest → List CheckPlace
 queryPlaces isShort inRange t = queryTable isShort (sound t) inRange
-
--- ---- exactly
-
-abbrev pub passes : CheckPlace → Bool
-passes p = not (p .test)
-
--- n comes from these places: one of that number refuses, and none before it does
-pub record Comes (n : ℕ) (ps : List CheckPlace) : Type 0 where
-  pub before : List CheckPlace
-  pub here : CheckPlace
-  pub after : List CheckPlace
-  pub split : ps ≡ before ++ here ∷ after
-  pub passed : all passes before ≡ true
-  pub refuses : here .test ≡ true
-  pub numbered : here .number ≡ n
-
--- a refusal has a number exactly if it comes from these places, and there is none exactly if no place refuses
-pub record Exact (refusal : ℕ) (ps : List CheckPlace) : Type 0 where
-  pub number : (n : ℕ) → 1 ≤ n → (refusal ≡ n) ↔ Comes n ps
-  pub accepted : (refusal ≡ 0) ↔ (all passes ps ≡ true)
 
 -- a refused call answers 0, sends nothing and changes nothing
 pub record Refuses (r : Result) (ps : List CheckPlace) (t : Dest) : Type 0 where

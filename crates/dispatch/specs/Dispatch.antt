@@ -38,7 +38,7 @@ browses n subs = oneOf (λ w. rowSub w .browser) n subs
 
 -- a queue's numbers fit the tables: with a browser all of them, without one those that the scan goes by
 unfoldable pub queueFits : ℕ → List Row → Head → ℕ → ℕ → Bool
-queueFits now subs d rows events = if browses (d .consumers) subs then fits subs d rows events else scans now subs d rows events
+queueFits by subs d rows events = if browses (d .consumers) subs then fits subs d rows events else scans by subs d rows events
 
 -- a dispatch does what it means, with such a clock, on a table of consumers, with so many rows and events; elsewhere nothing happens
 unfoldable pub dispatches : ℕ → List Row → Head → ℕ → ℕ → Bool

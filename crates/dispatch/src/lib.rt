@@ -37,16 +37,16 @@ fn browsers_first(
     rows: &mut [Row],
     events: &mut [Event],
     d: Head,
-    clock: u64,
+    by: u64,
 ) -> Head
-    requires { ⌜ (d .queue ≡ true) × (clock ≤ 2 ^ 62) × (0 < d .consumers) ⌝ }
-    ensures { λ r. ⌜ LeavesIf (fits (now (subs .entry)) d (length (now (rows .entry))) (length (now (events .entry)))) (Sent d r) (dispatchQueue clock) d r (now (subs .entry)) (now (rows .entry)) (now (events .entry)) (now (subs .exit)) (now (rows .exit)) (now (events .exit)) ⌝ }
+    requires { ⌜ (d .queue ≡ true) × (by ≤ 2 ^ 62) × (0 < d .consumers) ⌝ }
+    ensures { λ r. ⌜ LeavesIf (fits (now (subs .entry)) d (length (now (rows .entry))) (length (now (events .entry)))) (Sent d r) (dispatchQueue by) d r (now (subs .entry)) (now (rows .entry)) (now (events .entry)) (now (subs .exit)) (now (rows .exit)) (now (events .exit)) ⌝ }
 {
     if !state::fits(subs, d, rows.len(), events.len()) {
         return d;
     }
-    let shown = browsers::serve_browsers(subs, rows, events, d, clock);
-    queues::serve_rounds(subs, rows, events, shown, clock)
+    let shown = browsers::serve_browsers(subs, rows, events, d, by);
+    queues::serve_rounds(subs, rows, events, shown, by)
 }
 
 // A queue's: without a browser, the scan alone. Where the numbers do not fit the tables, nothing happens.
@@ -55,18 +55,18 @@ fn dispatch_queue(
     rows: &mut [Row],
     events: &mut [Event],
     d: Head,
-    clock: u64,
+    by: u64,
 ) -> Head
-    requires { ⌜ (d .queue ≡ true) × (clock ≤ 2 ^ 62) ⌝ }
-    ensures { λ r. ⌜ LeavesIf (queueFits clock (now (subs .entry)) d (length (now (rows .entry))) (length (now (events .entry)))) (Sent d r) (dispatchQueue clock) d r (now (subs .entry)) (now (rows .entry)) (now (events .entry)) (now (subs .exit)) (now (rows .exit)) (now (events .exit)) ⌝ }
+    requires { ⌜ (d .queue ≡ true) × (by ≤ 2 ^ 62) ⌝ }
+    ensures { λ r. ⌜ LeavesIf (queueFits by (now (subs .entry)) d (length (now (rows .entry))) (length (now (events .entry)))) (Sent d r) (dispatchQueue by) d r (now (subs .entry)) (now (rows .entry)) (now (events .entry)) (now (subs .exit)) (now (rows .exit)) (now (events .exit)) ⌝ }
 {
     if d.consumers == 0 {
         return d;
     }
     if any_browser(subs, d.consumers) {
-        return browsers_first(subs, rows, events, d, clock);
+        return browsers_first(subs, rows, events, d, by);
     }
-    queues::serve_rounds(subs, rows, events, d, clock)
+    queues::serve_rounds(subs, rows, events, d, by)
 }
 
 // Whether consumer i can be sent something: of a topic's, one that holds something and has credit; of a queue's, a browser, or where something
@@ -109,12 +109,12 @@ pub fn dispatch(
 ) -> Head
     ensures { λ r. ⌜ LeavesIf (dispatches clock (now (subs .entry)) d (length (now (rows .entry))) (length (now (events .entry)))) (Sent d r) (dispatch clock) d r (now (subs .entry)) (now (rows .entry)) (now (events .entry)) (now (subs .exit)) (now (rows .exit)) (now (events .exit)) ⌝ }
 {
-    let due = d.due(clock);
+    let by = d.due(clock);
     if entry::CLOCK_MOST < clock {
         return d;
     }
     if d.queue {
-        return dispatch_queue(subs, rows, events, d, due);
+        return dispatch_queue(subs, rows, events, d, by);
     }
-    topics::dispatch_topic(subs, rows, events, d, due)
+    topics::dispatch_topic(subs, rows, events, d, by)
 }

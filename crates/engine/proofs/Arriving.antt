@@ -31,7 +31,7 @@ use Rattle.dispatch.specs.Dispatch.{dispatches, Sent}
 use Rattle.joins.specs.declared.SubSpec.{SubSpec}
 use Rattle.joins.specs.Joins.{specOf, Refused, joinsWhen}
 use Rattle.joins.proofs.Refusals.{free-is}
-use Rattle.engine.specs.Called.{performed, Performs}
+use Rattle.engine.specs.Performs.{performed, Performs}
 use Rattle.engine.specs.Requests.{Sends}
 use Rattle.engine.specs.Storing.{storedBy, kept, holds, rowsNeeded, ownRefusalOf}
 use Rattle.engine.specs.Shares.{overOf}

@@ -13,10 +13,9 @@ use Rattle.definition.specs.Base.{all}
 use Rattle.definition.specs.Types.{Dest}
 use Rattle.definition.specs.Calls.{Lengths, stateShort, short, sound, Result}
 use Rattle.definition.specs.Words.{at, step}
-use Rattle.definition.specs.Layout.{Row, Buffers, eventWords, view, formed, soundBuffers, lengthsOf, bufferStep}
+use Rattle.definition.specs.Layout.{Row, Buffers, eventWords, view, formed, soundBuffers, lengthsOf, bufferStep, lent}
 use Rattle.calls.specs.declared.Call.{Call}
 use Rattle.calls.specs.Calls.{newCall}
-use Rattle.sound.specs.Sound.{lent}
 use Rattle.definition.proofs.Tests.{by-test, and-left, and-right, if-true, if-false}
 use Rattle.engine.specs.declared.Outcome.{Outcome}
 use Rattle.engine.specs.declared.batch.Done.{Done}

@@ -11,14 +11,14 @@ use Rattle.stats.specs.Counted.{more}
 use Rattle.definition.specs.Types.{Dest}
 use Rattle.definition.specs.Calls.{short, sound, Call, Result, refused, argumentsOk, ownRefusal, perform, used}
 use Rattle.definition.specs.Words.{decode, openWords, openedBy}
-use Rattle.definition.specs.Layout.{Row, Buffers, eachSub, subRows, idsAt, auditsAt, ringsFormed, tablesStrict, view, formed, soundBuffers, lengthsOf, bufferStep}
+use Rattle.definition.specs.Layout.{Row, Buffers, eachSub, subRows, idsAt, auditsAt, ringsFormed, tablesStrict, view, formed, soundBuffers, lengthsOf, bufferStep, lent}
 use Rattle.definition.proofs.Tests.{and-both}
 use Rattle.state.specs.declared.Answer.{Answer}
 use Rattle.state.specs.State.{headView, loaded, storedHead, withUsedCalls}
 use Rattle.state.proofs.View.{stored-any, stored-formed, stored-past, stored-length}
 use Rattle.state.proofs.Fitting.{not-short}
-pub use Rattle.sound.specs.Sound.{lent}
-use Rattle.engine.specs.Called.{outcome, Called, Performs, performed}
+use Rattle.engine.specs.Called.{outcome, Called}
+use Rattle.engine.specs.Performs.{Performs, performed}
 use Rattle.engine.specs.Opened.{openedHead}
 use Rattle.engine.proofs.Refusing.{done, step-opens, opens-sound, step-refused, step-done, done-sound}
 use Rattle.engine.proofs.Ending as Ending

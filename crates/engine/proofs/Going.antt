@@ -27,7 +27,7 @@ use Rattle.state.proofs.Ready.{Keeps}
 use Rattle.returns.specs.Returns.{departedAt, departed, freed}
 use Rattle.returns.proofs.Freeing.{freed-none}
 use Rattle.expiry.specs.Expiry.{clearOut, sweepOut, SweepAnswers}
-use Rattle.engine.specs.Called.{performed, Performs}
+use Rattle.engine.specs.Performs.{performed, Performs}
 use Rattle.engine.specs.Requests.{sentOn, Sends}
 use Rattle.engine.proofs.Parts.{sends-as}
 

@@ -20,7 +20,7 @@ use Rattle.state.specs.declared.Head.{Head}
 use Rattle.state.specs.declared.Answer as State
 use Rattle.producers.specs.Producers.{HeadLeft, headFits, added, producerRemoved, tested, released, Promised}
 use Rattle.producers.proofs.Past.{added-past, removed-past, tested-past, released-past}
-use Rattle.engine.specs.Called.{HeadBy, onTables}
+use Rattle.engine.specs.Performs.{HeadBy, onTables}
 
 -- no code above 15 is known
 pub far-code : (n : ℕ) (w : List ℕ) → 15 < n → is-some (decode n w) ≡ false

@@ -13,7 +13,7 @@ use Rattle.stats.specs.Counted.{more}
 use Rattle.definition.specs.Types.{Dest}
 use Rattle.definition.specs.Calls.{short, sound, used, Call, Result, argumentsOk, ownRefusal, perform}
 use Rattle.definition.specs.Words.{at, decode}
-use Rattle.definition.specs.Layout.{Row, Buffers, eventWords, subRows, idsAt, auditsAt, ringsFormed, usedRows, view, strict, formed, soundBuffers, lengthsOf, bufferStep}
+use Rattle.definition.specs.Layout.{Row, Buffers, eventWords, subRows, idsAt, auditsAt, ringsFormed, usedRows, view, strict, formed, soundBuffers, lengthsOf, bufferStep, lent}
 use Rattle.definition.proofs.Tests.{and-left, and-both}
 use Rattle.definition.proofs.Thin.{every-all, all-every}
 use Rattle.definition.proofs.Sound.{facts}
@@ -27,7 +27,7 @@ use Rattle.producers.specs.Producers.{HeadLeft, headFits, headDest, PerformsInH
 use Rattle.producers.proofs.Tables.{counts}
 use Rattle.engine.specs.Called.{outcome, Called}
 use Rattle.engine.proofs.Refusing.{step-refused, step-done, done-sound}
-use Rattle.engine.proofs.Called.{lent, refused-called}
+use Rattle.engine.proofs.Called.{refused-called}
 use Rattle.engine.proofs.Ending as Ending
 
 -- the numbers that are loaded from sound buffers fit the head

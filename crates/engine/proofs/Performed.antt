@@ -21,7 +21,7 @@ use Rattle.state.specs.declared.Answer.{Answer}
 use Rattle.state.specs.State.{headView, doneAs}
 use Rattle.state.specs.Leaves.{Leaves}
 use Rattle.state.proofs.Leaves.{leaves-as}
-use Rattle.engine.specs.Called.{Performs, PerformsBy, onTables, performed}
+use Rattle.engine.specs.Performs.{Performs, PerformsBy, onTables, performed}
 use Rattle.engine.specs.Requests.{Sends}
 
 pub clock-in : (clock : ℕ) → clockOk clock ≡ true → clock ≤ 2 ^ 62

@@ -12,7 +12,7 @@ use Rattle.words.proofs.Tests.{or-left, or-right}
 use Rattle.definition.specs.Base.{if_then_else_, is-some}
 use Rattle.definition.specs.Calls.{Lengths, stateShort, short, Call, Result, argumentsOk}
 use Rattle.definition.specs.Words.{read, decode, openWords}
-use Rattle.definition.specs.Layout.{Row, Buffers, view, soundBuffers, lengthsOf, bufferStep}
+use Rattle.definition.specs.Layout.{Row, Buffers, view, soundBuffers, lengthsOf, bufferStep, lent}
 use Rattle.definition.proofs.Tests.{by-test, if-true, if-false}
 use Rattle.definition.proofs.Made.{inRange-ok}
 use Rattle.state.specs.declared.Head.{Head}
@@ -21,11 +21,12 @@ use Rattle.state.specs.State.{loaded, storedHead}
 use Rattle.state.specs.Ready.{Ready}
 use Rattle.producers.specs.Producers.{headFits}
 use Rattle.engine.specs.declared.Outcome.{Outcome}
-use Rattle.engine.specs.Called.{outcome, Called, Performs, PerformsBy, InHead, HeadBy}
+use Rattle.engine.specs.Called.{outcome, Called}
+use Rattle.engine.specs.Performs.{Performs, PerformsBy, InHead, HeadBy}
 use Rattle.engine.specs.Opened.{openedHead, counted, finished}
 use Rattle.engine.proofs.Asks.{neither}
 use Rattle.engine.proofs.Refusing.{step-undecoded, step-spent, step-unopened}
-use Rattle.engine.proofs.Called.{lent, refused-called, opened-called, own-called, done-called}
+use Rattle.engine.proofs.Called.{refused-called, opened-called, own-called, done-called}
 use Rattle.engine.proofs.Ending as Ending
 use Rattle.engine.proofs.Heads as Heads
 

@@ -21,7 +21,7 @@ use Rattle.calls.proofs.Ranges.{within-int}
 use Rattle.state.specs.declared.Head.{Head}
 use Rattle.state.specs.declared.Answer.{Answer}
 use Rattle.state.specs.State.{headView, doneAs}
-use Rattle.engine.specs.Called.{PerformsBy}
+use Rattle.engine.specs.Performs.{PerformsBy}
 use Rattle.engine.specs.Requests.{Sends, Pulled, pullOut}
 use Rattle.engine.proofs.Parts.{sends-as}
 use Rattle.engine.proofs.Performed.{clock-in, performs-by, answered-performs, silent-performs}

@@ -21,14 +21,14 @@ overLimit limit n = if eqb limit 0 then 0 else n - limit
 
 -- of n held rows at from, with so many in use, those over the limit go: all that have expired, and then the lowest numbers while they are over
 unfoldable pub goneOf : ℕ → ℕ → ℕ → ℕ → ℕ → List Row → Gone
-goneOf clock limit from n used rows =
-    let k = removedRows (expiredRow clock) from (from + n) used rows in
+goneOf by limit from n used rows =
+    let k = removedRows (expiredRow by) from (from + n) used rows in
     if eqb (overLimit limit n) 0 then record { expired = 0; over = 0 } else record { expired = k; over = overLimit limit (n - k) }
 
 unfoldable pub trimmed : ℕ → ℕ → ℕ → ℕ → ℕ → List Row → List Row
-trimmed clock limit from n used rows =
-    let k = removedRows (expiredRow clock) from (from + n) used rows in
-    if eqb (overLimit limit n) 0 then rows else closeGap from (overLimit limit (n - k)) (used - k) (removeRows (expiredRow clock) from (from + n) used rows)
+trimmed by limit from n used rows =
+    let k = removedRows (expiredRow by) from (from + n) used rows in
+    if eqb (overLimit limit n) 0 then rows else closeGap from (overLimit limit (n - k)) (used - k) (removeRows (expiredRow by) from (from + n) used rows)
 
 -- the row is put in by its number among the held ones
 abbrev pub putIn : Entry → ℕ → Sub → ℕ → List Row → List Row
@@ -36,14 +36,14 @@ putIn e base s used rows = let from = base + s .inflight in insertRow (placeOf f
 
 -- a consumer that does not accept the entry gets none
 unfoldable pub copied : ℕ → ℕ → Entry → ℕ → Sub → ℕ → List Row → Copied
-copied clock limit e base s used rows =
-    let g = goneOf clock limit (base + s .inflight) (s .held + 1) (used + 1) (putIn e base s used rows) in
+copied by limit e base s used rows =
+    let g = goneOf by limit (base + s .inflight) (s .held + 1) (used + 1) (putIn e base s used rows) in
     let gone = g .expired + g .over in
     if acceptsOf s e then record { sub = withHeld (s .held + 1 - gone) s; used = used + 1 - gone; expired = g .expired; over = g .over }
     else record { sub = s; used = used; expired = 0; over = 0 }
 
 unfoldable pub copiedRows : ℕ → ℕ → Entry → ℕ → Sub → ℕ → List Row → List Row
-copiedRows clock limit e base s used rows = if acceptsOf s e then trimmed clock limit (base + s .inflight) (s .held + 1) (used + 1) (putIn e base s used rows) else rows
+copiedRows by limit e base s used rows = if acceptsOf s e then trimmed by limit (base + s .inflight) (s .held + 1) (used + 1) (putIn e base s used rows) else rows
 
 -- a head with so many rows in use, and so many expired and discarded more
 abbrev pub countedBy : ℕ → ℕ → ℕ → Head → Head

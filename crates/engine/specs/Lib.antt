@@ -1,5 +1,6 @@
 pub mod Batch
 pub mod Called
+pub mod Performs
 pub mod Opened
 pub mod Requests
 pub mod Storing

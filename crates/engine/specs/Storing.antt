@@ -18,18 +18,18 @@ use Rattle.state.specs.State.{headView, withUsed, withWaiting, notIdle}
 
 -- `enqueue` before its dispatch: stored on a queue, fanned out on a topic, by the clock that entries expire by
 abbrev pub storedBy : ℕ → Entry → Dest → Kind → Dest
-storedBy now e t queue = stored e t
-storedBy now e t topic = fannedOut now e t
+storedBy by e t queue = stored e t
+storedBy by e t topic = fannedOut by e t
 
 abbrev pub kept : ℕ → Entry → Dest → Dest
-kept now e t = storedBy now e t (t .kind)
+kept by e t = storedBy by e t (t .kind)
 
 -- the same two after the entry was counted
 abbrev pub waitsCounted : Entry → Dest → Dest
 waitsCounted e t = withIdle none (withPending (insert e (t .pending)) (withSubs (map (holdBack (e .seq)) (t .subs)) t))
 
 abbrev pub spread : ℕ → Entry → Dest → Dest
-spread now e t = let r = fanOutAll now (t .topicLimit) e (t .subs) in count (r .counts) (withSubs (r .subs) t)
+spread by e t = let r = fanOutAll by (t .topicLimit) e (t .subs) in count (r .counts) (withSubs (r .subs) t)
 
 -- ---- when
 

@@ -5,7 +5,7 @@ ghost use Prim.Native.Nat.{_≤_, _^_};
 ghost use Rattle.definition.specs.Calls.{enqueuing, joining, argumentsOk};
 ghost use Rattle.joins.specs.Joins.{specOf};
 ghost use Rattle.state.specs.Ready.{Ready};
-ghost use Rattle.engine.specs.Called.{Performs};
+ghost use Rattle.engine.specs.Performs.{Performs};
 use crate::storing;
 use consumers::SubRow;
 use entry::Entry;
@@ -31,8 +31,8 @@ pub(crate) fn enqueue(
     if refusal != 0 {
         return Answer::refused(refusal, d);
     }
-    let due = d.due(clock);
-    let stored = storing::store(subs, rows, d, e, due);
+    let by = d.due(clock);
+    let stored = storing::store(subs, rows, d, e, by);
     if !dispatch::goes(subs, stored.consumers, stored.waiting, stored.queue) {
         return Answer::done(0, stored);
     }

@@ -6,7 +6,7 @@ ghost use Rattle.definition.specs.Words.{decode};
 ghost use Rattle.definition.specs.Words as Words;
 ghost use Rattle.acks.specs.Acks.{ackOf};
 ghost use Rattle.state.specs.Ready.{Ready};
-ghost use Rattle.engine.specs.Called.{PerformsBy};
+ghost use Rattle.engine.specs.Performs.{PerformsBy};
 use crate::requests;
 use acks::Ack;
 use consumers::SubRow;

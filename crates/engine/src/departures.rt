@@ -6,7 +6,7 @@ ghost use Rattle.definition.specs.Base.{is-some};
 ghost use Rattle.definition.specs.Calls.{leaving, releasing, clearing};
 ghost use Rattle.definition.specs.Words.{decode};
 ghost use Rattle.state.specs.Ready.{Ready};
-ghost use Rattle.engine.specs.Called.{Performs, PerformsBy};
+ghost use Rattle.engine.specs.Performs.{Performs, PerformsBy};
 use consumers::SubRow;
 use entry::Row;
 use model::Id;

@@ -42,11 +42,11 @@ fn over_of(limit: u64, n: usize) -> usize
 }
 
 // Over the topic limit a consumer loses all that have expired, and then its lowest numbers while it is over. Its n held rows begin at from.
-fn trim(rows: &mut [Row], from: usize, n: usize, used: usize, limit: u64, clock: u64) -> Gone
+fn trim(rows: &mut [Row], from: usize, n: usize, used: usize, limit: u64, by: u64) -> Gone
     requires { ⌜ (from + n ≤ used) × (used ≤ 513) ⌝ }
     ensures { λ r. ⌜ r .expired + r .over ≤ n ⌝ }
-    ensures { λ r. ⌜ r ≡ goneOf clock limit from n used (now (rows .entry)) ⌝ }
-    ensures { λ _. ⌜ now (rows .exit) ≡ trimmed clock limit from n used (now (rows .entry)) ⌝ }
+    ensures { λ r. ⌜ r ≡ goneOf by limit from n used (now (rows .entry)) ⌝ }
+    ensures { λ _. ⌜ now (rows .exit) ≡ trimmed by limit from n used (now (rows .entry)) ⌝ }
 {
     if over_of(limit, n) == 0 {
         return Gone {
@@ -54,7 +54,7 @@ fn trim(rows: &mut [Row], from: usize, n: usize, used: usize, limit: u64, clock:
             over: 0,
         };
     }
-    let expired = table::remove_expired(rows, from, from + n, used, clock);
+    let expired = table::remove_expired(rows, from, from + n, used, by);
     let over = over_of(limit, n - expired);
     table::close_gap(rows, from, over, used - expired);
     Gone { expired, over }
@@ -68,11 +68,11 @@ fn fan_out(
     limit: u64,
     used: usize,
     e: Entry,
-    clock: u64,
+    by: u64,
 ) -> Copied
     requires { ⌜ (base + s .inflight + s .held ≤ used) × (used ≤ 512) × (used ≤ length (now rows)) × (rowsInOrder (slice (base + s .inflight) (base + s .inflight + s .held) (now rows)) ≡ true) ⌝ }
-    ensures { λ r. ⌜ r ≡ copied clock limit e base s used (now (rows .entry)) ⌝ }
-    ensures { λ _. ⌜ now (rows .exit) ≡ copiedRows clock limit e base s used (now (rows .entry)) ⌝ }
+    ensures { λ r. ⌜ r ≡ copied by limit e base s used (now (rows .entry)) ⌝ }
+    ensures { λ _. ⌜ now (rows .exit) ≡ copiedRows by limit e base s used (now (rows .entry)) ⌝ }
 {
     if !s.accepts(e) {
         return Copied {
@@ -85,7 +85,7 @@ fn fan_out(
     let from = base + s.inflight;
     let place = ordered::place_from_end(rows, from, from + s.held, e.seq);
     table::insert_row(rows, place, used, entry::held_row(e));
-    let g = trim(rows, from, s.held + 1, used + 1, limit, clock);
+    let g = trim(rows, from, s.held + 1, used + 1, limit, by);
     let gone = g.expired + g.over;
     s.held = s.held + 1 - gone;
     Copied {
@@ -102,10 +102,10 @@ pub(crate) fn fan_out_all(
     rows: &mut [Row],
     before: Head,
     e: Entry,
-    clock: u64,
+    by: u64,
 ) -> Head
-    requires { ⌜ Arrives e before (now subs) (now rows) × (before .queue ≡ false) × (clock ≤ 2 ^ 62) ⌝ }
-    ensures { λ r. ⌜ Arrived (spread clock e) before r (now (subs .entry)) (now (rows .entry)) (now (subs .exit)) (now (rows .exit)) ⌝ }
+    requires { ⌜ Arrives e before (now subs) (now rows) × (before .queue ≡ false) × (by ≤ 2 ^ 62) ⌝ }
+    ensures { λ r. ⌜ Arrived (spread by e) before r (now (subs .entry)) (now (rows .entry)) (now (subs .exit)) (now (rows .exit)) ⌝ }
 {
     let n = before.consumers;
     let limit = before.topic_limit;
@@ -116,7 +116,7 @@ pub(crate) fn fan_out_all(
     let mut i = 0;
     while i < n {
         let s = consumers::load(subs, i);
-        let r = fan_out(rows, base, s, limit, used, e, clock);
+        let r = fan_out(rows, base, s, limit, used, e, by);
         let t = r.sub;
         used = r.used;
         expired = expired + r.expired;

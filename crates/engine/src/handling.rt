@@ -6,7 +6,7 @@ ghost use Rattle.definition.specs.Words.{decode};
 ghost use Rattle.definition.specs.Words as Words;
 ghost use Rattle.joins.specs.Joins.{specOf};
 ghost use Rattle.state.specs.Ready.{Ready};
-ghost use Rattle.engine.specs.Called.{PerformsBy};
+ghost use Rattle.engine.specs.Performs.{PerformsBy};
 use crate::arrivals;
 use crate::departures;
 use calls::Call;

@@ -7,7 +7,7 @@ ghost use Rattle.definition.specs.Base.{is-some};
 ghost use Rattle.definition.specs.Words.{decode};
 ghost use Rattle.producers.specs.Producers.{headFits};
 ghost use Rattle.state.specs.Ready.{Ready};
-ghost use Rattle.engine.specs.Called.{PerformsBy, HeadBy, onTables};
+ghost use Rattle.engine.specs.Performs.{PerformsBy, HeadBy, onTables};
 use crate::asking;
 use crate::departures;
 use crate::handling;

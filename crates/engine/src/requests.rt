@@ -11,7 +11,7 @@ ghost use Rattle.entry.specs.declared.Found.the-variants.{At};
 ghost use Rattle.consumers.specs.Table.{positionFrom};
 ghost use Rattle.acks.specs.Acks.{ackOf, acked};
 ghost use Rattle.state.specs.Ready.{Ready};
-ghost use Rattle.engine.specs.Called.{PerformsBy};
+ghost use Rattle.engine.specs.Performs.{PerformsBy};
 ghost use Rattle.engine.specs.Requests.{sentOn, Absent, Sends, Pulled};
 use crate::acking;
 use acks::Ack;

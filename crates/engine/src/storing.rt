@@ -186,13 +186,13 @@ fn queued(subs: &mut [SubRow], rows: &mut [Row], mut d: Head, e: Entry) -> Head
 // ---- stored by the kind
 
 // Stores an entry that is not refused, on a queue or fanned out on a topic, by the clock that entries expire by; nothing is dispatched yet.
-pub(crate) fn store(subs: &mut [SubRow], rows: &mut [Row], d: Head, e: Entry, clock: u64) -> Head
-    requires { ⌜ Arrives e d (now subs) (now rows) × (d .stats .enqueued ≤ 2 ^ 62) × (clock ≤ 2 ^ 62) ⌝ }
-    ensures { λ r. ⌜ Arrived (kept clock e) d r (now (subs .entry)) (now (rows .entry)) (now (subs .exit)) (now (rows .exit)) ⌝ }
+pub(crate) fn store(subs: &mut [SubRow], rows: &mut [Row], d: Head, e: Entry, by: u64) -> Head
+    requires { ⌜ Arrives e d (now subs) (now rows) × (d .stats .enqueued ≤ 2 ^ 62) × (by ≤ 2 ^ 62) ⌝ }
+    ensures { λ r. ⌜ Arrived (kept by e) d r (now (subs .entry)) (now (rows .entry)) (now (subs .exit)) (now (rows .exit)) ⌝ }
 {
     let counted = d.count_enqueued();
     if d.queue {
         return queued(subs, rows, counted, e);
     }
-    fanning::fan_out_all(subs, rows, counted, e, clock)
+    fanning::fan_out_all(subs, rows, counted, e, by)
 }

@@ -39,16 +39,16 @@ sweepListed from w rows = record {
 
 -- swept with the budget that is left
 unfoldable pub swept : ℕ → ℕ → Listed → Listed
-swept most now v = let x = sweepList (most - v .gone) now (v .list) in record { before = v .before; list = x .list; after = v .after; gone = v .gone + x .gone }
+swept most by v = let x = sweepList (most - v .gone) by (v .list) in record { before = v .before; list = x .list; after = v .after; gone = v .gone + x .gone }
 
 -- the counts lie within the table
-pub record SweepFine (nrows from : ℕ) (w : Swept) (most now : ℕ) : Type 0 where
+pub record SweepFine (nrows from : ℕ) (w : Swept) (most by : ℕ) : Type 0 where
   pub rows : from + w .length ≤ w .used
   pub used : w .used ≤ 512
   pub room : 512 ≤ nrows
   pub gone : w .gone ≤ most
   pub few : most ≤ 512
-  pub clock : now ≤ 2 ^ 62
+  pub clock : by ≤ 2 ^ 62
 
 -- what the counts do: as many rows go from those in use as from the list
 pub record Shorter (most : ℕ) (w r : Swept) : Type 0 where
@@ -64,20 +64,20 @@ StaysStrict from w r rows rows′ = all entryStrict (slice from (from + w .lengt
 
 -- the entries that wait
 abbrev pub waitingSwept : ℕ → ℕ → Dest → Dest
-waitingSwept most now t = withPending (sweepList most now (t .pending) .list) t
+waitingSwept most by t = withPending (sweepList most by (t .pending) .list) t
 
 -- those that the consumers hold, with a budget
 abbrev pub subsSwept : ℕ → ℕ → Dest → Dest
-subsSwept budget now t = withSubs (sweepSubs budget now (t .subs) .subs) t
+subsSwept budget by t = withSubs (sweepSubs budget by (t .subs) .subs) t
 
 -- ---- the consumers
 
 -- a snapshot is not swept
 abbrev pub sweptUnless : Bool → ℕ → ℕ → Listed → Listed
-sweptUnless snapshot most now v = if snapshot then v else swept most now v
+sweptUnless snapshot most by v = if snapshot then v else swept most by v
 
 -- the counts lie within the tables, and so many went before
-pub record Able (subs : List Row) (d : Head) (nrows before most now : ℕ) : Type 0 where
+pub record Able (subs : List Row) (d : Head) (nrows before most by : ℕ) : Type 0 where
   pub subs-long : 32 ≤ length subs
   pub rows-long : 512 ≤ nrows
   pub consumers : d .consumers ≤ 32
@@ -85,11 +85,11 @@ pub record Able (subs : List Row) (d : Head) (nrows before most now : ℕ) : Typ
   pub rows-used : subRows (take (d .consumers) subs) + (d .reserved + d .waiting) ≡ d .used
   pub gone : before ≤ most
   pub few : most ≤ 512
-  pub clock : now ≤ 2 ^ 62
+  pub clock : by ≤ 2 ^ 62
 
 -- what the consumers' sweep leaves, and how many went up to its end
-pub record SubsSwept (most now : ℕ) (d : Head) (before : ℕ) (subs rows subs′ rows′ : List Row) (r : Swept) : Type 0 where
-  pub leaves : (events : List Row) → Leaves (silent (subsSwept (most - before) now)) d (withUsed (r .used) d) subs rows events subs′ rows′ events
-  pub gone : (producers : List Id) (audits : List Audit) → r .gone ≡ before + sweepSubs (most - before) now (headView d subs rows producers audits .subs) .gone
+pub record SubsSwept (most by : ℕ) (d : Head) (before : ℕ) (subs rows subs′ rows′ : List Row) (r : Swept) : Type 0 where
+  pub leaves : (events : List Row) → Leaves (silent (subsSwept (most - before) by)) d (withUsed (r .used) d) subs rows events subs′ rows′ events
+  pub gone : (producers : List Id) (audits : List Audit) → r .gone ≡ before + sweepSubs (most - before) by (headView d subs rows producers audits .subs) .gone
   pub few : r .gone ≤ most
   pub used : r .used ≤ d .used

@@ -45,9 +45,9 @@ fn is_sooner(e: Entry, f: Entry) -> bool
 }
 
 // The soonest of the expired rows of from..to, looked for from the last row on; at is where it stands, to for nowhere.
-fn soonest(rows: &[Row], from: usize, to: usize, clock: u64) -> Next
-    requires { ⌜ (from ≤ to) × (to ≤ length (now rows)) × (clock ≤ 2 ^ 62) ⌝ }
-    ensures { λ r. ⌜ nextOf r ≡ soonest clock (map entryOf (slice from to (now (rows .entry)))) ⌝ }
+fn soonest(rows: &[Row], from: usize, to: usize, by: u64) -> Next
+    requires { ⌜ (from ≤ to) × (to ≤ length (now rows)) × (by ≤ 2 ^ 62) ⌝ }
+    ensures { λ r. ⌜ nextOf r ≡ soonest by (map entryOf (slice from to (now (rows .entry)))) ⌝ }
 {
     let mut at = to;
     let mut i = to;
@@ -55,7 +55,7 @@ fn soonest(rows: &[Row], from: usize, to: usize, clock: u64) -> Next
         i = i - 1;
         let row = rows[i];
         let until = row[1];
-        if (0 < until) & (until <= clock) {
+        if (0 < until) & (until <= by) {
             if at == to {
                 at = i;
             } else if is_sooner(entry::entry_of(row), entry::entry_of(rows[at])) {
@@ -76,9 +76,9 @@ fn soonest(rows: &[Row], from: usize, to: usize, clock: u64) -> Next
 }
 
 // Of the list at from at most so many expired rows go, soonest first.
-fn sweep_list(rows: &mut [Row], from: usize, start: Swept, most: usize, clock: u64) -> Swept
-    requires { ⌜ SweepFine (length (now rows)) from start most clock ⌝ }
-    ensures { λ r. ⌜ sweepListed from r (now (rows .exit)) ≡ swept most clock (sweepListed from start (now (rows .entry))) ⌝ }
+fn sweep_list(rows: &mut [Row], from: usize, start: Swept, most: usize, by: u64) -> Swept
+    requires { ⌜ SweepFine (length (now rows)) from start most by ⌝ }
+    ensures { λ r. ⌜ sweepListed from r (now (rows .exit)) ≡ swept most by (sweepListed from start (now (rows .entry))) ⌝ }
     ensures { λ r. ⌜ Shorter most start r ⌝ }
     ensures { λ _. ⌜ drop (start .used) (now (rows .exit)) ≡ drop (start .used) (now (rows .entry)) ⌝ }
     ensures { λ r. ⌜ StaysStrict from start r (now (rows .entry)) (now (rows .exit)) ⌝ }
@@ -86,7 +86,7 @@ fn sweep_list(rows: &mut [Row], from: usize, start: Swept, most: usize, clock: u
     let mut w = start;
     while w.gone < most {
         let to = from + w.length;
-        let n = soonest(rows, from, to, clock);
+        let n = soonest(rows, from, to, by);
         if !n.found {
             return w;
         }
@@ -106,10 +106,10 @@ fn sweep_held(
     start: Swept,
     snapshot: bool,
     most: usize,
-    clock: u64,
+    by: u64,
 ) -> Swept
-    requires { ⌜ SweepFine (length (now rows)) from start most clock ⌝ }
-    ensures { λ r. ⌜ sweepListed from r (now (rows .exit)) ≡ sweptUnless snapshot most clock (sweepListed from start (now (rows .entry))) ⌝ }
+    requires { ⌜ SweepFine (length (now rows)) from start most by ⌝ }
+    ensures { λ r. ⌜ sweepListed from r (now (rows .exit)) ≡ sweptUnless snapshot most by (sweepListed from start (now (rows .entry))) ⌝ }
     ensures { λ r. ⌜ Shorter most start r ⌝ }
     ensures { λ _. ⌜ drop (start .used) (now (rows .exit)) ≡ drop (start .used) (now (rows .entry)) ⌝ }
     ensures { λ r. ⌜ StaysStrict from start r (now (rows .entry)) (now (rows .exit)) ⌝ }
@@ -117,7 +117,7 @@ fn sweep_held(
     if snapshot {
         return start;
     }
-    sweep_list(rows, from, start, most, clock)
+    sweep_list(rows, from, start, most, by)
 }
 
 // A consumer that holds so many.
@@ -135,10 +135,10 @@ fn sweep_subs(
     d: Head,
     gone: usize,
     most: usize,
-    clock: u64,
+    by: u64,
 ) -> Swept
-    requires { ⌜ Able (now subs) d (length (now rows)) gone most clock ⌝ }
-    ensures { λ r. ⌜ SubsSwept most clock d gone (now (subs .entry)) (now (rows .entry)) (now (subs .exit)) (now (rows .exit)) r ⌝ }
+    requires { ⌜ Able (now subs) d (length (now rows)) gone most by ⌝ }
+    ensures { λ r. ⌜ SubsSwept most by d gone (now (subs .entry)) (now (rows .entry)) (now (subs .exit)) (now (rows .exit)) r ⌝ }
 {
     let n = d.consumers;
     let mut w = Swept {
@@ -156,7 +156,7 @@ fn sweep_subs(
             length: s.held,
             gone: w.gone,
         };
-        w = sweep_held(rows, from, start, d.queue & s.browser, most, clock);
+        w = sweep_held(rows, from, start, d.queue & s.browser, most, by);
         let held = w.length;
         base = from + held;
         consumers::store(subs, i, with_held(s, held));
@@ -198,7 +198,7 @@ pub fn sweep(
     ensures { λ r. ⌜ LeavesIf (fits (now (subs .entry)) d (length (now (rows .entry))) (length (now (events .entry))) && (leb clock (2 ^ 62) && leb most 512)) (Room d (r .head)) (sweepOut clock most) d (r .head) (now (subs .entry)) (now (rows .entry)) (now (events .entry)) (now (subs .exit)) (now (rows .exit)) (now (events .entry)) ⌝ }
     ensures { λ r. ⌜ SweepAnswers (fits (now (subs .entry)) d (length (now (rows .entry))) (length (now (events .entry))) && (leb clock (2 ^ 62) && leb most 512)) (sweepExpired clock most) d (now (subs .entry)) (now (rows .entry)) r ⌝ }
 {
-    let due = d.due(clock);
+    let by = d.due(clock);
     if !state::fits(subs, d, rows.len(), events.len()) {
         return Answer::refused(2, d);
     }
@@ -213,9 +213,9 @@ pub fn sweep(
         length: d.waiting,
         gone: 0,
     };
-    let w = sweep_list(rows, d.first_waiting(), start, most, due);
+    let w = sweep_list(rows, d.first_waiting(), start, most, by);
     let left = shorter(d, w.used, w.length);
-    let r = sweep_subs(subs, rows, left, w.gone, most, due);
+    let r = sweep_subs(subs, rows, left, w.gone, most, by);
     finished(shorter(left, r.used, left.waiting), r.gone, clock)
 }
 

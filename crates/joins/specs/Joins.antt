@@ -37,7 +37,7 @@ newOf p held = record { conn = p .conn; session = p .session; value = p .value; 
 
 -- its entry has expired
 abbrev pub goneAt : ℕ → Row → Bool
-goneAt now w = expired (pos now) (entryOf w)
+goneAt by w = expired (pos by) (entryOf w)
 
 -- the selector takes its entry
 abbrev pub shownBy : ℕ → Row → Bool
@@ -45,11 +45,11 @@ shownBy selector w = selects (entryOf w .«match_word») selector
 
 -- a snapshot gets it
 abbrev pub snapped : ℕ → ℕ → Row → Bool
-snapped now selector w = not (goneAt now w) && shownBy selector w
+snapped by selector w = not (goneAt by w) && shownBy selector w
 
 -- how many a snapshot gets of the waiting rows
 abbrev pub snapshotOf : ℕ → SubSpec → Head → List Row → ℕ
-snapshotOf now p d rows = if p .browser then tally (snapped now (p .selector)) (slice (firstWaiting d) (d .used) rows) else 0
+snapshotOf by p d rows = if p .browser then tally (snapped by (p .selector)) (slice (firstWaiting d) (d .used) rows) else 0
 
 -- copies of the rows from..to that a selector takes stand from a place on
 unfoldable pub copiedFrom : ℕ → ℕ → ℕ → ℕ → List Row → List Row
@@ -87,41 +87,41 @@ joinsWhen now p subs d rows events = every (
 
 -- the expired waiting rows are gone
 abbrev pub purgedHead : ℕ → Head → List Row → Head
-purgedHead now d rows =
-    let gone = tally (goneAt now) (slice (firstWaiting d) (d .used) rows) in
+purgedHead by d rows =
+    let gone = tally (goneAt by) (slice (firstWaiting d) (d .used) rows) in
     withCounters (withExpiredBy (d .stats) gone) (withWaiting (d .waiting - gone) (withUsed (d .used - gone) d))
 
 -- and k rows of a snapshot stand before the reserved ones
 abbrev pub browsedHead : ℕ → ℕ → Head → List Row → Head
-browsedHead now k d rows = let e = purgedHead now d rows in withUsed (e .used + k) e
+browsedHead by k d rows = let e = purgedHead by d rows in withUsed (e .used + k) e
 
 -- the rows after the purge, and with a gap before the reserved ones
 abbrev pub purgedRows : ℕ → Head → List Row → List Row
-purgedRows now d rows = compacted (goneAt now) (firstWaiting d) (d .used) rows
+purgedRows by d rows = compacted (goneAt by) (firstWaiting d) (d .used) rows
 
 abbrev pub gappedRows : ℕ → ℕ → Head → List Row → List Row
-gappedRows now k d rows = let e = purgedHead now d rows in openGap (firstReserved e) k (e .used) (purgedRows now d rows)
+gappedRows by k d rows = let e = purgedHead by d rows in openGap (firstReserved e) k (e .used) (purgedRows by d rows)
 
 abbrev pub browsedRows : ℕ → ℕ → ℕ → Head → List Row → List Row
-browsedRows now selector k d rows =
-    let e = purgedHead now d rows in
-    let r = browsedHead now k d rows in
-    copiedFrom (firstReserved e) (firstWaiting r) (r .used) selector (gappedRows now k d rows)
+browsedRows by selector k d rows =
+    let e = purgedHead by d rows in
+    let r = browsedHead by k d rows in
+    copiedFrom (firstReserved e) (firstWaiting r) (r .used) selector (gappedRows by k d rows)
 
 -- one consumer more, and no idle mark
 abbrev pub withOne : Head → Head
 withOne d = notIdle (withConsumers (d .consumers + 1) d)
 
 abbrev pub joinedHead : ℕ → SubSpec → ℕ → Head → List Row → Head
-joinedHead now p k d rows = if p .browser then browsedHead now k (withOne d) rows else withOne d
+joinedHead by p k d rows = if p .browser then browsedHead by k (withOne d) rows else withOne d
 
 abbrev pub joinedRows : ℕ → SubSpec → ℕ → Head → List Row → List Row
-joinedRows now p k d rows = if p .browser then browsedRows now (p .selector) k d rows else rows
+joinedRows by p k d rows = if p .browser then browsedRows by (p .selector) k d rows else rows
 
 -- what a snapshot of k rows goes by
-pub record Browses (now selector k : ℕ) (d : Head) (rows : List Row) : Type 0 where
-  pub clock : now ≤ 2 ^ 62
+pub record Browses (by selector k : ℕ) (d : Head) (rows : List Row) : Type 0 where
+  pub clock : by ≤ 2 ^ 62
   pub others : d .reserved + d .waiting ≤ d .used
   pub room : d .used + k ≤ length rows
   pub few : d .used + k ≤ 512
-  pub taken : k ≡ tally (snapped now selector) (slice (firstWaiting d) (d .used) rows)
+  pub taken : k ≡ tally (snapped by selector) (slice (firstWaiting d) (d .used) rows)

@@ -32,11 +32,11 @@ pub struct SubSpec {
 }
 
 // Whether the entry of a row has expired.
-fn is_gone(row: Row, clock: u64) -> bool
-    requires { ⌜ clock ≤ 2 ^ 62 ⌝ }
-    ensures { λ r. ⌜ r ≡ goneAt clock row ⌝ }
+fn is_gone(row: Row, by: u64) -> bool
+    requires { ⌜ by ≤ 2 ^ 62 ⌝ }
+    ensures { λ r. ⌜ r ≡ goneAt by row ⌝ }
 {
-    entry::entry_of(row).expired(words::signed_of(clock))
+    entry::entry_of(row).expired(words::signed_of(by))
 }
 
 // Whether a selector takes the entry of a row.
@@ -48,15 +48,15 @@ fn is_shown(row: Row, selector: u64) -> bool
 }
 
 // How many of the rows from..to a snapshot gets.
-fn count_snapped(rows: &[Row], from: usize, to: usize, selector: u64, clock: u64) -> usize
-    requires { ⌜ (from ≤ to) × (to ≤ length (now rows)) × (clock ≤ 2 ^ 62) ⌝ }
-    ensures { λ r. ⌜ r ≡ tally (snapped clock selector) (slice from to (now (rows .entry))) ⌝ }
+fn count_snapped(rows: &[Row], from: usize, to: usize, selector: u64, by: u64) -> usize
+    requires { ⌜ (from ≤ to) × (to ≤ length (now rows)) × (by ≤ 2 ^ 62) ⌝ }
+    ensures { λ r. ⌜ r ≡ tally (snapped by selector) (slice from to (now (rows .entry))) ⌝ }
 {
     let mut count = 0;
     let mut i = from;
     while i < to {
         let row = rows[i];
-        if is_gone(row, clock) {
+        if is_gone(row, by) {
             i += 1;
         } else if is_shown(row, selector) {
             count += 1;
@@ -69,27 +69,27 @@ fn count_snapped(rows: &[Row], from: usize, to: usize, selector: u64, clock: u64
 }
 
 // How many rows its snapshot gets.
-fn snapshot_rows(rows: &[Row], d: Head, spec: SubSpec, clock: u64) -> usize
-    requires { ⌜ (d .waiting ≤ d .used) × (d .used ≤ length (now rows)) × (clock ≤ 2 ^ 62) ⌝ }
-    ensures { λ r. ⌜ r ≡ snapshotOf clock spec d (now (rows .entry)) ⌝ }
+fn snapshot_rows(rows: &[Row], d: Head, spec: SubSpec, by: u64) -> usize
+    requires { ⌜ (d .waiting ≤ d .used) × (d .used ≤ length (now rows)) × (by ≤ 2 ^ 62) ⌝ }
+    ensures { λ r. ⌜ r ≡ snapshotOf by spec d (now (rows .entry)) ⌝ }
 {
     if !spec.browser {
         return 0;
     }
-    count_snapped(rows, d.first_waiting(), d.used, spec.selector, clock)
+    count_snapped(rows, d.first_waiting(), d.used, spec.selector, by)
 }
 
 // Moves together the rows of from..to that have not expired, and says how many are gone.
-fn purge(rows: &mut [Row], from: usize, to: usize, clock: u64) -> usize
-    requires { ⌜ (from ≤ to) × (to ≤ length (now rows)) × (clock ≤ 2 ^ 62) ⌝ }
-    ensures { λ r. ⌜ r ≡ tally (goneAt clock) (slice from to (now (rows .entry))) ⌝ }
-    ensures { λ _. ⌜ now (rows .exit) ≡ compacted (goneAt clock) from to (now (rows .entry)) ⌝ }
+fn purge(rows: &mut [Row], from: usize, to: usize, by: u64) -> usize
+    requires { ⌜ (from ≤ to) × (to ≤ length (now rows)) × (by ≤ 2 ^ 62) ⌝ }
+    ensures { λ r. ⌜ r ≡ tally (goneAt by) (slice from to (now (rows .entry))) ⌝ }
+    ensures { λ _. ⌜ now (rows .exit) ≡ compacted (goneAt by) from to (now (rows .entry)) ⌝ }
 {
     let mut gone = 0;
     let mut i = from;
     while i < to {
         let row = rows[i];
-        if is_gone(row, clock) {
+        if is_gone(row, by) {
             gone += 1;
             i += 1;
         } else {
@@ -120,11 +120,11 @@ fn copy_shown(rows: &mut [Row], from: usize, to: usize, at: usize, selector: u64
 }
 
 // A browser's part: the expired waiting rows go, and its snapshot of k rows stands before the reserved ones.
-fn browse(rows: &mut [Row], mut d: Head, selector: u64, clock: u64, k: usize) -> Head
-    requires { ⌜ Browses clock selector k d (now rows) ⌝ }
-    ensures { λ r. ⌜ (r ≡ browsedHead clock k d (now (rows .entry))) × (now (rows .exit) ≡ browsedRows clock selector k d (now (rows .entry))) ⌝ }
+fn browse(rows: &mut [Row], mut d: Head, selector: u64, by: u64, k: usize) -> Head
+    requires { ⌜ Browses by selector k d (now rows) ⌝ }
+    ensures { λ r. ⌜ (r ≡ browsedHead by k d (now (rows .entry))) × (now (rows .exit) ≡ browsedRows by selector k d (now (rows .entry))) ⌝ }
 {
-    let gone = purge(rows, d.first_waiting(), d.used, clock);
+    let gone = purge(rows, d.first_waiting(), d.used, by);
     d.used = d.used - gone;
     d.waiting = d.waiting - gone;
     d = d.count_expired(gone as u64);
@@ -165,18 +165,18 @@ fn admit(
     rows: &mut [Row],
     mut d: Head,
     spec: SubSpec,
-    clock: u64,
+    by: u64,
     k: usize,
 ) -> Head
-    requires { ⌜ (d .consumers < 32) × (spec .browser ≡ true → Browses clock (spec .selector) k d (now rows)) ⌝ }
-    ensures { λ r. ⌜ (r ≡ joinedHead clock spec k d (now (rows .entry))) × (now (rows .exit) ≡ joinedRows clock spec k d (now (rows .entry))) ⌝ }
+    requires { ⌜ (d .consumers < 32) × (spec .browser ≡ true → Browses by (spec .selector) k d (now rows)) ⌝ }
+    ensures { λ r. ⌜ (r ≡ joinedHead by spec k d (now (rows .entry))) × (now (rows .exit) ≡ joinedRows by spec k d (now (rows .entry))) ⌝ }
     ensures { λ _. ⌜ now (subs .exit) ≡ set (now (subs .entry)) (d .consumers) (subWords (newOf spec k)) ⌝ }
 {
     consumers::store(subs, d.consumers, new_sub(spec, k));
     d.consumers = d.consumers + 1;
     d = d.not_idle();
     if spec.browser {
-        browse(rows, d, spec.selector, clock, k)
+        browse(rows, d, spec.selector, by, k)
     } else {
         d
     }
@@ -206,14 +206,14 @@ fn refusal_of(subs: &[SubRow], d: Head, spec: SubSpec, k: usize) -> u64
 pub fn refusal(subs: &[SubRow], rows: &[Row], d: Head, spec: SubSpec, clock: u64) -> u64
     ensures { λ r. ⌜ Refused (fits (now (subs .entry)) d (length (now (rows .entry))) 545 && leb clock (2 ^ 62)) clock spec d (now (subs .entry)) (now (rows .entry)) r ⌝ }
 {
-    let due = d.due(clock);
+    let by = d.due(clock);
     if entry::CLOCK_MOST < clock {
         return 2;
     }
     if !state::fits(subs, d, rows.len(), state::EVENTS) {
         return 2;
     }
-    let k = snapshot_rows(rows, d, spec, due);
+    let k = snapshot_rows(rows, d, spec, by);
     refusal_of(subs, d, spec, k)
 }
 
@@ -229,14 +229,14 @@ pub fn join(
 ) -> Head
     ensures { λ r. ⌜ LeavesIf (joinsWhen clock spec (now (subs .entry)) d (now (rows .entry)) (length (now (events .entry)))) ((r .events + r .used ≤ 512) × (d .stats .expired + d .waiting ≤ 2 ^ 62 → fits (now (subs .exit)) r (length (now (rows .entry))) (length (now (events .entry))) ≡ true)) (silent (joined clock (specOf spec))) d r (now (subs .entry)) (now (rows .entry)) (now (events .entry)) (now (subs .exit)) (now (rows .exit)) (now (events .entry)) ⌝ }
 {
-    let due = d.due(clock);
+    let by = d.due(clock);
     if entry::CLOCK_MOST < clock {
         return d;
     }
     if !state::fits(subs, d, rows.len(), events.len()) {
         return d;
     }
-    let k = snapshot_rows(rows, d, spec, due);
+    let k = snapshot_rows(rows, d, spec, by);
     if refusal_of(subs, d, spec, k) != 0 {
         return d;
     }
@@ -246,5 +246,5 @@ pub fn join(
     if state::ROWS - d.used - d.events < k {
         return d;
     }
-    admit(subs, rows, d, spec, due, k)
+    admit(subs, rows, d, spec, by, k)
 }

@@ -1,11 +1,14 @@
 -- What is claimed of the check and the lookup; proofs/Theorems.antt has the proofs. Assumes nothing.
-use Prim.Native.Nat.{ℕ, _≤_, _<_}
+use Prim.Native.Nat.{ℕ, zero, suc, _≤_, _<_}
 use mathlib.Core.Path.{_≡_}
-use mathlib.Core.Bool.{Bool, true, false, _&&_, _||_}
+use mathlib.Core.Bool.{Bool, true, false, not, _&&_, _||_}
 use mathlib.Core.List.{List, [], _∷_}
-use lib.Dec.{eqb}
+use lib.Dec.{eqb, ltb}
+use lib.ListN.{length}
+use Rattle.words.specs.Pick.{all}
+use Rattle.words.specs.Places.{CheckPlace, _when_, Exact}
 use Rattle.entry.specs.Entry.{bit, selects}
-use Rattle.layouts.specs.Layouts.{selector, covers, coverCount, tableInRange, says, checked, selectorAt, matchWord, lookedUp}
+use Rattle.layouts.specs.Layouts.{first, last, selector, covers, coverCount, tableInRange, says, checked, selectorAt, matchWord, lookedUp}
 
 -- ---- the check
 
@@ -37,6 +40,37 @@ AcceptedOnce = (t : List (List ℕ)) → checked t .refusal ≡ 0 → (l : ℕ) 
 -- and a table in range that does is accepted
 abbrev pub OnceAccepted : Type 0
 OnceAccepted = (t : List (List ℕ)) → tableInRange t ≡ true → ((l : ℕ) → l ≤ 65535 → coverCount t l ≡ 1) → checked t ≡ says 0 0
+
+-- ---- which number, and when
+
+-- a row that is out of range
+abbrev pub outOfRange : List ℕ → Bool
+outOfRange row = ltb 65535 (first row) || (ltb 65535 (last row) || (ltb 63 (selector row) || ltb (last row) (first row)))
+
+-- one of the layouts below n is so
+abbrev pub oneBelow : (ℕ → Bool) → ℕ → Bool
+oneBelow p zero = false
+oneBelow p (suc n) = p n || oneBelow p n
+
+-- the check's places: 3 for more than 64 rows or one out of range; 12 where a layout is covered by no row; 13 where one is covered by two or more
+abbrev pub layoutPlaces : List (List ℕ) → List CheckPlace
+layoutPlaces t =
+    3 when (ltb 64 (length t) || not (all (λ row. not (outOfRange row)) t))
+    ∷ 12 when oneBelow (λ l. eqb (coverCount t l) 0) 65536
+    ∷ 13 when oneBelow (λ l. ltb 1 (coverCount t l)) 65536
+    ∷ []
+
+-- the check refuses exactly so, and the lookup too, after 3 for a layout above 65,535; beside 3 the answer is 0 (beside 12 and 13, `GapIsLowest` and `OverlapIsLowest`)
+abbrev pub CheckRefuses : Type 0
+CheckRefuses = (t : List (List ℕ)) → Exact (checked t .refusal) (layoutPlaces t) × (checked t .refusal ≡ 3 → checked t .answer ≡ 0)
+
+abbrev pub LookupRefuses : Type 0
+LookupRefuses = (t : List (List ℕ)) (l : ℕ) →
+    Exact (lookedUp t l .refusal) (3 when ltb 65535 l ∷ layoutPlaces t) × (lookedUp t l .refusal ≡ 3 → lookedUp t l .answer ≡ 0)
+
+-- and beside 12 and 13 it answers what the check does
+abbrev pub LookupAsChecked : Type 0
+LookupAsChecked = (t : List (List ℕ)) (l : ℕ) → l ≤ 65535 → (checked t .refusal ≡ 0 → ⊥) → lookedUp t l ≡ checked t
 
 -- ---- the lookup
 

@@ -37,7 +37,8 @@ pub record NoPlan (refused : ℕ) (r : OutlookPlan) : Type 0 where
   pub next : r .next ≡ 0
   pub count : r .count ≡ 0
 
--- its numbers are those of the answer, its rows in order those of the lines, and there is room
+-- its numbers are those of the answer, its rows in order those of the lines, and there is room. Open: what stands in its places past the lines; and which row stands for a
+-- line that two rows have, which no sound queue has, as its numbers differ. No answer shows either
 pub record OutlookPlanned (p : Outlook) (rows : List Row) (room : ℕ) (r : OutlookPlan) : Type 0 where
   pub refusal : r .refusal ≡ p .refusal
   pub sure : r .sure ≡ p .sure

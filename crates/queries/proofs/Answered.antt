@@ -16,13 +16,12 @@ use Rattle.definition.specs.Types.{Entry, Dest}
 use Rattle.definition.specs.Destination.{heldRows}
 use Rattle.definition.specs.Queries.{Query, ofKind, consumers, expirations, messages, idle, sequence, queryOk, answerOf, isQueue, hasConsumers, expiring, hasExpiring, idleSeconds, idleFor, messageCount, seqOf, seqAt, number}
 use Rattle.definition.specs.Words.{at, kindBy}
-use Rattle.definition.specs.Layout.{Row, flag, tpendingAt, subAt, subsAt, subRows, bufferQuery}
-use Rattle.sound.specs.Sound.{lent}
+use Rattle.definition.specs.Layout.{Row, flag, tpendingAt, subAt, subsAt, subRows, bufferQuery, lent}
 use Rattle.definition.proofs.Lists.{empty-length}
 use Rattle.consumers.specs.Table.{keptRows}
 use Rattle.consumers.proofs.Laws.{held-subs, kept-few}
 use Rattle.definition.proofs.Stored.{subs-length}
-use Rattle.sound.proofs.Tests.{part-of, all-map}
+use Rattle.subrows.proofs.Tests.{part-of, all-map}
 use Rattle.state.specs.declared.Head.{Head}
 use Rattle.state.specs.State.{headView, loaded, firstWaiting}
 use Rattle.state.specs.Fits.{Fits}

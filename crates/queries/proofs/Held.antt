@@ -13,7 +13,7 @@ use Rattle.definition.specs.Types.{Kind, Entry}
 use Rattle.definition.specs.Calls.{entryOk, bound, seqs, consumerRows, allRows, sizesAgree}
 use Rattle.definition.specs.Queries.{bytes, bytesOf, bytesHeld}
 use Rattle.definition.specs.Words.{at, kindBy}
-use Rattle.definition.specs.Layout.{Row, Buffers, subsAt, subRows, usedRows, ringsFormed, view, bufferQuery}
+use Rattle.definition.specs.Layout.{Row, Buffers, subsAt, subRows, usedRows, ringsFormed, view, bufferQuery, lent}
 use Rattle.definition.proofs.Tests.{and-left, and-right}
 use Rattle.definition.proofs.Thin.{every-all}
 use Rattle.definition.proofs.Sums.{bad, sum-ok}
@@ -21,7 +21,8 @@ use Rattle.definition.proofs.Sound as Def
 use Rattle.definition.proofs.Whole.{fine, rows-length}
 use Rattle.definition.proofs.Stored.{seqs-rows}
 use Rattle.copies.specs.Copies.{sharedBy}
-use Rattle.sound.specs.Sound.{lent, reservedAt, waitingAt, tableTests, tablesOk, restOk}
+use Rattle.subrows.specs.Subrows.{reservedAt, waitingAt}
+use Rattle.sound.specs.Sound.{tableTests, tablesOk, restOk}
 use Rattle.sound.proofs.Sizes.{used-parts}
 use Rattle.sound.proofs.Meaning.{sound-rest, all-rows}
 use Rattle.sound.proofs.Lone.{lone-distinct}

@@ -13,9 +13,8 @@ use Rattle.definition.specs.Consumer.{zeroStats}
 use Rattle.definition.specs.Calls.{stateShort, short, sound}
 use Rattle.definition.specs.Queries.{Query, queryOk, answerOf, queryRefusal, query, counters}
 use Rattle.definition.specs.Words.{at}
-use Rattle.definition.specs.Layout.{Row, Buffers, idsAt, auditsAt, usedRows, view, formed, soundBuffers, lengthsOf, bufferQuery, bufferCounters}
+use Rattle.definition.specs.Layout.{Row, Buffers, idsAt, auditsAt, usedRows, view, formed, soundBuffers, lengthsOf, bufferQuery, bufferCounters, lent}
 use Rattle.definition.proofs.Tests.{by-test}
-use Rattle.sound.specs.Sound.{lent}
 use Rattle.state.specs.declared.Head.{Head}
 use Rattle.state.specs.State.{headOf, headView, loaded}
 use Rattle.state.specs.Fits.{Fits}

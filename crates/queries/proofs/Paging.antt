@@ -13,10 +13,9 @@ use Rattle.definition.specs.Base.{if_then_else_}
 use Rattle.definition.specs.Types.{Entry, Dest}
 use Rattle.definition.specs.Calls.{stateShort}
 use Rattle.definition.specs.Queries.{Line, lineOf, pageEntries, queryRefusal, Page, page}
-use Rattle.definition.specs.Layout.{Row, Buffers, usedRows, view, lengthsOf, bufferPage}
+use Rattle.definition.specs.Layout.{Row, Buffers, usedRows, view, lengthsOf, bufferPage, lent}
 use Rattle.definition.proofs.Tests.{by-test}
 use Rattle.definition.proofs.Lists.{map-take, map-drop}
-use Rattle.sound.specs.Sound.{lent}
 use Rattle.state.specs.declared.Head.{Head}
 use Rattle.state.specs.State.{headOf, loaded}
 use Rattle.state.specs.State as State

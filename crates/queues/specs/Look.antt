@@ -28,7 +28,7 @@ pub record Passed (from to cursor : ℕ) (rows : List Row) (i : ℕ) : Type 0 wh
 
 -- of the rows from..to the one at a place is chosen: the waiting rows before and after it, and as many spare rows as have expired. Strict rows
 -- stay strict; open are the spare rows, which are free, words 6 to 8 of the others, not in use, and how words that were not strict are written
-pub record Found (now : ℕ) (s : Sub) (from to : ℕ) (rows rows′ : List Row) (at end : ℕ) : Type 0 where
+pub record Found (by : ℕ) (s : Sub) (from to : ℕ) (rows rows′ : List Row) (at end : ℕ) : Type 0 where
   pub before : List Row
   pub row : Row
   pub after : List Row
@@ -37,20 +37,20 @@ pub record Found (now : ℕ) (s : Sub) (from to : ℕ) (rows rows′ : List Row)
   pub place : from + length before ≡ at
   pub last : at + 1 + length after ≡ end
   pub size : end + length spare ≡ to
-  pub said : look now (lone s) (s .cursor) (map entryOf (slice from to rows))
+  pub said : look by (lone s) (s .cursor) (map entryOf (slice from to rows))
       ≡ record { pending = map entryOf (before ++ after); chosen = some (entryOf row); cursor = entryOf row .seq; gone = length spare }
   pub strict : all entryStrict (slice from to rows) ≡ true → all entryStrict (before ++ row ∷ after) ≡ true
 
 -- none is chosen; the same is open
-pub record Missed (now : ℕ) (s : Sub) (from to : ℕ) (rows rows′ : List Row) (end cursor : ℕ) : Type 0 where
+pub record Missed (by : ℕ) (s : Sub) (from to : ℕ) (rows rows′ : List Row) (end cursor : ℕ) : Type 0 where
   pub left : List Row
   pub spare : List Row
   pub parts : rows′ ≡ take from rows ++ (left ++ (spare ++ drop to rows))
   pub last : from + length left ≡ end
   pub size : end + length spare ≡ to
-  pub said : look now (lone s) (s .cursor) (map entryOf (slice from to rows)) ≡ record { pending = map entryOf left; chosen = none; cursor = cursor; gone = length spare }
+  pub said : look by (lone s) (s .cursor) (map entryOf (slice from to rows)) ≡ record { pending = map entryOf left; chosen = none; cursor = cursor; gone = length spare }
   pub strict : all entryStrict (slice from to rows) ≡ true → all entryStrict left ≡ true
 
 abbrev pub Looks : Bool → ℕ → Sub → ℕ → ℕ → List Row → List Row → ℕ → ℕ → ℕ → Type 0
-Looks true now s from to rows rows′ at end cursor = Found now s from to rows rows′ at end
-Looks false now s from to rows rows′ at end cursor = Missed now s from to rows rows′ end cursor
+Looks true by s from to rows rows′ at end cursor = Found by s from to rows rows′ at end
+Looks false by s from to rows rows′ at end cursor = Missed by s from to rows rows′ end cursor

@@ -18,7 +18,7 @@ use Rattle.state.specs.State.{headView, strictTables}
 
 -- all the scans: at most one for each waiting entry, and a last one
 unfoldable pub served : ℕ → Dest → Out
-served now t = rounds (suc (length (t .pending))) now t
+served by t = rounds (suc (length (t .pending))) by t
 
 -- no browser, and with credit: else a consumer's turn leaves everything as it is
 abbrev pub canTake : Row → Bool
@@ -46,8 +46,8 @@ rowsFit subs d = leb (d .used) 512 && eqb (subRows (take (d .consumers) subs) + 
 
 -- of a queue, with such a clock, on a table of consumers, with so many rows and events
 unfoldable pub scans : ℕ → List Row → Head → ℕ → ℕ → Bool
-scans now subs d rows events = every (
-    leb now (2 ^ 62)
+scans by subs d rows events = every (
+    leb by (2 ^ 62)
     ∷ d .queue
     ∷ scanTables d (length subs) rows events
     ∷ scanCounters (d .stats)
@@ -100,9 +100,9 @@ pub record Onward (d r : Head) (subs rows events subs′ rows′ events′ : Lis
   pub events-length : length events′ ≡ length events
 
 -- consumer i's turn: the definition's, with these events, whatever the producers and audits; open is what `Onward` leaves open
-pub record Visited (now i : ℕ) (d : Head) (took : Bool) (r : Head) (subs rows events subs′ rows′ events′ : List Row) : Type 0 where
+pub record Visited (by i : ℕ) (d : Head) (took : Bool) (r : Head) (subs rows events subs′ rows′ events′ : List Row) : Type 0 where
   pub sends : List Event
-  pub says : (producers : List Id) (audits : List Audit) → visit now i (headView d subs rows producers audits) ≡ record { took = took; dest = headView r subs′ rows′ producers audits; events = sends }
+  pub says : (producers : List Id) (audits : List Audit) → visit by i (headView d subs rows producers audits) ≡ record { took = took; dest = headView r subs′ rows′ producers audits; events = sends }
   pub sent : take (r .events) events′ ≡ take (d .events) events ++ map eventWords sends
   pub quiet : took ≡ false → sends ≡ []
   pub less : took ≡ true → r .waiting < d .waiting

@@ -57,11 +57,11 @@ fn passed(rows: &[Row], from: usize, to: usize, cursor: u64) -> usize
 }
 
 // The earliest of the waiting rows from..to after the cursor that the consumer accepts; expired ones met on the way go.
-fn look(rows: &mut [Row], from: usize, to: usize, s: Sub, clock: u64) -> Looked
-    requires { ⌜ (from ≤ to) × (to ≤ length (now rows)) × (to ≤ 512) × (clock ≤ 2 ^ 62) ⌝ }
-    ensures { λ r. ⌜ Looks (r .chosen) clock s from to (now (rows .entry)) (now (rows .exit)) (r .at) (r .end) (r .cursor) ⌝ }
+fn look(rows: &mut [Row], from: usize, to: usize, s: Sub, by: u64) -> Looked
+    requires { ⌜ (from ≤ to) × (to ≤ length (now rows)) × (to ≤ 512) × (by ≤ 2 ^ 62) ⌝ }
+    ensures { λ r. ⌜ Looks (r .chosen) by s from to (now (rows .entry)) (now (rows .exit)) (r .at) (r .end) (r .cursor) ⌝ }
 {
-    let at = words::signed_of(clock);
+    let at = words::signed_of(by);
     let mut end = to;
     let mut cursor = s.cursor;
     let mut i = passed(rows, from, to, s.cursor);
@@ -167,10 +167,10 @@ fn visit(
     events: &mut [Event],
     i: usize,
     d: Head,
-    clock: u64,
+    by: u64,
 ) -> Turn
-    requires { ⌜ Scans (now subs) d (length (now rows)) (length (now events)) × (i < d .consumers) × (clock ≤ 2 ^ 62) ⌝ }
-    ensures { λ r. ⌜ Visited clock i d (not (eqb (r .took) 0)) (r .head) (now (subs .entry)) (now (rows .entry)) (now (events .entry)) (now (subs .exit)) (now (rows .exit)) (now (events .exit)) ⌝ }
+    requires { ⌜ Scans (now subs) d (length (now rows)) (length (now events)) × (i < d .consumers) × (by ≤ 2 ^ 62) ⌝ }
+    ensures { λ r. ⌜ Visited by i d (not (eqb (r .took) 0)) (r .head) (now (subs .entry)) (now (rows .entry)) (now (events .entry)) (now (subs .exit)) (now (rows .exit)) (now (events .exit)) ⌝ }
 {
     let mut s = consumers::load(subs, i);
     if s.browser {
@@ -179,7 +179,7 @@ fn visit(
     if !s.has_credit() {
         return Turn { took: 0, head: d };
     }
-    let l = look(rows, d.first_waiting(), d.used, s, clock);
+    let l = look(rows, d.first_waiting(), d.used, s, by);
     let seen = after_look(d, l.end);
     if l.chosen {
         let given = give(subs, rows, events, i, s, l.at, seen);
@@ -202,10 +202,10 @@ fn rounds(
     rows: &mut [Row],
     events: &mut [Event],
     before: Head,
-    clock: u64,
+    by: u64,
 ) -> Head
-    requires { ⌜ Scans (now subs) before (length (now rows)) (length (now events)) × (clock ≤ 2 ^ 62) ⌝ }
-    ensures { λ r. ⌜ Leaves (served clock) before r (now (subs .entry)) (now (rows .entry)) (now (events .entry)) (now (subs .exit)) (now (rows .exit)) (now (events .exit)) ⌝ }
+    requires { ⌜ Scans (now subs) before (length (now rows)) (length (now events)) × (by ≤ 2 ^ 62) ⌝ }
+    ensures { λ r. ⌜ Leaves (served by) before r (now (subs .entry)) (now (rows .entry)) (now (events .entry)) (now (subs .exit)) (now (rows .exit)) (now (events .exit)) ⌝ }
     ensures { λ r. ⌜ Onward before r (now (subs .entry)) (now (rows .entry)) (now (events .entry)) (now (subs .exit)) (now (rows .exit)) (now (events .exit)) ⌝ }
 {
     let n = before.consumers;
@@ -218,7 +218,7 @@ fn rounds(
                 k += 1;
                 continue;
             }
-            let r = visit(subs, rows, events, i, d, clock);
+            let r = visit(subs, rows, events, i, d, by);
             d = r.head;
             if r.took != 0 {
                 continue 'dispatch;
@@ -296,10 +296,10 @@ fn next_fit(subs: &[SubRow], n: usize) -> bool
     true
 }
 
-fn can_scan(subs: &[SubRow], d: Head, rows: usize, events: usize, clock: u64) -> bool
-    ensures { λ r. ⌜ r ≡ scans clock (now (subs .entry)) d rows events ⌝ }
+fn can_scan(subs: &[SubRow], d: Head, rows: usize, events: usize, by: u64) -> bool
+    ensures { λ r. ⌜ r ≡ scans by (now (subs .entry)) d rows events ⌝ }
 {
-    if entry::CLOCK_MOST < clock {
+    if entry::CLOCK_MOST < by {
         return false;
     }
     if !d.queue {
@@ -325,12 +325,12 @@ pub fn serve_rounds(
     rows: &mut [Row],
     events: &mut [Event],
     d: Head,
-    clock: u64,
+    by: u64,
 ) -> Head
-    ensures { λ r. ⌜ LeavesIf (scans clock (now (subs .entry)) d (length (now (rows .entry))) (length (now (events .entry)))) (Onward d r (now (subs .entry)) (now (rows .entry)) (now (events .entry)) (now (subs .exit)) (now (rows .exit)) (now (events .exit))) (served clock) d r (now (subs .entry)) (now (rows .entry)) (now (events .entry)) (now (subs .exit)) (now (rows .exit)) (now (events .exit)) ⌝ }
+    ensures { λ r. ⌜ LeavesIf (scans by (now (subs .entry)) d (length (now (rows .entry))) (length (now (events .entry)))) (Onward d r (now (subs .entry)) (now (rows .entry)) (now (events .entry)) (now (subs .exit)) (now (rows .exit)) (now (events .exit))) (served by) d r (now (subs .entry)) (now (rows .entry)) (now (events .entry)) (now (subs .exit)) (now (rows .exit)) (now (events .exit)) ⌝ }
 {
-    if !can_scan(subs, d, rows.len(), events.len(), clock) {
+    if !can_scan(subs, d, rows.len(), events.len(), by) {
         return d;
     }
-    rounds(subs, rows, events, d, clock)
+    rounds(subs, rows, events, d, by)
 }

@@ -89,8 +89,8 @@ fn put_back(
     ensures { λ r. ⌜ Moves from (reinsert clock (e ∷ [])) d r (now (subs .entry)) (now (rows .entry)) (now (subs .exit)) (now (rows .exit)) ⌝ }
     ensures { λ r. ⌜ r .reserved ≡ d .reserved ⌝ }
 {
-    let due = d.due(clock);
-    if entry::expired_by(e, due) {
+    let by = d.due(clock);
+    if entry::expired_by(e, by) {
         table::close_gap(rows, from, 1, d.used);
         d.used = d.used - 1;
         return d.count_expired(1);

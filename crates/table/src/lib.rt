@@ -416,16 +416,16 @@ fn compact_seq(rows: &mut [Row], from: usize, to: usize, seq: u64) -> usize
 }
 
 // Moves together the rows of from..to that have not expired; before the first that has, none moves.
-fn compact_expired(rows: &mut [Row], from: usize, to: usize, clock: u64) -> usize
+fn compact_expired(rows: &mut [Row], from: usize, to: usize, by: u64) -> usize
     requires { ⌜ (from ≤ to) × (to ≤ length (now rows)) ⌝ }
-    ensures { λ r. ⌜ r ≡ tally (expiredRow clock) (slice from to (now (rows .entry))) ⌝ }
-    ensures { λ _. ⌜ now (rows .exit) ≡ compacted (expiredRow clock) from to (now (rows .entry)) ⌝ }
+    ensures { λ r. ⌜ r ≡ tally (expiredRow by) (slice from to (now (rows .entry))) ⌝ }
+    ensures { λ _. ⌜ now (rows .exit) ≡ compacted (expiredRow by) from to (now (rows .entry)) ⌝ }
 {
     let mut gone = 0;
     let mut i = from;
     while i < to {
         let row = rows[i];
-        if entry::expired_by(entry::entry_of(row), clock) {
+        if entry::expired_by(entry::entry_of(row), by) {
             gone += 1;
             i += 1;
         } else if gone == 0 {
@@ -485,9 +485,9 @@ pub fn remove_seq(rows: &mut [Row], from: usize, to: usize, n: usize, seq: u64) 
 }
 
 // Takes the rows of from..to that have expired by that clock out of the n used ones, and says how many there were.
-pub fn remove_expired(rows: &mut [Row], from: usize, to: usize, n: usize, clock: u64) -> usize
-    ensures { λ r. ⌜ r ≡ removedRows (expiredRow clock) from to n (now (rows .entry)) ⌝ }
-    ensures { λ _. ⌜ now (rows .exit) ≡ removeRows (expiredRow clock) from to n (now (rows .entry)) ⌝ }
+pub fn remove_expired(rows: &mut [Row], from: usize, to: usize, n: usize, by: u64) -> usize
+    ensures { λ r. ⌜ r ≡ removedRows (expiredRow by) from to n (now (rows .entry)) ⌝ }
+    ensures { λ _. ⌜ now (rows .exit) ≡ removeRows (expiredRow by) from to n (now (rows .entry)) ⌝ }
 {
     if rows.len() < n {
         return 0;
@@ -498,7 +498,7 @@ pub fn remove_expired(rows: &mut [Row], from: usize, to: usize, n: usize, clock:
     if to < from {
         return 0;
     }
-    let gone = compact_expired(rows, from, to, clock);
+    let gone = compact_expired(rows, from, to, by);
     close_gap(rows, to - gone, gone, n);
     gone
 }

@@ -42,10 +42,10 @@ abbrev pub topicStepped : Step → Seen → Seen
 topicStepped t v = record { before = v .before; sub = t .sub; after = v .after; stats = v .stats ⊕ t .counts; events = v .events ++ map eventWords (t .events) }
 
 abbrev pub topicRan : ℕ → Seen → Seen
-topicRan now v = topicStepped (serveTopic now (v .sub)) v
+topicRan by v = topicStepped (serveTopic by (v .sub)) v
 
 -- the counts lie within the tables, and no number runs out
-pub record TopicFine (nrows nevents base : ℕ) (s : Sub) (d : Head) (now : ℕ) : Type 0 where
+pub record TopicFine (nrows nevents base : ℕ) (s : Sub) (d : Head) (by : ℕ) : Type 0 where
   pub rows : base + s .inflight + s .held ≤ d .used
   pub used : d .used ≤ 512
   pub room : 512 ≤ nrows
@@ -53,7 +53,7 @@ pub record TopicFine (nrows nevents base : ℕ) (s : Sub) (d : Head) (now : ℕ)
   pub next : s .«next_dseq» + s .held < 2 ^ 63
   pub expired : d .stats .expired + s .held < 2 ^ 63
   pub dispatched : d .stats .dispatched + s .held < 2 ^ 63
-  pub clock : now ≤ 2 ^ 62
+  pub clock : by ≤ 2 ^ 62
 
 -- what the counts do while the consumer is served
 pub record ConsumerKept (base : ℕ) (s : Sub) (d : Head) (t : Sub) (r : Head) : Type 0 where

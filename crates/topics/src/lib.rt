@@ -29,10 +29,10 @@ fn serve_topic(
     base: usize,
     start: Sub,
     before: Head,
-    clock: u64,
+    by: u64,
 ) -> Served
-    requires { ⌜ TopicFine (length (now rows)) (length (now events)) base start before clock ⌝ }
-    ensures { λ r. ⌜ topicSeen base (r .sub) (r .head) (now (rows .exit)) (now (events .exit)) ≡ topicRan clock (topicSeen base start before (now (rows .entry)) (now (events .entry))) ⌝ }
+    requires { ⌜ TopicFine (length (now rows)) (length (now events)) base start before by ⌝ }
+    ensures { λ r. ⌜ topicSeen base (r .sub) (r .head) (now (rows .exit)) (now (events .exit)) ≡ topicRan by (topicSeen base start before (now (rows .entry)) (now (events .entry))) ⌝ }
     ensures { λ r. ⌜ drop (r .head .events) (now (events .exit)) ≡ drop (r .head .events) (now (events .entry)) ⌝ }
     ensures { λ r. ⌜ ConsumerKept base start before (r .sub) (r .head) ⌝ }
     ensures { λ r. ⌜ drop (before .used) (now (rows .exit)) ≡ drop (before .used) (now (rows .entry)) ⌝ }
@@ -47,7 +47,7 @@ fn serve_topic(
         let first = base + s.inflight;
         let row = rows[first];
         let e = entry::entry_of(row);
-        if entry::expired_by(e, clock) {
+        if entry::expired_by(e, by) {
             table::close_gap(rows, first, 1, d.used);
             d.used = d.used - 1;
             d = d.count_expired(1);
@@ -80,10 +80,10 @@ fn serve_all(
     rows: &mut [Row],
     events: &mut [Event],
     before: Head,
-    clock: u64,
+    by: u64,
 ) -> Head
-    requires { ⌜ Fits (now subs) before (length (now rows)) (length (now events)) × (before .queue ≡ false) × (clock ≤ 2 ^ 62) ⌝ }
-    ensures { λ r. ⌜ Leaves (dispatchTopic clock) before r (now (subs .entry)) (now (rows .entry)) (now (events .entry)) (now (subs .exit)) (now (rows .exit)) (now (events .exit)) × Dispatched before r ⌝ }
+    requires { ⌜ Fits (now subs) before (length (now rows)) (length (now events)) × (before .queue ≡ false) × (by ≤ 2 ^ 62) ⌝ }
+    ensures { λ r. ⌜ Leaves (dispatchTopic by) before r (now (subs .entry)) (now (rows .entry)) (now (events .entry)) (now (subs .exit)) (now (rows .exit)) (now (events .exit)) × Dispatched before r ⌝ }
 {
     let n = before.consumers;
     let mut d = before;
@@ -92,7 +92,7 @@ fn serve_all(
     while i < n {
         let s = consumers::load(subs, i);
         if can_serve(subs, i) {
-            let r = serve_topic(rows, events, base, s, d, clock);
+            let r = serve_topic(rows, events, base, s, d, by);
             let t = r.sub;
             d = r.head;
             base = base + t.inflight + t.held;
@@ -113,11 +113,11 @@ pub fn dispatch_topic(
     rows: &mut [Row],
     events: &mut [Event],
     d: Head,
-    clock: u64,
+    by: u64,
 ) -> Head
-    ensures { λ r. ⌜ LeavesIf (fits (now (subs .entry)) d (length (now (rows .entry))) (length (now (events .entry))) && (leb clock (2 ^ 62) && not (d .queue))) (Dispatched d r) (dispatchTopic clock) d r (now (subs .entry)) (now (rows .entry)) (now (events .entry)) (now (subs .exit)) (now (rows .exit)) (now (events .exit)) ⌝ }
+    ensures { λ r. ⌜ LeavesIf (fits (now (subs .entry)) d (length (now (rows .entry))) (length (now (events .entry))) && (leb by (2 ^ 62) && not (d .queue))) (Dispatched d r) (dispatchTopic by) d r (now (subs .entry)) (now (rows .entry)) (now (events .entry)) (now (subs .exit)) (now (rows .exit)) (now (events .exit)) ⌝ }
 {
-    if entry::CLOCK_MOST < clock {
+    if entry::CLOCK_MOST < by {
         return d;
     }
     if d.queue {
@@ -126,5 +126,5 @@ pub fn dispatch_topic(
     if !state::fits(subs, d, rows.len(), events.len()) {
         return d;
     }
-    serve_all(subs, rows, events, d, clock)
+    serve_all(subs, rows, events, d, by)
 }

@@ -14,7 +14,7 @@ use Rattle.definition.specs.Types.{Dest}
 use Rattle.definition.specs.Consumer.{_⊕_, addExpired, addDiscarded}
 use Rattle.definition.specs.Destination.{count}
 use Rattle.definition.specs.Calls.{Lengths, short, sound, Call, discarding, missing, Result, refused, used, argumentsOk, ownRefusal, perform, refusal, call}
-use Rattle.definition.specs.Layout.{Row, Buffers, view, formed, soundBuffers, lengthsOf, bufferCall}
+use Rattle.definition.specs.Layout.{Row, Buffers, view, formed, soundBuffers, lengthsOf, bufferCall, lent}
 use Rattle.definition.proofs.Tests.{by-test, and-left}
 use Rattle.definition.proofs.Kept.{call-sound}
 use Rattle.state.specs.declared.Head.{Head}
@@ -27,10 +27,11 @@ use Rattle.state.proofs.Counts.{count-view, expired-plain, discarded-plain}
 use Rattle.state.proofs.Ready.{ready-fits}
 use Rattle.engine.specs.declared.Outcome.{Outcome}
 use Rattle.uncoded.specs.Bare.{bareRefusal}
-use Rattle.engine.specs.Called.{outcome, Called, Performs}
+use Rattle.engine.specs.Called.{outcome, Called}
+use Rattle.engine.specs.Performs.{Performs}
 use Rattle.engine.specs.Opened.{counted, finished}
 use Rattle.engine.proofs.Refusing.{done, call-refused, call-done}
-use Rattle.engine.proofs.Called.{lent, refused-called, performed-called}
+use Rattle.engine.proofs.Called.{refused-called, performed-called}
 use Rattle.engine.proofs.Performed.{silent-performs}
 use Rattle.engine.proofs.Ending as Ending
 

@@ -2,8 +2,7 @@
 ghost use mathlib.Core.Path.{_≡_};
 ghost use lib.ListN.{length};
 ghost use Rattle.definition.specs.Calls.{discarding, missing};
-ghost use Rattle.definition.specs.Layout.{bufferCall};
-ghost use Rattle.sound.specs.Sound.{lent};
+ghost use Rattle.definition.specs.Layout.{bufferCall, lent};
 ghost use Rattle.engine.specs.Called.{Called};
 ghost use Rattle.uncoded.specs.Bare.{bareRefusal};
 use consumers::SubRow;

@@ -1,4 +1,5 @@
 pub mod Tests
+pub mod Places
 pub mod Lists
 pub mod Signed
 pub mod Words

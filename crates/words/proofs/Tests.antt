@@ -6,10 +6,18 @@ use Prim.Native.Nat.{ℕ, _+_, _-_, _≤_}
 use native.Mathlib.Omega.{arith}
 use borrow.Author.Tests.{eqb-true, eqb-false, eq-eqb, ne-eqb, leb-true, leb-false, le-leb, lt-leb}
 use lib.Dec.{eqb, leb}
+use Rattle.words.specs.Pick.{if_then_else_}
 
 pub by-test {ℓ} : {P : Type ℓ} (b : Bool) → (b ≡ true → P) → (b ≡ false → P) → P
 by-test true f g = f refl
 by-test false f g = g refl
+
+module _ {ℓ} {A : Type ℓ} where
+  pub if-true : {b : Bool} (x y : A) → b ≡ true → if_then_else_ b x y ≡ x
+  if-true x y e = rw e
+
+  pub if-false : {b : Bool} (x y : A) → b ≡ false → if_then_else_ b x y ≡ y
+  if-false x y e = rw e
 
 -- ---- tests joined
 

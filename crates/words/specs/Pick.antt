@@ -10,6 +10,11 @@ module _ {ℓ} {A : Type ℓ} where
   if true then x else y = x
   if false then x else y = y
 
+  -- each passes a test
+  abbrev pub all : (A → Bool) → List A → Bool
+  all p [] = true
+  all p (x ∷ xs) = p x && all p xs
+
 abbrev pub every : List Bool → Bool
 every [] = true
 every (b ∷ bs) = b && every bs

@@ -27,7 +27,7 @@ returns : tie.Need-returns
 returns c =
     let a = c .before .before .before .before .before .before .before .before .before .args in
     let v = c .before .before .before .before .before .before .send-snapshot in
-    done-stop (a .clock) (a .base) (now (a .rows)) (now (a .events)) (a .start) (a .before) _ _ _ _ (v .ensures .0) (sym (c .before .has-credit .ensures) ∙ not-true _ (c .if1 .taken))
+    done-stop (a .by) (a .base) (now (a .rows)) (now (a .events)) (a .start) (a .before) _ _ _ _ (v .ensures .0) (sym (c .before .has-credit .ensures) ∙ not-true _ (c .if1 .taken))
 
 same-length-3 : tie.Need-same-length-3
 same-length-3 c = search needs
@@ -40,7 +40,7 @@ returns-2 c =
     let a = c .before .before .before .before .before .before .before .before .before .before .args in
     let v = c .before .before .before .before .before .before .before .send-snapshot in
     let yes : creditOf (v .result .sub) ≡ true = sym (c .before .before .has-credit .ensures) ∙ not-false _ (c .before .if1 .left) in
-    done-finished (a .clock) (a .base) (now (a .rows)) (now (a .events)) (a .start) (a .before) _ _ _ _ (v .ensures .0) (none-held _ _ (v .ensures .1) yes) yes (c .if2 .taken)
+    done-finished (a .by) (a .base) (now (a .rows)) (now (a .events)) (a .start) (a .before) _ _ _ _ (v .ensures .0) (none-held _ _ (v .ensures .1) yes) yes (c .if2 .taken)
 
 push-null-requires : tie.Need-push-null-requires
 push-null-requires c κs = search needs
@@ -61,7 +61,7 @@ returns-3 c =
     let n = c .before .before .push-null in
     let yes : creditOf (v .result .sub) ≡ true = sym (c .before .before .before .before .before .before .has-credit .ensures) ∙ not-false _ (c .before .before .before .before .before .if1 .left) in
     let room = v .ensures .0 .fine .events in
-    done-closed (a .clock) (a .base) (now (a .rows)) (now (a .events)) (a .start) (a .before) _ _ _ _ (v .ensures .0) (none-held _ _ (v .ensures .1) yes) yes _ _ _ (c .closed .ensures) (n .ensures .0 ∙ pushed-room (v .result .head) _ (omega (arith, room))) (n .ensures .1) (c .before .before .before .before .if2 .left)
+    done-closed (a .by) (a .base) (now (a .rows)) (now (a .events)) (a .start) (a .before) _ _ _ _ (v .ensures .0) (none-held _ _ (v .ensures .1) yes) yes _ _ _ (c .closed .ensures) (n .ensures .0 ∙ pushed-room (v .result .head) _ (omega (arith, room))) (n .ensures .1) (c .before .before .before .before .if2 .left)
 
 pub dispatch-browser-spec : {M : Type 1} → statement M
 dispatch-browser-spec =

@@ -35,7 +35,7 @@ abbrev μ-loop : tie.MeasureT-loop
 μ-loop rows₀ events₀ base clock s₀ d₀ rows events s d = s .held
 
 loop-holds : tie.Need-loop-holds Inv-loop μ-loop
-loop-holds c = let a = c .args in sending-start (a .clock) (a .base) (now (a .rows)) (now (a .events)) (a .start) (a .before) (c .pre)
+loop-holds c = let a = c .args in sending-start (a .by) (a .base) (now (a .rows)) (now (a .events)) (a .start) (a .before) (c .pre)
 
 has-credit-requires : tie.Need-has-credit-requires Inv-loop μ-loop
 has-credit-requires c κs = search needs
@@ -77,7 +77,7 @@ sub-d : tie.Need-sub-d Inv-loop μ-loop
 sub-d c =
     let l = c .before .before .before .before .before .before .before .before .before .before .before .before .before .before .before .before .loop in
     let a = c .before .before .before .before .before .before .before .before .before .before .before .before .before .before .before .before .before .args in
-    used-left (a .clock) (a .base) (now (a .rows)) (now (a .events)) (a .start) (a .before) (l .rows) (l .events) (l .s) (l .d) (l .inv) _ _ (c .before .before .before .before .before .before .before .before .before .before .before .before .before .before .if1 .taken) (c .before .before .before .before .before .drop-waiting .ensures .0)
+    used-left (a .by) (a .base) (now (a .rows)) (now (a .events)) (a .start) (a .before) (l .rows) (l .events) (l .s) (l .d) (l .inv) _ _ (c .before .before .before .before .before .before .before .before .before .before .before .before .before .before .if1 .taken) (c .before .before .before .before .before .drop-waiting .ensures .0)
 
 sub-s : tie.Need-sub-s Inv-loop μ-loop
 sub-s c = c .before .before .before .before .before .before .before .before .before .before .before .before .before .before .before .if1 .taken
@@ -95,7 +95,7 @@ loop-again c =
     let yes : creditOf (l .s) ≡ true = sym (c .before .before .before .before .before .before .before .before .before .before .before .before .before .before .has-credit .ensures) ∙ not-false _ (c .before .before .before .before .before .before .before .before .before .before .before .before .before .if2 .left) in
     let over = sym (c .before .before .before .before .before .before .before .before .before .expired-by .ensures) ∙ c .before .before .before .before .before .before .before .before .if3 .taken in
     let out = c .before .before .before .before .before .before .drop-waiting .ensures in
-    sending-lost (a .clock) (a .base) (now (a .rows)) (now (a .events)) (a .start) (a .before) (l .rows) (l .events) (l .s) (l .d) (l .inv) some yes _ _ _ _ (c .before .before .before .before .before .before .before .before .before .before .entry-of .ensures) (out .0) (out .1) (c .before .before .before .close-gap .ensures) (rw (signed-pos (a .clock) (omega (arith, l .inv .fine .clock))) at over)
+    sending-lost (a .by) (a .base) (now (a .rows)) (now (a .events)) (a .start) (a .before) (l .rows) (l .events) (l .s) (l .d) (l .inv) some yes _ _ _ _ (c .before .before .before .before .before .before .before .before .before .before .entry-of .ensures) (out .0) (out .1) (c .before .before .before .close-gap .ensures) (rw (signed-pos (a .by) (omega (arith, l .inv .fine .clock))) at over)
 
 push-message-requires : tie.Need-push-message-requires Inv-loop μ-loop
 push-message-requires c κs = search needs
@@ -144,7 +144,7 @@ loop-again-2 c =
     let room : l .d .events < length (l .events) = omega arith in
     let said = p .ensures .1 ∙ ap (λ (z : ℤ). set (l .events) (l .d .events) (eventWords (message (idOf (l .s .conn) (l .s .session) (l .s .value)) (e .seq) z))) (toZ-ofZ w32 (e .redelivery) small)
     ∙ ap (λ (x : Entry). set (l .events) (l .d .events) (eventWords (message (idOf (l .s .conn) (l .s .session) (l .s .value)) (x .seq) (x .redelivery)))) is in
-    sending-sent (a .clock) (a .base) (now (a .rows)) (now (a .events)) (a .start) (a .before) (l .rows) (l .events) (l .s) (l .d) (l .inv) some yes _ _ _ _ (c .sent .ensures ∙ sent-is (withHeld (l .s .held - 1) (l .s)) (omega arith) (omega arith)) (p .ensures .0 ∙ pushed-room (l .d) (length (l .events)) room) said (c .before .before .flown .ensures .0) (c .before .before .flown .ensures .1) (rw (is, signed-pos (a .clock) (omega (arith, f .clock))) at fresh)
+    sending-sent (a .by) (a .base) (now (a .rows)) (now (a .events)) (a .start) (a .before) (l .rows) (l .events) (l .s) (l .d) (l .inv) some yes _ _ _ _ (c .sent .ensures ∙ sent-is (withHeld (l .s .held - 1) (l .s)) (omega arith) (omega arith)) (p .ensures .0 ∙ pushed-room (l .d) (length (l .events)) room) said (c .before .before .flown .ensures .0) (c .before .before .flown .ensures .1) (rw (is, signed-pos (a .by) (omega (arith, f .clock))) at fresh)
 
 same-length-3 : tie.Need-same-length-3 Inv-loop μ-loop
 same-length-3 c = search needs

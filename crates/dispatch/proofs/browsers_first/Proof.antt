@@ -24,7 +24,7 @@ same-length c = search needs
 returns : tie.Need-returns
 returns c =
     let a = c .before .before .before .args in
-    leaves-no _ _ (dispatchQueue (a .clock)) (a .d) (now (a .subs)) (now (a .rows)) (now (a .events)) (sym (c .before .fits2 .ensures) ∙ not-true _ (c .if1 .taken))
+    leaves-no _ _ (dispatchQueue (a .by)) (a .d) (now (a .subs)) (now (a .rows)) (now (a .events)) (sym (c .before .fits2 .ensures) ∙ not-true _ (c .if1 .taken))
 
 serve-browsers-requires : tie.Need-serve-browsers-requires
 serve-browsers-requires c κs = search needs
@@ -50,10 +50,10 @@ returns-2 c =
     let p = h .pre in
     let y : fits (now (a .subs)) (a .d) (length (now (a .rows))) (length (now (a .events))) ≡ true = sym (g .before .fits2 .ensures) ∙ not-false _ (g .if1 .left) in
     let b = k .serve-browsers in
-    let l = leaves-when _ _ _ (a .d) (b .result) (now (a .subs)) (now (a .rows)) (now (a .events)) (b .last .0) (b .last .1 .0) (b .last .1 .1 .0) (three-yes _ _ _ y (le-leb (a .clock) (2 ^ 62) (p .1)) (p .0)) (b .ensures) in
+    let l = leaves-when _ _ _ (a .d) (b .result) (now (a .subs)) (now (a .rows)) (now (a .events)) (b .last .0) (b .last .1 .0) (b .last .1 .1 .0) (three-yes _ _ _ y (le-leb (a .by) (2 ^ 62) (p .1)) (p .0)) (b .ensures) in
     let f = fits-facts (now (a .subs)) (a .d) (length (now (a .rows))) (length (now (a .events))) y in
-    when-leaves _ _ (dispatchQueue (a .clock)) (a .d) _ (now (a .subs)) (now (a .rows)) (now (a .events)) _ _ _ y
-    (queue-some (a .clock) (a .d) (now (a .subs)) (now (a .rows)) (now (a .events)) f (p .1) (p .0) (p .2) (b .result) (b .last .0) (b .last .1 .0) (b .last .1 .1 .0) (l .0) (l .1) _ _ _ _ (c .before .before .before .serve-rounds .ensures))
+    when-leaves _ _ (dispatchQueue (a .by)) (a .d) _ (now (a .subs)) (now (a .rows)) (now (a .events)) _ _ _ y
+    (queue-some (a .by) (a .d) (now (a .subs)) (now (a .rows)) (now (a .events)) f (p .1) (p .0) (p .2) (b .result) (b .last .0) (b .last .1 .0) (b .last .1 .1 .0) (l .0) (l .1) _ _ _ _ (c .before .before .before .serve-rounds .ensures))
 
 pub browsers-first-spec : {M : Type 1} → statement M
 browsers-first-spec =

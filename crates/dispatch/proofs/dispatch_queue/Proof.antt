@@ -10,7 +10,7 @@ use Rattle.dispatch.proofs.dispatch_queue.Tie as tie
 returns : tie.Need-returns
 returns c =
     let a = c .before .before .args in
-    none-there (a .clock) (a .d) (now (a .subs)) (now (a .rows)) (now (a .events)) (c .if1 .taken)
+    none-there (a .by) (a .d) (now (a .subs)) (now (a .rows)) (now (a .events)) (c .if1 .taken)
 
 any-browser-requires : tie.Need-any-browser-requires
 any-browser-requires c κs = search needs
@@ -32,7 +32,7 @@ returns-2 c =
     let k = c .before .before .before .before .before .before .before in
     let a = k .before .before .before .before .before .args in
     let r = c .before .before .before .browsers-first in
-    with-browser (a .d) (r .result) (now (a .subs)) (now (a .rows)) (now (a .events)) (r .last .0) (r .last .1 .0) (r .last .1 .1 .0) (a .clock) (sym (k .before .any-browser .ensures) ∙ k .if2 .taken) (r .ensures)
+    with-browser (a .d) (r .result) (now (a .subs)) (now (a .rows)) (now (a .events)) (r .last .0) (r .last .1 .0) (r .last .1 .1 .0) (a .by) (sym (k .before .any-browser .ensures) ∙ k .if2 .taken) (r .ensures)
 
 serve-rounds-requires : tie.Need-serve-rounds-requires
 serve-rounds-requires c κs = search needs
@@ -52,7 +52,7 @@ returns-3 c =
     let a = k .before .before .before .before .before .args in
     let some = k .before .before .before .if1 .left in
     let r = c .before .before .before .serve-rounds in
-    without-browser (a .d) (r .result) (now (a .subs)) (now (a .rows)) (now (a .events)) (r .last .0) (r .last .1 .0) (r .last .1 .1 .0) (a .clock) (omega (arith, some)) (sym (k .before .any-browser .ensures) ∙ k .if2 .left) (r .ensures)
+    without-browser (a .d) (r .result) (now (a .subs)) (now (a .rows)) (now (a .events)) (r .last .0) (r .last .1 .0) (r .last .1 .1 .0) (a .by) (omega (arith, some)) (sym (k .before .any-browser .ensures) ∙ k .if2 .left) (r .ensures)
 
 pub dispatch-queue-spec : {M : Type 1} → statement M
 dispatch-queue-spec =

@@ -9,8 +9,7 @@ use lib.Dec.{eqb}
 use lib.ListN.{length}
 use denote.Ref.{now}
 use Rattle.definition.specs.Calls.{stateShort, short}
-use Rattle.definition.specs.Layout.{soundBuffers, lengthsOf, bufferStep}
-use Rattle.sound.specs.Sound.{lent}
+use Rattle.definition.specs.Layout.{soundBuffers, lengthsOf, bufferStep, lent}
 use Rattle.engine.specs.declared.Outcome.{Outcome}
 use Rattle.engine.specs.Called.{outcome, Called}
 use Rattle.engine.proofs.Refusing.{step-short, step-unsound}

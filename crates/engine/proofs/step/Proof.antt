@@ -4,8 +4,7 @@ use native.Mathlib.Omega.{arith}
 use borrow.Author.Tests.{not-true, not-false, eq-eqb, ne-eqb}
 use lib.ListN.{length}
 use denote.Ref.{now}
-use Rattle.definition.specs.Layout.{bufferStep}
-use Rattle.sound.specs.Sound.{lent}
+use Rattle.definition.specs.Layout.{bufferStep, lent}
 use Rattle.engine.specs.declared.Outcome.{Outcome}
 use Rattle.engine.specs.Called.{Called}
 use Rattle.engine.proofs.Ran.{undecoded-called, opened-or}

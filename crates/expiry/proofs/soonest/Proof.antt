@@ -22,7 +22,7 @@ abbrev μ-loop : tie.MeasureT-loop
 loop-holds : tie.Need-loop-holds Inv-loop μ-loop
 loop-holds c =
     let a = c .args in
-    (c .pre .0, omega arith, omega arith, soonest-start (a .clock) (a .to) (now (a .rows)))
+    (c .pre .0, omega arith, omega arith, soonest-start (a .by) (a .to) (now (a .rows)))
 
 sub-i : tie.Need-sub-i Inv-loop μ-loop
 sub-i c = search needs
@@ -44,7 +44,7 @@ loop-again c =
     let l = c .before .before .before .before .loop in
     let k = c .before .before .before .before .before in
     let a = k .args in
-    (omega arith, omega (arith, l .inv .1), omega (arith, l .inv .2), soonest-first (a .clock) (l .i - 1) (l .i) (a .to) (l .at) (now (a .rows)) (omega arith) (l .inv .1) (k .pre .1) (k .pre .2) (l .inv .3) (c .before .if1 .taken) (c .if2 .taken))
+    (omega arith, omega (arith, l .inv .1), omega (arith, l .inv .2), soonest-first (a .by) (l .i - 1) (l .i) (a .to) (l .at) (now (a .rows)) (omega arith) (l .inv .1) (k .pre .1) (k .pre .2) (l .inv .3) (c .before .if1 .taken) (c .if2 .taken))
 
 entry-of-requires : tie.Need-entry-of-requires Inv-loop μ-loop
 entry-of-requires c κs = search needs
@@ -72,7 +72,7 @@ loop-again-2 c =
       omega arith,
       omega (arith, l .inv .1),
       omega (arith, l .inv .2),
-      soonest-sooner (a .clock) (l .i - 1) (l .i) (a .to) (l .at) (now (a .rows)) (omega arith) (l .inv .1) (k .pre .1) (k .pre .2) (l .inv .3) (c .before .before .before .before .before .before .if1 .taken) (c .before .before .before .before .before .if2 .left)
+      soonest-sooner (a .by) (l .i - 1) (l .i) (a .to) (l .at) (now (a .rows)) (omega arith) (l .inv .1) (k .pre .1) (k .pre .2) (l .inv .3) (c .before .before .before .before .before .before .if1 .taken) (c .before .before .before .before .before .if2 .left)
           (ap₂ isSooner (sym (c .before .before .before .before .entry-of .ensures)) (sym (c .before .before .entry-of2 .ensures)) ∙ sym (c .before .is-sooner .ensures) ∙ c .if3 .taken),
     )
 
@@ -87,7 +87,7 @@ loop-again-3 c =
       omega arith,
       omega (arith, l .inv .1),
       omega (arith, l .inv .2),
-      soonest-later (a .clock) (l .i - 1) (l .i) (a .to) (l .at) (now (a .rows)) (omega arith) (l .inv .1) (k .pre .1) (k .pre .2) (l .inv .3) (c .before .before .before .before .before .before .if1 .taken) (c .before .before .before .before .before .if2 .left)
+      soonest-later (a .by) (l .i - 1) (l .i) (a .to) (l .at) (now (a .rows)) (omega arith) (l .inv .1) (k .pre .1) (k .pre .2) (l .inv .3) (c .before .before .before .before .before .before .if1 .taken) (c .before .before .before .before .before .if2 .left)
           (ap₂ isSooner (sym (c .before .before .before .before .entry-of .ensures)) (sym (c .before .before .entry-of2 .ensures)) ∙ sym (c .before .is-sooner .ensures) ∙ c .if3 .left),
     )
 
@@ -99,7 +99,7 @@ loop-again-4 c =
     let l = c .before .before .before .loop in
     let k = c .before .before .before .before in
     let a = k .args in
-    (omega arith, omega (arith, l .inv .1), omega (arith, l .inv .2), soonest-not (a .clock) (l .i - 1) (l .i) (a .to) (l .at) (now (a .rows)) (omega arith) (l .inv .1) (k .pre .1) (k .pre .2) (l .inv .3) (c .if1 .left))
+    (omega arith, omega (arith, l .inv .1), omega (arith, l .inv .2), soonest-not (a .by) (l .i - 1) (l .i) (a .to) (l .at) (now (a .rows)) (omega arith) (l .inv .1) (k .pre .1) (k .pre .2) (l .inv .3) (c .if1 .left))
 
 entry-of-requires-3 : tie.Need-entry-of-requires-3 Inv-loop μ-loop
 entry-of-requires-3 c κs = search needs
@@ -109,7 +109,7 @@ returns c =
     let l = c .before .before .before .loop in
     let a = c .before .before .before .before .args in
     let e : l .i ≡ a .from = omega (arith, l .inv .0, c .before .before .loop-test .left) in
-    sym (found-none (l .at) (a .to) (now (a .rows)) (c .before .if4 .taken)) ∙ l .inv .3 ∙ ap (λ (i : ℕ). soonest (a .clock) (map entryOf (slice i (a .to) (now (a .rows))))) e
+    sym (found-none (l .at) (a .to) (now (a .rows)) (c .before .if4 .taken)) ∙ l .inv .3 ∙ ap (λ (i : ℕ). soonest (a .by) (map entryOf (slice i (a .to) (now (a .rows))))) e
 
 mul-entry-of-2 : tie.Need-mul-entry-of-2 Inv-loop μ-loop
 mul-entry-of-2 c = search needs
@@ -126,7 +126,7 @@ returns-2 c =
     let a = c .before .before .before .before .before .args in
     let e : l .i ≡ a .from = omega (arith, l .inv .0, c .before .before .before .loop-test .left) in
     ap some (c .entry-of4 .ensures)
-    ∙ sym (found-some (l .at) (a .to) (now (a .rows)) (c .before .before .if4 .left)) ∙ l .inv .3 ∙ ap (λ (i : ℕ). soonest (a .clock) (map entryOf (slice i (a .to) (now (a .rows))))) e
+    ∙ sym (found-some (l .at) (a .to) (now (a .rows)) (c .before .before .if4 .left)) ∙ l .inv .3 ∙ ap (λ (i : ℕ). soonest (a .by) (map entryOf (slice i (a .to) (now (a .rows))))) e
 
 pub soonest-spec : {M : Type 1} → statement M
 soonest-spec =

@@ -16,7 +16,7 @@ abbrev μ-loop : tie.MeasureT-loop
 μ-loop rows₀ from most clock w₀ rows w = most - w .gone
 
 loop-holds : tie.Need-loop-holds Inv-loop μ-loop
-loop-holds c = let a = c .args in turn-start (a .most) (a .clock) (a .from) (now (a .rows)) (a .start) (c .pre)
+loop-holds c = let a = c .args in turn-start (a .most) (a .by) (a .from) (now (a .rows)) (a .start) (c .pre)
 
 add-to : tie.Need-add-to Inv-loop μ-loop
 add-to c = search needs
@@ -33,7 +33,7 @@ returns : tie.Need-returns Inv-loop μ-loop
 returns c =
     let l = c .before .before .before .before .before .before .before .loop in
     let a = c .before .before .before .before .before .before .before .before .args in
-    (turn-none (a .most) (a .clock) (a .from) (now (a .rows)) (a .start) (l .rows) (l .w) (l .inv) (c .before .before .soonest .result) (c .before .before .soonest .ensures) (not-true _ (c .if2 .taken)), (l .inv .shorter, (l .inv .past, l .inv .strict)))
+    (turn-none (a .most) (a .by) (a .from) (now (a .rows)) (a .start) (l .rows) (l .w) (l .inv) (c .before .before .soonest .result) (c .before .before .soonest .ensures) (not-true _ (c .if2 .taken)), (l .inv .shorter, (l .inv .past, l .inv .strict)))
 
 remove-seq-requires : tie.Need-remove-seq-requires Inv-loop μ-loop
 remove-seq-requires c κs = search needs
@@ -70,7 +70,7 @@ loop-again c =
     let a = c .before .before .before .before .before .before .before .before .before .before .before .before .before .before .before .args in
     let r = c .before .before .before .before .remove-seq in
     let n = c .before .before .before .before .before .before .before .before .before .soonest in
-    turn-next (a .most) (a .clock) (a .from) (now (a .rows)) (a .start) (l .rows) (l .w) (l .inv) (n .result) (r .result) _ (c .before .before .before .before .before .before .before .before .before .before .before .before .if1 .taken) (n .ensures) (not-false _ (c .before .before .before .before .before .before .before .if2 .left)) (r .ensures .0) (r .ensures .1)
+    turn-next (a .most) (a .by) (a .from) (now (a .rows)) (a .start) (l .rows) (l .w) (l .inv) (n .result) (r .result) _ (c .before .before .before .before .before .before .before .before .before .before .before .before .if1 .taken) (n .ensures) (not-false _ (c .before .before .before .before .before .before .before .if2 .left)) (r .ensures .0) (r .ensures .1)
 
 same-length-2 : tie.Need-same-length-2 Inv-loop μ-loop
 same-length-2 c = search needs
@@ -79,7 +79,7 @@ returns-2 : tie.Need-returns-2 Inv-loop μ-loop
 returns-2 c =
     let l = c .before .before .loop in
     let a = c .before .before .before .args in
-    (turn-end (a .most) (a .clock) (a .from) (now (a .rows)) (a .start) (l .rows) (l .w) (l .inv) (c .if1 .left), (l .inv .shorter, (l .inv .past, l .inv .strict)))
+    (turn-end (a .most) (a .by) (a .from) (now (a .rows)) (a .start) (l .rows) (l .w) (l .inv) (c .if1 .left), (l .inv .shorter, (l .inv .past, l .inv .strict)))
 
 pub sweep-list-spec : {M : Type 1} → statement M
 sweep-list-spec =

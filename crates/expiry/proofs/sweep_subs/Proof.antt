@@ -21,7 +21,7 @@ loop-holds : tie.Need-loop-holds Inv-loop μ-loop
 loop-holds c =
     let a = c .args in
     let pre = c .pre in
-    round-start (a .most) (a .clock) (now (a .subs)) (now (a .rows)) (a .d) (a .gone) pre
+    round-start (a .most) (a .by) (now (a .subs)) (now (a .rows)) (a .d) (a .gone) pre
 
 load-requires : tie.Need-load-requires Inv-loop μ-loop
 load-requires c κs = search needs
@@ -31,7 +31,7 @@ add-from c =
     let l = c .before .before .before .before .loop in
     let a = c .before .before .before .before .before .args in
     let pre = c .before .before .before .before .before .pre in
-    let h = round-rows (a .most) (a .clock) (now (a .subs)) (now (a .rows)) (a .d) (a .gone) pre (l .subs) (l .rows) (l .w) (l .base) (l .i) (l .inv) (c .before .before .before .loop-test .taken) _ (c .before .load .ensures) in
+    let h = round-rows (a .most) (a .by) (now (a .subs)) (now (a .rows)) (a .d) (a .gone) pre (l .subs) (l .rows) (l .w) (l .base) (l .i) (l .inv) (c .before .before .before .loop-test .taken) _ (c .before .load .ensures) in
     omega (arith, h, l .inv .used, pre .used)
 
 sweep-held-requires : tie.Need-sweep-held-requires Inv-loop μ-loop
@@ -39,14 +39,14 @@ sweep-held-requires c κs =
     let l = c .before .before .before .before .before .before .before .loop in
     let a = c .before .before .before .before .before .before .before .before .args in
     let pre = c .before .before .before .before .before .before .before .before .pre in
-    round-fine (a .most) (a .clock) (now (a .subs)) (now (a .rows)) (a .d) (a .gone) pre (l .subs) (l .rows) (l .w) (l .base) (l .i) (l .inv) (c .before .before .before .before .before .before .loop-test .taken) _ (c .before .before .before .before .load .ensures)
+    round-fine (a .most) (a .by) (now (a .subs)) (now (a .rows)) (a .d) (a .gone) pre (l .subs) (l .rows) (l .w) (l .base) (l .i) (l .inv) (c .before .before .before .before .before .before .loop-test .taken) _ (c .before .before .before .before .load .ensures)
 
 add-base : tie.Need-add-base Inv-loop μ-loop
 add-base c =
     let l = c .before .before .before .before .before .before .before .before .before .loop in
     let a = c .before .before .before .before .before .before .before .before .before .before .args in
     let pre = c .before .before .before .before .before .before .before .before .before .before .pre in
-    let h = round-rows (a .most) (a .clock) (now (a .subs)) (now (a .rows)) (a .d) (a .gone) pre (l .subs) (l .rows) (l .w) (l .base) (l .i) (l .inv) (c .before .before .before .before .before .before .before .before .loop-test .taken) _ (c .before .before .before .before .before .before .load .ensures) in
+    let h = round-rows (a .most) (a .by) (now (a .subs)) (now (a .rows)) (a .d) (a .gone) pre (l .subs) (l .rows) (l .w) (l .base) (l .i) (l .inv) (c .before .before .before .before .before .before .before .before .loop-test .taken) _ (c .before .before .before .before .before .before .load .ensures) in
     omega (arith, h, l .inv .used, pre .used, c .before .sweep-held .ensures .1 .0 .length)
 
 with-held-requires : tie.Need-with-held-requires Inv-loop μ-loop
@@ -74,7 +74,7 @@ loop-again c =
     let v = c .before .before .before .before .before .sweep-held in
     let s = c .before .before .before .before .before .before .before .before .before .before .load in
     let made = c .before .store .ensures ∙ ap (λ (y : Sub). set (l .subs) (l .i) (subWords y)) (c .before .before .with-held .ensures) in
-    round-turn (a .most) (a .clock) (now (a .subs)) (now (a .rows)) (a .d) (a .gone) pre (l .subs) (l .rows) (l .w) (l .base) (l .i) (l .inv) (c .before .before .before .before .before .before .before .before .before .before .before .before .loop-test .taken) (s .result) _ (v .result) _ _ (s .ensures) refl made (v .kept .0) (v .ensures .0) (v .ensures .1 .0) (v .ensures .1 .1 .0) (v .ensures .1 .1 .1)
+    round-turn (a .most) (a .by) (now (a .subs)) (now (a .rows)) (a .d) (a .gone) pre (l .subs) (l .rows) (l .w) (l .base) (l .i) (l .inv) (c .before .before .before .before .before .before .before .before .before .before .before .before .loop-test .taken) (s .result) _ (v .result) _ _ (s .ensures) refl made (v .kept .0) (v .ensures .0) (v .ensures .1 .0) (v .ensures .1 .1 .0) (v .ensures .1 .1 .1)
 
 same-length : tie.Need-same-length Inv-loop μ-loop
 same-length c = search needs
@@ -87,7 +87,7 @@ returns c =
     let l = c .before .loop in
     let a = c .before .before .args in
     let pre = c .before .before .pre in
-    round-end (a .most) (a .clock) (now (a .subs)) (now (a .rows)) (a .d) (a .gone) pre (l .subs) (l .rows) (l .w) (l .base) (l .i) (l .inv) (c .loop-test .left)
+    round-end (a .most) (a .by) (now (a .subs)) (now (a .rows)) (a .d) (a .gone) pre (l .subs) (l .rows) (l .w) (l .base) (l .i) (l .inv) (c .loop-test .left)
 
 pub sweep-subs-spec : {M : Type 1} → statement M
 sweep-subs-spec =

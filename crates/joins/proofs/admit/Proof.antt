@@ -26,7 +26,7 @@ browse-requires c κs =
     let i = c .before .before in
     let s = i .before .before .before in
     let a = s .before .before .before .args in
-    admit-needs (a .clock) (a .spec) (a .k) (a .d) _ (now (a .rows)) (i .not-idle .ensures) (s .before .before .before .pre .1 (c .before .if1 .taken))
+    admit-needs (a .by) (a .spec) (a .k) (a .d) _ (now (a .rows)) (i .not-idle .ensures) (s .before .before .before .pre .1 (c .before .if1 .taken))
 
 same-length : tie.Need-same-length
 same-length c = search needs
@@ -40,7 +40,7 @@ returns c =
     let s = i .before .before .before in
     let a = s .before .before .before .args in
     let q = c .before .browse .ensures in
-    (admit-browser (a .clock) (a .spec) (a .k) (a .d) _ (now (a .rows)) (i .not-idle .ensures) (c .before .before .before .if1 .taken) _ _ (q .0) (q .1), s .store .ensures ∙ ap (λ (y : Sub). set (now (a .subs)) (a .d .consumers) (subWords y)) (s .before .new-sub .ensures))
+    (admit-browser (a .by) (a .spec) (a .k) (a .d) _ (now (a .rows)) (i .not-idle .ensures) (c .before .before .before .if1 .taken) _ _ (q .0) (q .1), s .store .ensures ∙ ap (λ (y : Sub). set (now (a .subs)) (a .d .consumers) (subWords y)) (s .before .new-sub .ensures))
 
 same-length-3 : tie.Need-same-length-3
 same-length-3 c = search needs
@@ -50,7 +50,7 @@ returns-2 c =
     let i = c .before in
     let s = i .before .before .before in
     let a = s .before .before .before .args in
-    (admit-plain (a .clock) (a .spec) (a .k) (a .d) _ (now (a .rows)) (i .not-idle .ensures) (c .if1 .left), s .store .ensures ∙ ap (λ (y : Sub). set (now (a .subs)) (a .d .consumers) (subWords y)) (s .before .new-sub .ensures))
+    (admit-plain (a .by) (a .spec) (a .k) (a .d) _ (now (a .rows)) (i .not-idle .ensures) (c .if1 .left), s .store .ensures ∙ ap (λ (y : Sub). set (now (a .subs)) (a .d .consumers) (subWords y)) (s .before .new-sub .ensures))
 
 pub admit-spec : {M : Type 1} → statement M
 admit-spec =

@@ -20,14 +20,14 @@ sub-d c =
     let u = c .before .before in
     let f = u .before in
     let a = f .before .before .args in
-    few-gone (a .clock) (a .selector) (a .k) (a .d) (now (a .rows)) _ _ 0 0 (a .d) _ (now (a .rows)) (f .first-waiting .ensures) (u .purge .ensures .0) (u .purge .ensures .1) (f .before .before .pre) .1
+    few-gone (a .by) (a .selector) (a .k) (a .d) (now (a .rows)) _ _ 0 0 (a .d) _ (now (a .rows)) (f .first-waiting .ensures) (u .purge .ensures .0) (u .purge .ensures .1) (f .before .before .pre) .1
 
 sub-d-2 : tie.Need-sub-d-2
 sub-d-2 c =
     let u = c .before .before .before in
     let f = u .before in
     let a = f .before .before .args in
-    few-gone (a .clock) (a .selector) (a .k) (a .d) (now (a .rows)) _ _ 0 0 (a .d) _ (now (a .rows)) (f .first-waiting .ensures) (u .purge .ensures .0) (u .purge .ensures .1) (f .before .before .pre) .0
+    few-gone (a .by) (a .selector) (a .k) (a .d) (now (a .rows)) _ _ 0 0 (a .d) _ (now (a .rows)) (f .first-waiting .ensures) (u .purge .ensures .0) (u .purge .ensures .1) (f .before .before .pre) .0
 
 count-expired-requires : tie.Need-count-expired-requires
 count-expired-requires c κs = search needs
@@ -44,7 +44,7 @@ add-d c =
     let u = e .before .before .before .before in
     let f = u .before in
     let a = f .before .before .args in
-    let l = used-less (a .clock) (a .selector) (a .k) (a .d) (now (a .rows)) _ _ 0 0 _ _ (now (a .rows)) (f .first-waiting .ensures) (u .purge .ensures .0) (u .purge .ensures .1) (e .count-expired .ensures) in
+    let l = used-less (a .by) (a .selector) (a .k) (a .d) (now (a .rows)) _ _ 0 0 _ _ (now (a .rows)) (f .first-waiting .ensures) (u .purge .ensures .0) (u .purge .ensures .1) (e .count-expired .ensures) in
     omega (arith, f .before .before .pre .few)
 
 first-waiting-requires-2 : tie.Need-first-waiting-requires-2
@@ -58,7 +58,7 @@ copy-shown-requires c κs =
     let u = e .before .before .before .before in
     let f = u .before in
     let a = f .before .before .args in
-    copy-fits (a .clock) (a .selector) (a .k) (a .d) (now (a .rows)) _ _ _ _ _ _ _ (f .first-waiting .ensures) (u .purge .ensures .0) (u .purge .ensures .1) (e .count-expired .ensures) (s .first-reserved .ensures) (g .open-gap .ensures) (c .first-waiting2 .ensures) (f .before .before .pre)
+    copy-fits (a .by) (a .selector) (a .k) (a .d) (now (a .rows)) _ _ _ _ _ _ _ (f .first-waiting .ensures) (u .purge .ensures .0) (u .purge .ensures .1) (e .count-expired .ensures) (s .first-reserved .ensures) (g .open-gap .ensures) (c .first-waiting2 .ensures) (f .before .before .pre)
 
 same-length : tie.Need-same-length
 same-length c = search needs
@@ -71,7 +71,7 @@ returns c =
     let u = e .before .before .before .before in
     let f = u .before in
     let a = f .before .before .args in
-    browse-done (a .clock) (a .selector) (a .k) (a .d) (now (a .rows)) _ _ _ _ _ _ _ (f .first-waiting .ensures) (u .purge .ensures .0) (u .purge .ensures .1) (e .count-expired .ensures) (s .first-reserved .ensures) (g .open-gap .ensures) (c .before .before .first-waiting2 .ensures) _ (c .before .copy-shown .ensures)
+    browse-done (a .by) (a .selector) (a .k) (a .d) (now (a .rows)) _ _ _ _ _ _ _ (f .first-waiting .ensures) (u .purge .ensures .0) (u .purge .ensures .1) (e .count-expired .ensures) (s .first-reserved .ensures) (g .open-gap .ensures) (c .before .before .first-waiting2 .ensures) _ (c .before .copy-shown .ensures)
 
 pub browse-spec : {M : Type 1} → statement M
 browse-spec =

@@ -25,7 +25,7 @@ abbrev μ-loop : tie.MeasureT-loop
 loop-holds : tie.Need-loop-holds Inv-loop μ-loop
 loop-holds c =
     let a = c .args in
-    (search needs, search needs, search needs, tally-none (snapped (a .clock) (a .selector)) (a .from) (now (a .rows)))
+    (search needs, search needs, search needs, tally-none (snapped (a .by) (a .selector)) (a .from) (now (a .rows)))
 
 mul-row : tie.Need-mul-row Inv-loop μ-loop
 mul-row c = search needs
@@ -47,8 +47,8 @@ loop-again c =
     let l = c .before .before .before .before .loop in
     let a = c .before .before .before .before .before .args in
     let x : Row = getD (now (a .rows)) (l .i) [] in
-    let g : goneAt (a .clock) x ≡ true = sym (c .before .is-gone .ensures) ∙ c .if1 .taken in
-    (search needs, search needs, search needs, count-miss (snapped (a .clock) (a .selector)) (a .from) (l .i) (now (a .rows)) x (l .count) (search needs) (search needs) refl (snapped-gone (a .clock) (a .selector) x g) (l .inv .3))
+    let g : goneAt (a .by) x ≡ true = sym (c .before .is-gone .ensures) ∙ c .if1 .taken in
+    (search needs, search needs, search needs, count-miss (snapped (a .by) (a .selector)) (a .from) (l .i) (now (a .rows)) x (l .count) (search needs) (search needs) refl (snapped-gone (a .by) (a .selector) x g) (l .inv .3))
 
 is-shown-requires : tie.Need-is-shown-requires Inv-loop μ-loop
 is-shown-requires c κs = search needs
@@ -67,9 +67,9 @@ loop-again-2 c =
     let l = c .before .before .before .before .before .before .loop in
     let a = c .before .before .before .before .before .before .before .args in
     let x : Row = getD (now (a .rows)) (l .i) [] in
-    let g : goneAt (a .clock) x ≡ false = sym (c .before .before .before .is-gone .ensures) ∙ c .before .before .if1 .left in
+    let g : goneAt (a .by) x ≡ false = sym (c .before .before .before .is-gone .ensures) ∙ c .before .before .if1 .left in
     let s : shownBy (a .selector) x ≡ true = sym (c .before .is-shown .ensures) ∙ c .if2 .taken in
-    (search needs, search needs, search needs, count-turn (snapped (a .clock) (a .selector)) (a .from) (l .i) (now (a .rows)) x true (l .count) 1 (search needs) (search needs) refl (snapped-shown (a .clock) (a .selector) x g s) refl (l .inv .3))
+    (search needs, search needs, search needs, count-turn (snapped (a .by) (a .selector)) (a .from) (l .i) (now (a .rows)) x true (l .count) 1 (search needs) (search needs) refl (snapped-shown (a .by) (a .selector) x g s) refl (l .inv .3))
 
 add-i-3 : tie.Need-add-i-3 Inv-loop μ-loop
 add-i-3 c = search needs
@@ -82,16 +82,16 @@ loop-again-3 c =
     let l = c .before .before .before .before .before .before .loop in
     let a = c .before .before .before .before .before .before .before .args in
     let x : Row = getD (now (a .rows)) (l .i) [] in
-    let g : goneAt (a .clock) x ≡ false = sym (c .before .before .before .is-gone .ensures) ∙ c .before .before .if1 .left in
+    let g : goneAt (a .by) x ≡ false = sym (c .before .before .before .is-gone .ensures) ∙ c .before .before .if1 .left in
     let s : shownBy (a .selector) x ≡ false = sym (c .before .is-shown .ensures) ∙ c .if2 .left in
-    (search needs, search needs, search needs, count-miss (snapped (a .clock) (a .selector)) (a .from) (l .i) (now (a .rows)) x (l .count) (search needs) (search needs) refl (snapped-not (a .clock) (a .selector) x g s) (l .inv .3))
+    (search needs, search needs, search needs, count-miss (snapped (a .by) (a .selector)) (a .from) (l .i) (now (a .rows)) x (l .count) (search needs) (search needs) refl (snapped-not (a .by) (a .selector) x g s) (l .inv .3))
 
 returns : tie.Need-returns Inv-loop μ-loop
 returns c =
     let l = c .before .loop in
     let a = c .before .before .args in
     let e : l .i ≡ a .to = omega arith in
-    l .inv .3 ∙ ap (λ (m : ℕ). tally (snapped (a .clock) (a .selector)) (slice (a .from) m (now (a .rows)))) e
+    l .inv .3 ∙ ap (λ (m : ℕ). tally (snapped (a .by) (a .selector)) (slice (a .from) m (now (a .rows)))) e
 
 pub count-snapped-spec : {M : Type 1} → statement M
 count-snapped-spec =

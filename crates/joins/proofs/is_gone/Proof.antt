@@ -24,9 +24,9 @@ expired-requires c κs = search needs
 returns : tie.Need-returns
 returns c =
     let a = c .before .before .before .args in
-    let h : a .clock < 2 ^ 63 = omega arith in
+    let h : a .by < 2 ^ 63 = omega arith in
     let f : SFits w64 (c .before .signed-of .result) = search needs in
-    c .expired .ensures ∙ ap₂ (λ (z : ℤ) (e : Entry). expired z e) (toZ-ofZ w64 (c .before .signed-of .result) f ∙ c .before .signed-of .ensures ∙ toZ-pos w64 (a .clock) h) (c .before .before .entry-of .ensures)
+    c .expired .ensures ∙ ap₂ (λ (z : ℤ) (e : Entry). expired z e) (toZ-ofZ w64 (c .before .signed-of .result) f ∙ c .before .signed-of .ensures ∙ toZ-pos w64 (a .by) h) (c .before .before .entry-of .ensures)
 
 pub is-gone-spec : {M : Type 1} → statement M
 is-gone-spec = tie.close (tie.spec entry-of-requires signed-of-requires expired-requires returns)

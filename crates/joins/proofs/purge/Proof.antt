@@ -25,7 +25,7 @@ abbrev μ-loop : tie.MeasureT-loop
 loop-holds : tie.Need-loop-holds Inv-loop μ-loop
 loop-holds c =
     let a = c .args in
-    (search needs, search needs, (refl, search needs), tally-none (goneAt (a .clock)) (a .from) (now (a .rows)), compacted-none _ _ _)
+    (search needs, search needs, (refl, search needs), tally-none (goneAt (a .by)) (a .from) (now (a .rows)), compacted-none _ _ _)
 
 mul-row : tie.Need-mul-row Inv-loop μ-loop
 mul-row c = search needs
@@ -49,7 +49,7 @@ loop-again : tie.Need-loop-again Inv-loop μ-loop
 loop-again c =
     let l = c .before .before .before .before .loop in
     let a = c .before .before .before .before .before .args in
-    let p : Row → Bool = goneAt (a .clock) in
+    let p : Row → Bool = goneAt (a .by) in
     let x : Row = getD (l .rows) (l .i) [] in
     let hit : p x ≡ true = sym (c .before .is-gone .ensures) ∙ c .if1 .taken in
     let at : x ≡ getD (now (a .rows)) (l .i) [] = compacted-at p (a .from) (l .i) _ (l .rows) (search needs) (search needs) (l .inv .4) in
@@ -74,7 +74,7 @@ loop-again-2 : tie.Need-loop-again-2 Inv-loop μ-loop
 loop-again-2 c =
     let l = c .before .before .before .before .loop in
     let a = c .before .before .before .before .before .args in
-    let p : Row → Bool = goneAt (a .clock) in
+    let p : Row → Bool = goneAt (a .by) in
     let x : Row = getD (l .rows) (l .i) [] in
     let miss : p x ≡ false = sym (c .before .is-gone .ensures) ∙ c .if1 .left in
     let at : x ≡ getD (now (a .rows)) (l .i) [] = compacted-at p (a .from) (l .i) _ (l .rows) (search needs) (search needs) (l .inv .4) in
@@ -87,7 +87,7 @@ returns : tie.Need-returns Inv-loop μ-loop
 returns c =
     let l = c .before .loop in
     let a = c .before .before .args in
-    let p : Row → Bool = goneAt (a .clock) in
+    let p : Row → Bool = goneAt (a .by) in
     let e : l .i ≡ a .to = omega arith in
     (l .inv .3 ∙ ap (λ (m : ℕ). tally p (slice (a .from) m (now (a .rows)))) e, l .inv .4 ∙ ap (λ (m : ℕ). compacted p (a .from) m (now (a .rows))) e)
 

@@ -16,7 +16,7 @@ use Rattle.joins.proofs.snapshot_rows.Tie as tie
 returns : tie.Need-returns
 returns c =
     let a = c .before .before .args in
-    sym (if-false {b = a .spec .browser} (tally (snapped (a .clock) (a .spec .selector)) (slice (firstWaiting (a .d)) (a .d .used) (now (a .rows)))) 0 (not-true _ (c .if1 .taken)))
+    sym (if-false {b = a .spec .browser} (tally (snapped (a .by) (a .spec .selector)) (slice (firstWaiting (a .d)) (a .d .used) (now (a .rows)))) 0 (not-true _ (c .if1 .taken)))
 
 first-waiting-requires : tie.Need-first-waiting-requires
 first-waiting-requires c κs = search needs
@@ -30,8 +30,8 @@ count-snapped-requires c κs =
 returns-2 : tie.Need-returns-2
 returns-2 c =
     let a = c .before .before .before .before .args in
-    let n = c .count-snapped .ensures ∙ ap (λ (m : ℕ). tally (snapped (a .clock) (a .spec .selector)) (slice m (a .d .used) (now (a .rows)))) (c .before .first-waiting .ensures) in
-    n ∙ sym (if-true {b = a .spec .browser} (tally (snapped (a .clock) (a .spec .selector)) (slice (firstWaiting (a .d)) (a .d .used) (now (a .rows)))) 0 (not-false _ (c .before .before .if1 .left)))
+    let n = c .count-snapped .ensures ∙ ap (λ (m : ℕ). tally (snapped (a .by) (a .spec .selector)) (slice m (a .d .used) (now (a .rows)))) (c .before .first-waiting .ensures) in
+    n ∙ sym (if-true {b = a .spec .browser} (tally (snapped (a .by) (a .spec .selector)) (slice (firstWaiting (a .d)) (a .d .used) (now (a .rows)))) 0 (not-false _ (c .before .before .if1 .left)))
 
 pub snapshot-rows-spec : {M : Type 1} → statement M
 snapshot-rows-spec =

@@ -3,8 +3,7 @@ use mathlib.Core.Path.{sym, ap, _∙_}
 use mathlib.Core.Bool.{Bool, not, _&&_}
 use borrow.Author.Tests.{not-true, not-false}
 use denote.Ref.{now}
-use Rattle.definition.specs.Layout.{soundBuffers}
-use Rattle.sound.specs.Sound.{lent}
+use Rattle.definition.specs.Layout.{soundBuffers, lent}
 use Rattle.queries.proofs.Opened.{barred-short, barred-unsound, barred-none}
 use borrow.Author.Needs.{needs}
 use Rattle.queries.proofs.barred.Statement.{statement}

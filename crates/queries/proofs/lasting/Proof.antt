@@ -6,7 +6,7 @@ use native.Mathlib.Omega.{arith}
 use borrow.Author.Tests.{not-true, not-false}
 use lib.Seq.{slice}
 use Rattle.definition.specs.Base.{all}
-use Rattle.sound.proofs.Tests.{all-stop, all-next, all-end}
+use Rattle.subrows.proofs.Tests.{all-stop, all-next, all-end}
 use Rattle.queries.specs.Answers.{lasts}
 use borrow.Author.Needs.{needs}
 use Rattle.queries.proofs.lasting.Statement.{statement}

@@ -9,7 +9,7 @@ use lib.Seq.{slice}
 use Rattle.definition.specs.Base.{all}
 use Rattle.definition.specs.Words.{kindBy}
 use Rattle.definition.specs.Layout.{subsAt, subRows, subAt}
-use Rattle.sound.proofs.Subs.{rows-turn, walk-stop, walk-next, walk-end}
+use Rattle.subrows.proofs.Subs.{rows-turn, walk-stop, walk-next, walk-end}
 use Rattle.queries.specs.Answers.{subLasts}
 use Rattle.queries.proofs.Answered.{sub-placed}
 use borrow.Author.Needs.{needs}

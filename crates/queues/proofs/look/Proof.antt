@@ -25,7 +25,7 @@ loop-holds : tie.Need-loop-holds Inv-loop μ-loop
 loop-holds c =
     let a = c .before .before .before .args in
     let pre = c .before .before .before .pre in
-    looking-from (a .clock) (a .s) (a .from) (a .to) (now (a .rows)) (pre .0) (pre .1) (c .passed .result) (c .passed .ensures)
+    looking-from (a .by) (a .s) (a .from) (a .to) (now (a .rows)) (pre .0) (pre .1) (c .passed .result) (c .passed .ensures)
 
 mul-entry-of : tie.Need-mul-entry-of Inv-loop μ-loop
 mul-entry-of c = search needs
@@ -49,7 +49,7 @@ loop-again c =
     let pre = c .before .before .before .before .before .before .before .before .before .before .pre in
     let e = c .before .before .before .entry-of in
     let h = c .if1 .taken in
-    looking-before (a .clock) (a .s) (a .from) (a .to) (now (a .rows)) (pre .0) (pre .1) (l .rows) (l .end) (l .cursor) (l .i) (l .inv) (c .before .before .before .before .before .loop-test .taken) (rw (e .ensures) at h)
+    looking-before (a .by) (a .s) (a .from) (a .to) (now (a .rows)) (pre .0) (pre .1) (l .rows) (l .end) (l .cursor) (l .i) (l .inv) (c .before .before .before .before .before .loop-test .taken) (rw (e .ensures) at h)
 
 expired-requires : tie.Need-expired-requires Inv-loop μ-loop
 expired-requires c κs = search needs
@@ -71,9 +71,9 @@ loop-again-2 c =
     let clock = c .before .before .before .before .before .before .before .before .before .before .before .before .before .before .signed-of in
     let e = c .before .before .before .before .before .before .before .before .entry-of in
     let f : SFits w64 (clock .result) = search needs in
-    let over = sym (by-clock (a .clock) (clock .result) (e .result) (pre .3) f (clock .ensures)) ∙ sym (c .before .before .before .before .expired .ensures) ∙ c .before .before .before .if2 .taken in
+    let over = sym (by-clock (a .by) (clock .result) (e .result) (pre .3) f (clock .ensures)) ∙ sym (c .before .before .before .before .expired .ensures) ∙ c .before .before .before .if2 .taken in
     let h = c .before .before .before .before .before .if1 .left in
-    rw (c .before .close-gap .ensures) (looking-late (a .clock) (a .s) (a .from) (a .to) (now (a .rows)) (pre .0) (pre .1) (l .rows) (l .end) (l .cursor) (l .i) (l .inv) (c .before .before .before .before .before .before .before .before .before .before .loop-test .taken) (rw (e .ensures) at h) (rw (e .ensures) at over))
+    rw (c .before .close-gap .ensures) (looking-late (a .by) (a .s) (a .from) (a .to) (now (a .rows)) (pre .0) (pre .1) (l .rows) (l .end) (l .cursor) (l .i) (l .inv) (c .before .before .before .before .before .before .before .before .before .before .loop-test .taken) (rw (e .ensures) at h) (rw (e .ensures) at over))
 
 accepts-requires : tie.Need-accepts-requires Inv-loop μ-loop
 accepts-requires c κs = search needs
@@ -89,10 +89,10 @@ returns c =
     let clock = c .before .before .before .before .before .before .before .before .before .before .before .before .before .signed-of in
     let e = c .before .before .before .before .before .before .before .entry-of in
     let f : SFits w64 (clock .result) = search needs in
-    let over = sym (by-clock (a .clock) (clock .result) (e .result) (pre .3) f (clock .ensures)) ∙ sym (c .before .before .before .expired .ensures) ∙ c .before .before .if2 .left in
+    let over = sym (by-clock (a .by) (clock .result) (e .result) (pre .3) f (clock .ensures)) ∙ sym (c .before .before .before .expired .ensures) ∙ c .before .before .if2 .left in
     let h = c .before .before .before .before .if1 .left in
     let yes = sym (c .before .accepts .ensures) ∙ c .if3 .taken in
-    looking-taken (a .clock) (a .s) (a .from) (a .to) (now (a .rows)) (pre .0) (pre .1) (l .rows) (l .end) (l .cursor) (l .i) (l .inv) (c .before .before .before .before .before .before .before .before .before .loop-test .taken) (rw (e .ensures) at h) (rw (e .ensures) at over) (rw (e .ensures) at yes)
+    looking-taken (a .by) (a .s) (a .from) (a .to) (now (a .rows)) (pre .0) (pre .1) (l .rows) (l .end) (l .cursor) (l .i) (l .inv) (c .before .before .before .before .before .before .before .before .before .loop-test .taken) (rw (e .ensures) at h) (rw (e .ensures) at over) (rw (e .ensures) at yes)
 
 add-i-2 : tie.Need-add-i-2 Inv-loop μ-loop
 add-i-2 c = search needs
@@ -108,10 +108,10 @@ loop-again-3 c =
     let clock = c .before .before .before .before .before .before .before .before .before .before .before .before .before .signed-of in
     let e = c .before .before .before .before .before .before .before .entry-of in
     let f : SFits w64 (clock .result) = search needs in
-    let over = sym (by-clock (a .clock) (clock .result) (e .result) (pre .3) f (clock .ensures)) ∙ sym (c .before .before .before .expired .ensures) ∙ c .before .before .if2 .left in
+    let over = sym (by-clock (a .by) (clock .result) (e .result) (pre .3) f (clock .ensures)) ∙ sym (c .before .before .before .expired .ensures) ∙ c .before .before .if2 .left in
     let h = c .before .before .before .before .if1 .left in
     let no = sym (c .before .accepts .ensures) ∙ c .if3 .left in
-    rw (e .ensures) (looking-refused (a .clock) (a .s) (a .from) (a .to) (now (a .rows)) (pre .0) (pre .1) (l .rows) (l .end) (l .cursor) (l .i) (l .inv) (c .before .before .before .before .before .before .before .before .before .loop-test .taken) (rw (e .ensures) at h) (rw (e .ensures) at over) (rw (e .ensures) at no))
+    rw (e .ensures) (looking-refused (a .by) (a .s) (a .from) (a .to) (now (a .rows)) (pre .0) (pre .1) (l .rows) (l .end) (l .cursor) (l .i) (l .inv) (c .before .before .before .before .before .before .before .before .before .loop-test .taken) (rw (e .ensures) at h) (rw (e .ensures) at over) (rw (e .ensures) at no))
 
 same-length-2 : tie.Need-same-length-2 Inv-loop μ-loop
 same-length-2 c = search needs
@@ -121,7 +121,7 @@ returns-2 c =
     let l = c .before .loop in
     let a = c .before .before .before .before .before .args in
     let pre = c .before .before .before .before .before .pre in
-    looking-none (a .clock) (a .s) (a .from) (a .to) (now (a .rows)) (pre .0) (pre .1) (l .rows) (l .end) (l .cursor) (l .i) (l .inv) (c .loop-test .left)
+    looking-none (a .by) (a .s) (a .from) (a .to) (now (a .rows)) (pre .0) (pre .1) (l .rows) (l .end) (l .cursor) (l .i) (l .inv) (c .loop-test .left)
 
 pub look-spec : {M : Type 1} → statement M
 look-spec =

@@ -26,13 +26,13 @@ abbrev μ-dispatch : tie.MeasureT-dispatch
 dispatch-holds : tie.Need-dispatch-holds Inv-loop μ-loop Inv-dispatch μ-dispatch
 dispatch-holds c =
     let a = c .args in
-    going-start (a .clock) (now (a .subs)) (now (a .rows)) (now (a .events)) (a .before) (c .pre .0)
+    going-start (a .by) (now (a .subs)) (now (a .rows)) (now (a .events)) (a .before) (c .pre .0)
 
 loop-holds : tie.Need-loop-holds Inv-loop μ-loop Inv-dispatch μ-dispatch
 loop-holds c =
     let a = c .before .before .before .args in
     let o = c .before .before .dispatch in
-    seeking-start (a .clock) (o .subs) (o .rows) (o .events) (o .d) (o .inv .scans)
+    seeking-start (a .by) (o .subs) (o .rows) (o .events) (o .d) (o .inv .scans)
 
 add-in-turn : tie.Need-add-in-turn Inv-loop μ-loop Inv-dispatch μ-dispatch
 add-in-turn c =
@@ -66,10 +66,10 @@ loop-again c =
     let same : o .d .consumers ≡ a .before .consumers = o .inv .onward .consumers in
     let less : l .k < o .d .consumers = omega (arith, c .before .before .before .before .before .loop-test .taken) in
     let place : c .before .before .before .in-turn .result ≡ (o .d .turn + l .k) % o .d .consumers = c .before .before .before .in-turn .ensures ∙ ap₂ (λ (x n : ℕ). (x + l .k) % n) (l .inv .turn) (sym same) in
-    let within : (o .d .turn + l .k) % o .d .consumers < l .d .consumers = place-within (a .clock) (o .subs) (o .rows) (o .events) (o .d) (l .subs) (l .rows) (l .events) (l .d) (l .k) (l .inv) less in
+    let within : (o .d .turn + l .k) % o .d .consumers < l .d .consumers = place-within (a .by) (o .subs) (o .rows) (o .events) (o .d) (l .subs) (l .rows) (l .events) (l .d) (l .k) (l .inv) less in
     let no = sym (c .before .can-take .ensures) ∙ not-true _ (c .if2 .taken) in
-    let v = visited-not (a .clock) ((o .d .turn + l .k) % o .d .consumers) (l .d) (l .subs) (l .rows) (l .events) (l .inv .scans) within (rw place at no) in
-    seeking-on (a .clock) (o .subs) (o .rows) (o .events) (o .d) (l .subs) (l .rows) (l .events) (l .d) (l .k) (l .inv) less false (l .d) (l .subs) (l .rows) (l .events) v refl
+    let v = visited-not (a .by) ((o .d .turn + l .k) % o .d .consumers) (l .d) (l .subs) (l .rows) (l .events) (l .inv .scans) within (rw place at no) in
+    seeking-on (a .by) (o .subs) (o .rows) (o .events) (o .d) (l .subs) (l .rows) (l .events) (l .d) (l .k) (l .inv) less false (l .d) (l .subs) (l .rows) (l .events) v refl
 
 visit-requires : tie.Need-visit-requires Inv-loop μ-loop Inv-dispatch μ-dispatch
 visit-requires c κs =
@@ -80,7 +80,7 @@ visit-requires c κs =
     let less : l .k < o .d .consumers = omega (arith, c .before .before .before .before .before .before .before .before .loop-test .taken) in
     let place : c .before .before .before .before .before .before .in-turn .result ≡ (o .d .turn + l .k) % o .d .consumers = c .before .before .before .before .before .before .in-turn .ensures ∙ ap₂ (λ (x n : ℕ). (x + l .k) % n) (l .inv .turn) (sym same) in
     let pre = c .before .before .before .before .before .before .before .before .before .before .before .before .before .pre in
-    (l .inv .scans, rw place (place-within (a .clock) (o .subs) (o .rows) (o .events) (o .d) (l .subs) (l .rows) (l .events) (l .d) (l .k) (l .inv) less), pre .1)
+    (l .inv .scans, rw place (place-within (a .by) (o .subs) (o .rows) (o .events) (o .d) (l .subs) (l .rows) (l .events) (l .d) (l .k) (l .inv) less), pre .1)
 
 dispatch-less : tie.Need-dispatch-less Inv-loop μ-loop Inv-dispatch μ-dispatch
 dispatch-less c =
@@ -92,7 +92,7 @@ dispatch-less c =
     let place : c .before .before .before .before .before .before .before .before .before .before .before .before .before .in-turn .result ≡ (o .d .turn + l .k) % o .d .consumers = c .before .before .before .before .before .before .before .before .before .before .before .before .before .in-turn .ensures ∙ ap₂ (λ (x n : ℕ). (x + l .k) % n) (l .inv .turn) (sym same) in
     let v = c .before .before .before .before .before .before .visit in
     let t = rw (ne-eqb (v .result .took) 0 (c .if3 .taken)) at (v .ensures) in
-    going-less (a .clock) (now (a .subs)) (now (a .rows)) (now (a .events)) (a .before) (o .subs) (o .rows) (o .events) (o .d) (l .subs) (l .rows) (l .events) (l .d) (l .k) (o .inv) (l .inv) less _ _ _ _ (rw place at t)
+    going-less (a .by) (now (a .subs)) (now (a .rows)) (now (a .events)) (a .before) (o .subs) (o .rows) (o .events) (o .d) (l .subs) (l .rows) (l .events) (l .d) (l .k) (o .inv) (l .inv) less _ _ _ _ (rw place at t)
 
 dispatch-again : tie.Need-dispatch-again Inv-loop μ-loop Inv-dispatch μ-dispatch
 dispatch-again c =
@@ -104,7 +104,7 @@ dispatch-again c =
     let place : c .before .before .before .before .before .before .before .before .before .before .before .before .before .in-turn .result ≡ (o .d .turn + l .k) % o .d .consumers = c .before .before .before .before .before .before .before .before .before .before .before .before .before .in-turn .ensures ∙ ap₂ (λ (x n : ℕ). (x + l .k) % n) (l .inv .turn) (sym same) in
     let v = c .before .before .before .before .before .before .visit in
     let t = rw (ne-eqb (v .result .took) 0 (c .if3 .taken)) at (v .ensures) in
-    going-on (a .clock) (now (a .subs)) (now (a .rows)) (now (a .events)) (a .before) (o .subs) (o .rows) (o .events) (o .d) (l .subs) (l .rows) (l .events) (l .d) (l .k) (o .inv) (l .inv) less _ _ _ _ (rw place at t)
+    going-on (a .by) (now (a .subs)) (now (a .rows)) (now (a .events)) (a .before) (o .subs) (o .rows) (o .events) (o .d) (l .subs) (l .rows) (l .events) (l .d) (l .k) (o .inv) (l .inv) less _ _ _ _ (rw place at t)
 
 add-k-2 : tie.Need-add-k-2 Inv-loop μ-loop Inv-dispatch μ-dispatch
 add-k-2 c =
@@ -127,7 +127,7 @@ loop-again-2 c =
     let place : c .before .before .before .before .before .before .before .before .before .before .before .before .before .in-turn .result ≡ (o .d .turn + l .k) % o .d .consumers = c .before .before .before .before .before .before .before .before .before .before .before .before .before .in-turn .ensures ∙ ap₂ (λ (x n : ℕ). (x + l .k) % n) (l .inv .turn) (sym same) in
     let v = c .before .before .before .before .before .before .visit in
     let t = rw (eq-eqb (v .result .took) 0 (c .if3 .left)) at (v .ensures) in
-    seeking-on (a .clock) (o .subs) (o .rows) (o .events) (o .d) (l .subs) (l .rows) (l .events) (l .d) (l .k) (l .inv) less _ _ _ _ _ (rw place at t) refl
+    seeking-on (a .by) (o .subs) (o .rows) (o .events) (o .d) (l .subs) (l .rows) (l .events) (l .d) (l .k) (l .inv) less _ _ _ _ _ (rw place at t) refl
 
 same-length : tie.Need-same-length Inv-loop μ-loop Inv-dispatch μ-dispatch
 same-length c = search needs
@@ -144,7 +144,7 @@ returns c =
     let o = c .before .before .before .before .dispatch in
     let l = c .before .loop in
     let same : o .d .consumers ≡ a .before .consumers = o .inv .onward .consumers in
-    going-stop (a .clock) (now (a .subs)) (now (a .rows)) (now (a .events)) (a .before) (o .subs) (o .rows) (o .events) (o .d) (l .subs) (l .rows) (l .events) (l .d) (l .k) (o .inv) (l .inv) (omega (arith, c .loop-test .left))
+    going-stop (a .by) (now (a .subs)) (now (a .rows)) (now (a .events)) (a .before) (o .subs) (o .rows) (o .events) (o .d) (l .subs) (l .rows) (l .events) (l .d) (l .k) (o .inv) (l .inv) (omega (arith, c .loop-test .left))
 
 same-length-4 : tie.Need-same-length-4 Inv-loop μ-loop Inv-dispatch μ-dispatch
 same-length-4 c = search needs
@@ -159,7 +159,7 @@ returns-2 : tie.Need-returns-2 Inv-loop μ-loop Inv-dispatch μ-dispatch
 returns-2 c =
     let a = c .before .before .before .args in
     let o = c .before .before .dispatch in
-    going-empty (a .clock) (now (a .subs)) (now (a .rows)) (now (a .events)) (a .before) (o .subs) (o .rows) (o .events) (o .d) (o .inv) (c .if1 .left)
+    going-empty (a .by) (now (a .subs)) (now (a .rows)) (now (a .events)) (a .before) (o .subs) (o .rows) (o .events) (o .d) (o .inv) (c .if1 .left)
 
 pub rounds-spec : {M : Type 1} → statement M
 rounds-spec =

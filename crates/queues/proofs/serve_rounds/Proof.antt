@@ -19,14 +19,14 @@ same-length c = search needs
 returns : tie.Need-returns
 returns c =
     let a = c .before .before .before .args in
-    let no : scans (a .clock) (now (a .subs)) (a .d) (length (now (a .rows))) (length (now (a .events))) ≡ false = sym (c .before .can-scan .ensures) ∙ not-true _ (c .if1 .taken) in
+    let no : scans (a .by) (now (a .subs)) (a .d) (length (now (a .rows))) (length (now (a .events))) ≡ false = sym (c .before .can-scan .ensures) ∙ not-true _ (c .if1 .taken) in
     rw no (record { same-head = refl; same-subs = refl; same-rows = refl; same-events = refl })
 
 rounds-requires : tie.Need-rounds-requires
 rounds-requires c κs =
     let a = c .before .before .before .before .before .before .args in
-    let yes : scans (a .clock) (now (a .subs)) (a .d) (length (now (a .rows))) (length (now (a .events))) ≡ true = sym (c .before .before .before .before .can-scan .ensures) ∙ not-false _ (c .before .before .before .if1 .left) in
-    let f = scans-facts (a .clock) (now (a .subs)) (a .d) (length (now (a .rows))) (length (now (a .events))) yes in
+    let yes : scans (a .by) (now (a .subs)) (a .d) (length (now (a .rows))) (length (now (a .events))) ≡ true = sym (c .before .before .before .before .can-scan .ensures) ∙ not-false _ (c .before .before .before .if1 .left) in
+    let f = scans-facts (a .by) (now (a .subs)) (a .d) (length (now (a .rows))) (length (now (a .events))) yes in
     (f .0, f .1)
 
 same-length-2 : tie.Need-same-length-2
@@ -41,7 +41,7 @@ same-length-4 c = search needs
 returns-2 : tie.Need-returns-2
 returns-2 c =
     let a = c .before .before .before .before .before .before .before .before .before .before .args in
-    let yes : scans (a .clock) (now (a .subs)) (a .d) (length (now (a .rows))) (length (now (a .events))) ≡ true = sym (c .before .before .before .before .before .before .before .before .can-scan .ensures) ∙ not-false _ (c .before .before .before .before .before .before .before .if1 .left) in
+    let yes : scans (a .by) (now (a .subs)) (a .d) (length (now (a .rows))) (length (now (a .events))) ≡ true = sym (c .before .before .before .before .before .before .before .before .can-scan .ensures) ∙ not-false _ (c .before .before .before .before .before .before .before .if1 .left) in
     let r = c .before .before .before .rounds .ensures in
     rw yes (r .0, r .1)
 

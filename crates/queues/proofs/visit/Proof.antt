@@ -22,7 +22,7 @@ returns c =
     let pre = c .before .before .before .pre in
     let s = c .before .load .ensures in
     let h = c .if1 .taken in
-    visited-browser (a .clock) (a .i) (a .d) (now (a .subs)) (now (a .rows)) (now (a .events)) (pre .0) (pre .1) (rw s at h)
+    visited-browser (a .by) (a .i) (a .d) (now (a .subs)) (now (a .rows)) (now (a .events)) (pre .0) (pre .1) (rw s at h)
 
 has-credit-requires : tie.Need-has-credit-requires
 has-credit-requires c κs = search needs
@@ -37,7 +37,7 @@ returns-2 c =
     let s = c .before .before .before .load .ensures in
     let h = c .before .before .if1 .left in
     let k = sym (c .before .has-credit .ensures) ∙ not-true _ (c .if2 .taken) in
-    visited-spent (a .clock) (a .i) (a .d) (now (a .subs)) (now (a .rows)) (now (a .events)) (pre .0) (pre .1) (rw s at h) (rw s at k)
+    visited-spent (a .by) (a .i) (a .d) (now (a .subs)) (now (a .rows)) (now (a .events)) (pre .0) (pre .1) (rw s at h) (rw s at k)
 
 first-waiting-requires : tie.Need-first-waiting-requires
 first-waiting-requires c κs = search needs
@@ -57,7 +57,7 @@ after-look-requires c κs =
     let ok = pre .0 in
     let f = c .before .before .first-waiting .ensures in
     let l = c .before .look .result in
-    let e : (c .before .before .first-waiting .result ≤ l .end) × (l .end ≤ a .d .used) = looks-end (l .chosen) (a .clock) (c .before .before .before .before .before .before .before .load .result) (c .before .before .first-waiting .result) (a .d .used) (now (a .rows)) (c .before .look .last .0) (l .at) (l .end) (l .cursor) (c .before .look .ensures) in
+    let e : (c .before .before .first-waiting .result ≤ l .end) × (l .end ≤ a .d .used) = looks-end (l .chosen) (a .by) (c .before .before .before .before .before .before .before .load .result) (c .before .before .first-waiting .result) (a .d .used) (now (a .rows)) (c .before .look .last .0) (l .at) (l .end) (l .cursor) (c .before .look .ensures) in
     let less : a .d .used - l .end ≤ a .d .waiting = omega arith in
     (e .1, less)
 
@@ -72,7 +72,7 @@ give-requires c κs =
     let credited = sym (c .before .before .before .before .before .before .before .before .before .before .has-credit .ensures) ∙ not-false _ (c .before .before .before .before .before .before .before .before .before .if2 .left) in
     let head = c .before .before .before .before .after-look .ensures in
     let m = rw (c .before .before .before .if3 .taken) at (l .ensures) in
-    rw (s, head) (found-gives (a .clock) (a .i) (a .d) (now (a .subs)) (now (a .rows)) (now (a .events)) (pre .0) (pre .1) (rw s at closed) (rw s at credited) _ _ _ (rw (s, f) at m))
+    rw (s, head) (found-gives (a .by) (a .i) (a .d) (now (a .subs)) (now (a .rows)) (now (a .events)) (pre .0) (pre .1) (rw s at closed) (rw s at credited) _ _ _ (rw (s, f) at m))
 
 same-length-3 : tie.Need-same-length-3
 same-length-3 c = search needs
@@ -95,7 +95,7 @@ returns-3 c =
     let head = c .before .before .before .before .before .before .before .before .after-look .ensures in
     let m = rw (c .before .before .before .before .before .before .before .if3 .taken) at (l .ensures) in
     let g = c .before .before .before .give .ensures in
-    visited-found (a .clock) (a .i) (a .d) (now (a .subs)) (now (a .rows)) (now (a .events)) (pre .0) (pre .1) (rw s at closed) (rw s at credited) _ _ _ (rw (s, f) at m) _ _ _ _ (rw (s, head) at g)
+    visited-found (a .by) (a .i) (a .d) (now (a .subs)) (now (a .rows)) (now (a .events)) (pre .0) (pre .1) (rw s at closed) (rw s at credited) _ _ _ (rw (s, f) at m) _ _ _ _ (rw (s, head) at g)
 
 store-requires : tie.Need-store-requires
 store-requires c κs = search needs
@@ -118,7 +118,7 @@ returns-4 c =
     let head = c .before .before .before .before .after-look .ensures in
     let m = rw (c .before .before .before .if3 .left) at (l .ensures) in
     let t = c .before .store .ensures in
-    rw (head, rw s at t) (visited-missed (a .clock) (a .i) (a .d) (now (a .subs)) (now (a .rows)) (now (a .events)) (pre .0) (pre .1) (rw s at closed) (rw s at credited) _ _ _ (rw (s, f) at m))
+    rw (head, rw s at t) (visited-missed (a .by) (a .i) (a .d) (now (a .subs)) (now (a .rows)) (now (a .events)) (pre .0) (pre .1) (rw s at closed) (rw s at credited) _ _ _ (rw (s, f) at m))
 
 pub visit-spec : {M : Type 1} → statement M
 visit-spec =

@@ -25,7 +25,7 @@ abbrev μ-loop : tie.MeasureT-loop
 
 loop-holds : tie.Need-loop-holds Inv-loop μ-loop
 loop-holds c = let a = c .args in
-    (search needs, search needs, refl, search needs, tally-none (expiredRow (a .clock)) (a .from) (now (a .rows)), compacted-none _ _ _)
+    (search needs, search needs, refl, search needs, tally-none (expiredRow (a .by)) (a .from) (now (a .rows)), compacted-none _ _ _)
 
 mul-row : tie.Need-mul-row Inv-loop μ-loop
 mul-row c = search needs
@@ -51,9 +51,9 @@ loop-less c = search needs
 loop-again : tie.Need-loop-again Inv-loop μ-loop
 loop-again c = let l = c .before .before .before .before .before .loop in
     let a = c .before .before .before .before .before .before .args in
-    let p : Row → Bool = expiredRow (a .clock) in
+    let p : Row → Bool = expiredRow (a .by) in
     let x : Row = getD (l .rows) (l .i) [] in
-    let hit : p x ≡ true = sym (ap (expired (signed (a .clock))) (c .before .before .entry-of .ensures)) ∙ sym (c .before .expired-by .ensures) ∙ c .if1 .taken in
+    let hit : p x ≡ true = sym (ap (expired (signed (a .by))) (c .before .before .entry-of .ensures)) ∙ sym (c .before .expired-by .ensures) ∙ c .if1 .taken in
     let at : x ≡ getD (now (a .rows)) (l .i) [] = compacted-at p (a .from) (l .i) _ (l .rows) (search needs) (search needs) (l .inv .5) in (
       search needs,
       search needs,
@@ -72,9 +72,9 @@ loop-less-2 c = search needs
 loop-again-2 : tie.Need-loop-again-2 Inv-loop μ-loop
 loop-again-2 c = let l = c .before .before .before .before .before .before .loop in
     let a = c .before .before .before .before .before .before .before .args in
-    let p : Row → Bool = expiredRow (a .clock) in
+    let p : Row → Bool = expiredRow (a .by) in
     let x : Row = getD (l .rows) (l .i) [] in
-    let miss : p x ≡ false = sym (ap (expired (signed (a .clock))) (c .before .before .before .entry-of .ensures)) ∙ sym (c .before .before .expired-by .ensures) ∙ c .before .if1 .left in
+    let miss : p x ≡ false = sym (ap (expired (signed (a .by))) (c .before .before .before .entry-of .ensures)) ∙ sym (c .before .before .expired-by .ensures) ∙ c .before .if1 .left in
     let at : x ≡ getD (now (a .rows)) (l .i) [] = compacted-at p (a .from) (l .i) _ (l .rows) (search needs) (search needs) (l .inv .5) in (
       search needs,
       search needs,
@@ -102,9 +102,9 @@ loop-less-3 c = search needs
 loop-again-3 : tie.Need-loop-again-3 Inv-loop μ-loop
 loop-again-3 c = let l = c .before .before .before .before .before .before .loop in
     let a = c .before .before .before .before .before .before .before .args in
-    let p : Row → Bool = expiredRow (a .clock) in
+    let p : Row → Bool = expiredRow (a .by) in
     let x : Row = getD (l .rows) (l .i) [] in
-    let miss : p x ≡ false = sym (ap (expired (signed (a .clock))) (c .before .before .before .entry-of .ensures)) ∙ sym (c .before .before .expired-by .ensures) ∙ c .before .if1 .left in
+    let miss : p x ≡ false = sym (ap (expired (signed (a .by))) (c .before .before .before .entry-of .ensures)) ∙ sym (c .before .before .expired-by .ensures) ∙ c .before .if1 .left in
     let at : x ≡ getD (now (a .rows)) (l .i) [] = compacted-at p (a .from) (l .i) _ (l .rows) (search needs) (search needs) (l .inv .5) in (
       search needs,
       search needs,
@@ -120,7 +120,7 @@ same-length c = search needs
 returns : tie.Need-returns Inv-loop μ-loop
 returns c = let l = c .before .loop in
     let a = c .before .before .args in
-    let p : Row → Bool = expiredRow (a .clock) in
+    let p : Row → Bool = expiredRow (a .by) in
     let e : l .i ≡ a .to = omega arith in
     (l .inv .4 ∙ ap (λ (m : ℕ). tally p (slice (a .from) m (now (a .rows)))) e, l .inv .5 ∙ ap (λ (m : ℕ). compacted p (a .from) m (now (a .rows))) e)
 

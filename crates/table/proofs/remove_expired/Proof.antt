@@ -26,7 +26,7 @@ compact-expired-requires c κs = search needs
 
 sub-close-gap : tie.Need-sub-close-gap
 sub-close-gap c = let a = c .before .before .before .before .before .before .before .args in
-    omega (arith, tally-most (expiredRow (a .clock)) (a .from) (a .to) (now (a .rows)) (omega arith) (omega arith), c .before .before .compact-expired .ensures .0)
+    omega (arith, tally-most (expiredRow (a .by)) (a .from) (a .to) (now (a .rows)) (omega arith) (omega arith), c .before .before .compact-expired .ensures .0)
 
 close-gap-requires : tie.Need-close-gap-requires
 close-gap-requires c κs = search needs
@@ -37,7 +37,7 @@ same-length c = search needs
 returns-4 : tie.Need-returns-4
 returns-4 c = let a = c .before .before .before .before .before .before .before .before .before .args in
     let s = c .before .before .before .before .compact-expired .ensures in
-    let p : Row → Bool = expiredRow (a .clock) in
+    let p : Row → Bool = expiredRow (a .by) in
     let rs : List Row = now (a .rows) in (
       s .0 ∙ sym (gone-in p (a .from) (a .to) (a .n) rs (omega arith) (omega arith) (omega arith)),
       taken-out p (a .from) (a .to) (a .n) _ rs _ _ (omega arith) (omega arith) (omega arith) (s .0) (s .1) (c .before .close-gap .ensures),

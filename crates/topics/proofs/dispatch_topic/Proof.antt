@@ -19,12 +19,12 @@ use Rattle.topics.proofs.dispatch_topic.Tie as tie
 returns : tie.Need-returns
 returns c =
     let a = c .before .args in
-    leaves-no _ (Dispatched (a .d) (a .d)) (dispatchTopic (a .clock)) (a .d) (now (a .subs)) (now (a .rows)) (now (a .events)) (second-no (fits (now (a .subs)) (a .d) (length (now (a .rows))) (length (now (a .events)))) (leb (a .clock) (2 ^ 62)) (not (a .d .queue)) (lt-leb (a .clock) (2 ^ 62) (c .if1 .taken)))
+    leaves-no _ (Dispatched (a .d) (a .d)) (dispatchTopic (a .by)) (a .d) (now (a .subs)) (now (a .rows)) (now (a .events)) (second-no (fits (now (a .subs)) (a .d) (length (now (a .rows))) (length (now (a .events)))) (leb (a .by) (2 ^ 62)) (not (a .d .queue)) (lt-leb (a .by) (2 ^ 62) (c .if1 .taken)))
 
 returns-2 : tie.Need-returns-2
 returns-2 c =
     let a = c .before .before .args in
-    leaves-no _ (Dispatched (a .d) (a .d)) (dispatchTopic (a .clock)) (a .d) (now (a .subs)) (now (a .rows)) (now (a .events)) (third-no (fits (now (a .subs)) (a .d) (length (now (a .rows))) (length (now (a .events)))) (leb (a .clock) (2 ^ 62)) (not (a .d .queue)) (ap not (c .if2 .taken)))
+    leaves-no _ (Dispatched (a .d) (a .d)) (dispatchTopic (a .by)) (a .d) (now (a .subs)) (now (a .rows)) (now (a .events)) (third-no (fits (now (a .subs)) (a .d) (length (now (a .rows))) (length (now (a .events)))) (leb (a .by) (2 ^ 62)) (not (a .d .queue)) (ap not (c .if2 .taken)))
 
 fits-requires : tie.Need-fits-requires
 fits-requires c κs = search needs
@@ -35,7 +35,7 @@ same-length c = search needs
 returns-3 : tie.Need-returns-3
 returns-3 c =
     let a = c .before .before .before .before .before .args in
-    leaves-no _ (Dispatched (a .d) (a .d)) (dispatchTopic (a .clock)) (a .d) (now (a .subs)) (now (a .rows)) (now (a .events)) (first-no (fits (now (a .subs)) (a .d) (length (now (a .rows))) (length (now (a .events)))) (leb (a .clock) (2 ^ 62)) (not (a .d .queue)) (sym (c .before .fits2 .ensures) ∙ not-true _ (c .if3 .taken)))
+    leaves-no _ (Dispatched (a .d) (a .d)) (dispatchTopic (a .by)) (a .d) (now (a .subs)) (now (a .rows)) (now (a .events)) (first-no (fits (now (a .subs)) (a .d) (length (now (a .rows))) (length (now (a .events)))) (leb (a .by) (2 ^ 62)) (not (a .d .queue)) (sym (c .before .fits2 .ensures) ∙ not-true _ (c .if3 .taken)))
 
 serve-all-requires : tie.Need-serve-all-requires
 serve-all-requires c κs =
@@ -56,8 +56,8 @@ returns-4 : tie.Need-returns-4
 returns-4 c =
     let a = c .before .before .before .before .before .before .before .before .before .before .before .before .args in
     let f = sym (c .before .before .before .before .before .before .before .before .fits2 .ensures) ∙ not-false _ (c .before .before .before .before .before .before .before .if3 .left) in
-    let clock = le-leb (a .clock) (2 ^ 62) (c .before .before .before .before .before .before .before .before .before .before .before .if1 .left) in
-    when-leaves _ _ (dispatchTopic (a .clock)) (a .d) _ (now (a .subs)) (now (a .rows)) (now (a .events)) _ _ _ (three-yes (fits (now (a .subs)) (a .d) (length (now (a .rows))) (length (now (a .events)))) (leb (a .clock) (2 ^ 62)) (not (a .d .queue)) f clock (ap not (c .before .before .before .before .before .before .before .before .before .before .if2 .left))) (c .before .before .before .serve-all .ensures)
+    let clock = le-leb (a .by) (2 ^ 62) (c .before .before .before .before .before .before .before .before .before .before .before .if1 .left) in
+    when-leaves _ _ (dispatchTopic (a .by)) (a .d) _ (now (a .subs)) (now (a .rows)) (now (a .events)) _ _ _ (three-yes (fits (now (a .subs)) (a .d) (length (now (a .rows))) (length (now (a .events)))) (leb (a .by) (2 ^ 62)) (not (a .d .queue)) f clock (ap not (c .before .before .before .before .before .before .before .before .before .before .if2 .left))) (c .before .before .before .serve-all .ensures)
 
 pub dispatch-topic-spec : {M : Type 1} → statement M
 dispatch-topic-spec =

@@ -15,7 +15,7 @@ abbrev μ-loop : tie.MeasureT-loop
 μ-loop subs₀ rows₀ events₀ clock n d₀ base₀ i₀ subs rows events d base i = n - i
 
 loop-holds : tie.Need-loop-holds Inv-loop μ-loop
-loop-holds c = let a = c .args in round-start (a .clock) (now (a .subs)) (now (a .rows)) (now (a .events)) (a .before) (c .pre .0)
+loop-holds c = let a = c .args in round-start (a .by) (now (a .subs)) (now (a .rows)) (now (a .events)) (a .before) (c .pre .0)
 
 load-requires : tie.Need-load-requires Inv-loop μ-loop
 load-requires c κs = search needs
@@ -28,7 +28,7 @@ serve-topic-requires c κs =
     let l = c .before .before .before .before .before .before .before .before .loop in
     let a = c .before .before .before .before .before .before .before .before .before .args in
     let pre = c .before .before .before .before .before .before .before .before .before .pre in
-    round-fine (a .clock) (now (a .subs)) (now (a .rows)) (now (a .events)) (a .before) (pre .0) (l .subs) (l .rows) (l .events) (l .d) (l .base) (l .i) (l .inv) (c .before .before .before .before .before .before .before .loop-test .taken) _ (c .before .before .before .before .before .load .ensures) (pre .2)
+    round-fine (a .by) (now (a .subs)) (now (a .rows)) (now (a .events)) (a .before) (pre .0) (l .subs) (l .rows) (l .events) (l .d) (l .base) (l .i) (l .inv) (c .before .before .before .before .before .before .before .loop-test .taken) _ (c .before .before .before .before .before .load .ensures) (pre .2)
 
 add-base : tie.Need-add-base Inv-loop μ-loop
 add-base c =
@@ -64,14 +64,14 @@ loop-again c =
     let a = c .before .before .before .before .before .before .before .before .before .before .before .before .before .before .before .before .before .before .before .args in
     let pre = c .before .before .before .before .before .before .before .before .before .before .before .before .before .before .before .before .before .before .before .pre in
     let v = c .before .before .before .before .before .before .before .before .before .serve-topic in
-    round-turn (a .clock) (now (a .subs)) (now (a .rows)) (now (a .events)) (a .before) (pre .0) (l .subs) (l .rows) (l .events) (l .d) (l .base) (l .i) (l .inv) (c .before .before .before .before .before .before .before .before .before .before .before .before .before .before .before .before .before .loop-test .taken) _ _ _ _ _ _ (c .before .before .before .before .before .before .before .before .before .before .before .before .before .before .before .load .ensures) (c .before .store .ensures) (v .kept .0) (v .kept .1 .0) (v .ensures .0) (v .ensures .1 .0) (v .ensures .1 .1 .0) (v .ensures .1 .1 .1 .0) (v .ensures .1 .1 .1 .1)
+    round-turn (a .by) (now (a .subs)) (now (a .rows)) (now (a .events)) (a .before) (pre .0) (l .subs) (l .rows) (l .events) (l .d) (l .base) (l .i) (l .inv) (c .before .before .before .before .before .before .before .before .before .before .before .before .before .before .before .before .before .loop-test .taken) _ _ _ _ _ _ (c .before .before .before .before .before .before .before .before .before .before .before .before .before .before .before .load .ensures) (c .before .store .ensures) (v .kept .0) (v .kept .1 .0) (v .ensures .0) (v .ensures .1 .0) (v .ensures .1 .1 .0) (v .ensures .1 .1 .1 .0) (v .ensures .1 .1 .1 .1)
 
 add-base-3 : tie.Need-add-base-3 Inv-loop μ-loop
 add-base-3 c =
     let l = c .before .before .before .before .before .before .before .loop in
     let a = c .before .before .before .before .before .before .before .before .args in
     let pre = c .before .before .before .before .before .before .before .before .pre in
-    let f = round-fine (a .clock) (now (a .subs)) (now (a .rows)) (now (a .events)) (a .before) (pre .0) (l .subs) (l .rows) (l .events) (l .d) (l .base) (l .i) (l .inv) (c .before .before .before .before .before .before .loop-test .taken) _ (c .before .before .before .before .load .ensures) (pre .2) in
+    let f = round-fine (a .by) (now (a .subs)) (now (a .rows)) (now (a .events)) (a .before) (pre .0) (l .subs) (l .rows) (l .events) (l .d) (l .base) (l .i) (l .inv) (c .before .before .before .before .before .before .loop-test .taken) _ (c .before .before .before .before .load .ensures) (pre .2) in
     let r = f .rows in
     let u = f .used in
     omega arith
@@ -81,7 +81,7 @@ add-base-4 c =
     let l = c .before .before .before .before .before .before .before .before .loop in
     let a = c .before .before .before .before .before .before .before .before .before .args in
     let pre = c .before .before .before .before .before .before .before .before .before .pre in
-    let f = round-fine (a .clock) (now (a .subs)) (now (a .rows)) (now (a .events)) (a .before) (pre .0) (l .subs) (l .rows) (l .events) (l .d) (l .base) (l .i) (l .inv) (c .before .before .before .before .before .before .before .loop-test .taken) _ (c .before .before .before .before .before .load .ensures) (pre .2) in
+    let f = round-fine (a .by) (now (a .subs)) (now (a .rows)) (now (a .events)) (a .before) (pre .0) (l .subs) (l .rows) (l .events) (l .d) (l .base) (l .i) (l .inv) (c .before .before .before .before .before .before .before .loop-test .taken) _ (c .before .before .before .before .before .load .ensures) (pre .2) in
     let r = f .rows in
     let u = f .used in
     omega arith
@@ -102,7 +102,7 @@ loop-again-2 c =
     let l = c .before .before .before .before .before .before .before .before .loop in
     let a = c .before .before .before .before .before .before .before .before .before .args in
     let pre = c .before .before .before .before .before .before .before .before .before .pre in
-    round-pass (a .clock) (now (a .subs)) (now (a .rows)) (now (a .events)) (a .before) (pre .0) (l .subs) (l .rows) (l .events) (l .d) (l .base) (l .i) (l .inv) (c .before .before .before .before .before .before .before .loop-test .taken) _ (c .before .before .before .before .before .load .ensures) (sym (c .before .before .before .can-serve .ensures) ∙ c .before .before .if1 .left) (pre .2)
+    round-pass (a .by) (now (a .subs)) (now (a .rows)) (now (a .events)) (a .before) (pre .0) (l .subs) (l .rows) (l .events) (l .d) (l .base) (l .i) (l .inv) (c .before .before .before .before .before .before .before .loop-test .taken) _ (c .before .before .before .before .before .load .ensures) (sym (c .before .before .before .can-serve .ensures) ∙ c .before .before .if1 .left) (pre .2)
 
 same-length : tie.Need-same-length Inv-loop μ-loop
 same-length c = search needs
@@ -118,7 +118,7 @@ returns c =
     let l = c .before .loop in
     let a = c .before .before .args in
     let pre = c .before .before .pre in
-    round-end (a .clock) (now (a .subs)) (now (a .rows)) (now (a .events)) (a .before) (pre .0) (l .subs) (l .rows) (l .events) (l .d) (l .base) (l .i) (l .inv) (c .loop-test .left) (pre .1)
+    round-end (a .by) (now (a .subs)) (now (a .rows)) (now (a .events)) (a .before) (pre .0) (l .subs) (l .rows) (l .events) (l .d) (l .base) (l .i) (l .inv) (c .loop-test .left) (pre .1)
 
 pub serve-all-spec : {M : Type 1} → statement M
 serve-all-spec =

@@ -37,7 +37,7 @@ abbrev μ-loop : tie.MeasureT-loop
 μ-loop rows₀ events₀ base clock s₀ d₀ rows events s d = s .held
 
 loop-holds : tie.Need-loop-holds Inv-loop μ-loop
-loop-holds c = let a = c .args in going-start (a .clock) (a .base) (now (a .rows)) (now (a .events)) (a .start) (a .before) (c .pre)
+loop-holds c = let a = c .args in going-start (a .by) (a .base) (now (a .rows)) (now (a .events)) (a .start) (a .before) (c .pre)
 
 has-credit-requires : tie.Need-has-credit-requires Inv-loop μ-loop
 has-credit-requires c κs = search needs
@@ -54,7 +54,7 @@ returns c =
     let a = c .before .before .before .before .before .args in
     let some : 0 < l .s .held = c .before .before .if1 .taken in
     let no : creditOf (l .s) ≡ false = sym (c .before .has-credit .ensures) ∙ not-true _ (c .if2 .taken) in
-    (going-stop (a .clock) (a .base) (now (a .rows)) (now (a .events)) (a .start) (a .before) (l .rows) (l .events) (l .s) (l .d) (l .inv) some no, (l .inv .later, (l .inv .kept, (l .inv .past, l .inv .strict))))
+    (going-stop (a .by) (a .base) (now (a .rows)) (now (a .events)) (a .start) (a .before) (l .rows) (l .events) (l .s) (l .d) (l .inv) some no, (l .inv .later, (l .inv .kept, (l .inv .past, l .inv .strict))))
 
 add-first : tie.Need-add-first Inv-loop μ-loop
 add-first c = search needs
@@ -102,7 +102,7 @@ loop-again c =
     let yes : creditOf (l .s) ≡ true = sym (c .before .before .before .before .before .before .before .before .before .before .before .before .has-credit .ensures) ∙ not-false _ (c .before .before .before .before .before .before .before .before .before .before .before .if2 .left) in
     let over = sym (c .before .before .before .before .before .before .before .expired-by .ensures) ∙ c .before .before .before .before .before .before .if3 .taken in
     let e = c .before .before .before .before .before .before .before .before .entry-of .ensures in
-    going-lost (a .clock) (a .base) (now (a .rows)) (now (a .events)) (a .start) (a .before) (l .rows) (l .events) (l .s) (l .d) (l .inv) some yes _ _ (c .before .count-expired .ensures) (c .before .before .before .before .close-gap .ensures) (rw (e, signed-pos (a .clock) (omega (arith, l .inv .fine .clock))) at over)
+    going-lost (a .by) (a .base) (now (a .rows)) (now (a .events)) (a .start) (a .before) (l .rows) (l .events) (l .s) (l .d) (l .inv) some yes _ _ (c .before .count-expired .ensures) (c .before .before .before .before .close-gap .ensures) (rw (e, signed-pos (a .by) (omega (arith, l .inv .fine .clock))) at over)
 
 push-message-requires : tie.Need-push-message-requires Inv-loop μ-loop
 push-message-requires c κs = search needs
@@ -159,7 +159,7 @@ loop-again-2 c =
     let head = c .before .before .before .count-dispatched .ensures ∙ ap (λ (x : Head). withCounters (withDispatched (x .stats)) x) (p .ensures .0 ∙ pushed-room (l .d) (length (l .events)) room) in
     let said = p .ensures .1 ∙ ap (λ (z : ℤ). set (l .events) (l .d .events) (eventWords (message (idOf (l .s .conn) (l .s .session) (l .s .value)) (e .seq) z))) (toZ-ofZ w32 (e .redelivery) f)
     ∙ ap (λ (x : Entry). set (l .events) (l .d .events) (eventWords (message (idOf (l .s .conn) (l .s .session) (l .s .value)) (x .seq) (x .redelivery)))) is in
-    going-sent (a .clock) (a .base) (now (a .rows)) (now (a .events)) (a .start) (a .before) (l .rows) (l .events) (l .s) (l .d) (l .inv) some yes _ _ _ _ (c .sent .ensures ∙ sent-is (withHeld (l .s .held - 1) (l .s)) (omega arith) (omega arith)) head said (c .before .before .flown .ensures .0) (c .before .before .flown .ensures .1) (rw (is, signed-pos (a .clock) (omega (arith, g .clock))) at fresh)
+    going-sent (a .by) (a .base) (now (a .rows)) (now (a .events)) (a .start) (a .before) (l .rows) (l .events) (l .s) (l .d) (l .inv) some yes _ _ _ _ (c .sent .ensures ∙ sent-is (withHeld (l .s .held - 1) (l .s)) (omega arith) (omega arith)) head said (c .before .before .flown .ensures .0) (c .before .before .flown .ensures .1) (rw (is, signed-pos (a .by) (omega (arith, g .clock))) at fresh)
 
 same-length-3 : tie.Need-same-length-3 Inv-loop μ-loop
 same-length-3 c = search needs
@@ -171,7 +171,7 @@ returns-2 : tie.Need-returns-2 Inv-loop μ-loop
 returns-2 c =
     let l = c .before .before .loop in
     let a = c .before .before .before .args in
-    (going-none (a .clock) (a .base) (now (a .rows)) (now (a .events)) (a .start) (a .before) (l .rows) (l .events) (l .s) (l .d) (l .inv) (c .if1 .left), (l .inv .later, (l .inv .kept, (l .inv .past, l .inv .strict))))
+    (going-none (a .by) (a .base) (now (a .rows)) (now (a .events)) (a .start) (a .before) (l .rows) (l .events) (l .s) (l .d) (l .inv) (c .if1 .left), (l .inv .later, (l .inv .kept, (l .inv .past, l .inv .strict))))
 
 pub serve-topic-spec : {M : Type 1} → statement M
 serve-topic-spec =

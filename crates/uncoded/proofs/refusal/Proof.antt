@@ -6,8 +6,7 @@ use borrow.Author.Tests.{not-true, not-false}
 use lib.ListN.{length}
 use denote.Ref.{now}
 use Rattle.definition.specs.Calls.{stateShort, short}
-use Rattle.definition.specs.Layout.{soundBuffers, lengthsOf}
-use Rattle.sound.specs.Sound.{lent}
+use Rattle.definition.specs.Layout.{soundBuffers, lengthsOf, lent}
 use Rattle.engine.proofs.Ran.{short-state, short-events, not-short, both-no, both-yes}
 use Rattle.uncoded.proofs.Bare.{bare-short, bare-unsound, spent-refusal, left-refusal}
 use borrow.Author.Needs.{needs}

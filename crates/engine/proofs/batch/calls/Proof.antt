@@ -4,9 +4,8 @@ use mathlib.Core.Bool.{true, not, _&&_}
 use borrow.Author.Tests.{not-true, not-false}
 use denote.Ref.{now}
 use Rattle.definition.specs.Calls.{stateShort}
-use Rattle.definition.specs.Layout.{soundBuffers, lengthsOf}
+use Rattle.definition.specs.Layout.{soundBuffers, lengthsOf, lent}
 use Rattle.definition.proofs.Tests.{and-left, and-right}
-use Rattle.sound.specs.Sound.{lent}
 use Rattle.engine.proofs.Batched.{not-begun, begun}
 use borrow.Author.Needs.{needs}
 use Rattle.engine.proofs.batch.calls.Statement.{statement}

@@ -5,11 +5,11 @@ use Prim.Native.Nat.{_-_}
 use native.Mathlib.Omega.{arith}
 use lib.ListN.{length, getD, set}
 use denote.Ref.{now}
-use Rattle.sound.specs.Sound.{lent}
 use Rattle.engine.proofs.Batched.{Sofar, none-yet, last-call, last-place, no-room, still-roomy, fit-entry, one-more}
 use borrow.Author.Needs.{needs}
 use Rattle.engine.proofs.batch.run_each.Statement.{statement}
 use Rattle.engine.proofs.batch.run_each.Tie as tie
+use Rattle.definition.specs.Layout.{lent}
 
 abbrev Inv-loop : tie.InvT-loop
 Inv-loop head₀ subs₀ rows₀ events₀ words outcomes₀ i₀ from₀ head subs rows events outcomes i from =

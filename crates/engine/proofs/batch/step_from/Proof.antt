@@ -4,8 +4,7 @@ use mathlib.Core.Bool.{false}
 use Prim.Native.Nat.{ℕ}
 use denote.Ref.{now}
 use Rattle.definition.specs.Calls.{short}
-use Rattle.definition.specs.Layout.{lengthsOf}
-use Rattle.sound.specs.Sound.{lent}
+use Rattle.definition.specs.Layout.{lengthsOf, lent}
 use Rattle.engine.proofs.Batched.{part-length, part-called, back-front}
 use borrow.Author.Needs.{needs}
 use Rattle.engine.proofs.batch.step_from.Statement.{statement}

@@ -21,7 +21,7 @@ returns : tie.Need-returns
 returns c =
     let a = c .before .before .args in
     let no : acceptsOf (a .s) (a .e) ≡ false = sym (c .before .accepts .ensures) ∙ not-true _ (c .if1 .taken) in
-    copied-no (a .clock) (a .limit) (a .e) (a .base) (a .s) (a .used) (now (a .rows)) no
+    copied-no (a .by) (a .limit) (a .e) (a .base) (a .s) (a .used) (now (a .rows)) no
 
 add-from : tie.Need-add-from
 add-from c = search needs
@@ -71,9 +71,9 @@ returns-2 c =
     let t = c .before .before .before .trim .ensures .1 in
     let yes : acceptsOf (a .s) (a .e) ≡ true = sym (c .before .before .before .before .before .before .before .before .before .before .before .before .before .before .before .accepts .ensures) ∙ not-false _ (c .before .before .before .before .before .before .before .before .before .before .before .before .before .before .if1 .left) in
     let put = c .before .before .before .before .before .before .before .insert-row .ensures ∙ ap₂ (λ (n : ℕ) (r : Row). insertRow n (a .used) r (now (a .rows))) (c .before .before .before .before .before .before .before .before .before .before .place-from-end .ensures) (c .before .before .before .before .before .before .before .before .held-row .ensures) in
-    let y = copied-yes (a .clock) (a .limit) (a .e) (a .base) (a .s) (a .used) (now (a .rows)) yes in (
-      ap (got (a .s) (a .used)) (t .0 ∙ ap (goneOf (a .clock) (a .limit) (a .base + a .s .inflight) (a .s .held + 1) (a .used + 1)) put) ∙ y .0,
-      t .1 ∙ ap (trimmed (a .clock) (a .limit) (a .base + a .s .inflight) (a .s .held + 1) (a .used + 1)) put ∙ y .1,
+    let y = copied-yes (a .by) (a .limit) (a .e) (a .base) (a .s) (a .used) (now (a .rows)) yes in (
+      ap (got (a .s) (a .used)) (t .0 ∙ ap (goneOf (a .by) (a .limit) (a .base + a .s .inflight) (a .s .held + 1) (a .used + 1)) put) ∙ y .0,
+      t .1 ∙ ap (trimmed (a .by) (a .limit) (a .base + a .s .inflight) (a .s .held + 1) (a .used + 1)) put ∙ y .1,
     )
 
 pub fan-out-spec : {M : Type 1} → statement M

@@ -20,7 +20,7 @@ abbrev μ-loop : tie.MeasureT-loop
 μ-loop subs₀ rows₀ before e clock n limit used₀ expired₀ over₀ base₀ i₀ subs rows used expired over base i = n - i
 
 loop-holds : tie.Need-loop-holds Inv-loop μ-loop
-loop-holds c = let a = c .args in round-first (a .clock) (a .e) (now (a .subs)) (now (a .rows)) (a .before) (c .pre .0) (c .pre .1) (c .pre .2)
+loop-holds c = let a = c .args in round-first (a .by) (a .e) (now (a .subs)) (now (a .rows)) (a .before) (c .pre .0) (c .pre .1) (c .pre .2)
 
 load-requires : tie.Need-load-requires Inv-loop μ-loop
 load-requires c κs = search needs
@@ -30,14 +30,14 @@ fan-out-requires c κs =
     let l = c .before .before .before .before .loop in
     let a = c .before .before .before .before .before .args in
     let pre = c .before .before .before .before .before .pre in
-    round-fine (a .clock) (a .e) (now (a .subs)) (now (a .rows)) (a .before) (pre .0) (pre .1) (pre .2) (l .subs) (l .rows) (l .used) (l .expired) (l .over) (l .base) (l .i) (l .inv) (c .before .before .before .loop-test .taken) _ (c .before .load .ensures)
+    round-fine (a .by) (a .e) (now (a .subs)) (now (a .rows)) (a .before) (pre .0) (pre .1) (pre .2) (l .subs) (l .rows) (l .used) (l .expired) (l .over) (l .base) (l .i) (l .inv) (c .before .before .before .loop-test .taken) _ (c .before .load .ensures)
 
 add-expired : tie.Need-add-expired Inv-loop μ-loop
 add-expired c =
     let l = c .before .before .before .before .before .before .before .before .loop in
     let a = c .before .before .before .before .before .before .before .before .before .args in
     let pre = c .before .before .before .before .before .before .before .before .before .pre in
-    let f = round-few (a .clock) (a .e) (now (a .subs)) (now (a .rows)) (a .before) (pre .0) (pre .1) (pre .2) (l .subs) (l .rows) (l .used) (l .expired) (l .over) (l .base) (l .i) (l .inv) (c .before .before .before .before .before .before .before .loop-test .taken) _ _ (c .before .before .before .before .before .load .ensures) (c .before .before .before .fan-out .ensures .0) in
+    let f = round-few (a .by) (a .e) (now (a .subs)) (now (a .rows)) (a .before) (pre .0) (pre .1) (pre .2) (l .subs) (l .rows) (l .used) (l .expired) (l .over) (l .base) (l .i) (l .inv) (c .before .before .before .before .before .before .before .loop-test .taken) _ _ (c .before .before .before .before .before .load .ensures) (c .before .before .before .fan-out .ensures .0) in
     omega (arith, f .1)
 
 add-over : tie.Need-add-over Inv-loop μ-loop
@@ -45,7 +45,7 @@ add-over c =
     let l = c .before .before .before .before .before .before .before .before .before .loop in
     let a = c .before .before .before .before .before .before .before .before .before .before .args in
     let pre = c .before .before .before .before .before .before .before .before .before .before .pre in
-    let f = round-few (a .clock) (a .e) (now (a .subs)) (now (a .rows)) (a .before) (pre .0) (pre .1) (pre .2) (l .subs) (l .rows) (l .used) (l .expired) (l .over) (l .base) (l .i) (l .inv) (c .before .before .before .before .before .before .before .before .loop-test .taken) _ _ (c .before .before .before .before .before .before .load .ensures) (c .before .before .before .before .fan-out .ensures .0) in
+    let f = round-few (a .by) (a .e) (now (a .subs)) (now (a .rows)) (a .before) (pre .0) (pre .1) (pre .2) (l .subs) (l .rows) (l .used) (l .expired) (l .over) (l .base) (l .i) (l .inv) (c .before .before .before .before .before .before .before .before .loop-test .taken) _ _ (c .before .before .before .before .before .before .load .ensures) (c .before .before .before .before .fan-out .ensures .0) in
     omega (arith, f .2)
 
 add-base : tie.Need-add-base Inv-loop μ-loop
@@ -53,7 +53,7 @@ add-base c =
     let l = c .before .before .before .before .before .before .before .before .before .before .loop in
     let a = c .before .before .before .before .before .before .before .before .before .before .before .args in
     let pre = c .before .before .before .before .before .before .before .before .before .before .before .pre in
-    let f = round-few (a .clock) (a .e) (now (a .subs)) (now (a .rows)) (a .before) (pre .0) (pre .1) (pre .2) (l .subs) (l .rows) (l .used) (l .expired) (l .over) (l .base) (l .i) (l .inv) (c .before .before .before .before .before .before .before .before .before .loop-test .taken) _ _ (c .before .before .before .before .before .before .before .load .ensures) (c .before .before .before .before .before .fan-out .ensures .0) in
+    let f = round-few (a .by) (a .e) (now (a .subs)) (now (a .rows)) (a .before) (pre .0) (pre .1) (pre .2) (l .subs) (l .rows) (l .used) (l .expired) (l .over) (l .base) (l .i) (l .inv) (c .before .before .before .before .before .before .before .before .before .loop-test .taken) _ _ (c .before .before .before .before .before .before .before .load .ensures) (c .before .before .before .before .before .fan-out .ensures .0) in
     omega (arith, f .0)
 
 add-base-2 : tie.Need-add-base-2 Inv-loop μ-loop
@@ -61,7 +61,7 @@ add-base-2 c =
     let l = c .before .before .before .before .before .before .before .before .before .before .before .loop in
     let a = c .before .before .before .before .before .before .before .before .before .before .before .before .args in
     let pre = c .before .before .before .before .before .before .before .before .before .before .before .before .pre in
-    let f = round-few (a .clock) (a .e) (now (a .subs)) (now (a .rows)) (a .before) (pre .0) (pre .1) (pre .2) (l .subs) (l .rows) (l .used) (l .expired) (l .over) (l .base) (l .i) (l .inv) (c .before .before .before .before .before .before .before .before .before .before .loop-test .taken) _ _ (c .before .before .before .before .before .before .before .before .load .ensures) (c .before .before .before .before .before .before .fan-out .ensures .0) in
+    let f = round-few (a .by) (a .e) (now (a .subs)) (now (a .rows)) (a .before) (pre .0) (pre .1) (pre .2) (l .subs) (l .rows) (l .used) (l .expired) (l .over) (l .base) (l .i) (l .inv) (c .before .before .before .before .before .before .before .before .before .before .loop-test .taken) _ _ (c .before .before .before .before .before .before .before .before .load .ensures) (c .before .before .before .before .before .before .fan-out .ensures .0) in
     omega (arith, f .0)
 
 store-requires : tie.Need-store-requires Inv-loop μ-loop
@@ -79,7 +79,7 @@ loop-again c =
     let a = c .before .before .before .before .before .before .before .before .before .before .before .before .before .before .before .args in
     let pre = c .before .before .before .before .before .before .before .before .before .before .before .before .before .before .before .pre in
     let r = c .before .before .before .before .before .before .before .before .before .fan-out .ensures in
-    round-turn (a .clock) (a .e) (now (a .subs)) (now (a .rows)) (a .before) (pre .0) (pre .1) (pre .2) (l .subs) (l .rows) (l .used) (l .expired) (l .over) (l .base) (l .i) (l .inv) (c .before .before .before .before .before .before .before .before .before .before .before .before .before .loop-test .taken) _ _ _ _ (c .before .before .before .before .before .before .before .before .before .before .before .load .ensures) (r .0) (r .1) (c .before .store .ensures)
+    round-turn (a .by) (a .e) (now (a .subs)) (now (a .rows)) (a .before) (pre .0) (pre .1) (pre .2) (l .subs) (l .rows) (l .used) (l .expired) (l .over) (l .base) (l .i) (l .inv) (c .before .before .before .before .before .before .before .before .before .before .before .before .before .loop-test .taken) _ _ _ _ (c .before .before .before .before .before .before .before .before .before .before .before .load .ensures) (r .0) (r .1) (c .before .store .ensures)
 
 count-expired-requires : tie.Need-count-expired-requires Inv-loop μ-loop
 count-expired-requires c κs = search needs
@@ -99,8 +99,8 @@ returns c =
     let a = c .before .before .before .before .args in
     let pre = c .before .before .before .before .pre in
     let counted = c .count-discarded .ensures ∙ ap (λ (x : Head). withCounters (withDiscardedBy (x .stats) (l .over)) x) (c .before .count-expired .ensures) in
-    subst (λ (x : Head). Arrived (spread (a .clock) (a .e)) (a .before) x (now (a .subs)) (now (a .rows)) (l .subs) (l .rows)) (sym counted)
-    (round-end (a .clock) (a .e) (now (a .subs)) (now (a .rows)) (a .before) (pre .0) (pre .1) (pre .2) (l .subs) (l .rows) (l .used) (l .expired) (l .over) (l .base) (l .i) (l .inv) (c .before .before .loop-test .left))
+    subst (λ (x : Head). Arrived (spread (a .by) (a .e)) (a .before) x (now (a .subs)) (now (a .rows)) (l .subs) (l .rows)) (sym counted)
+    (round-end (a .by) (a .e) (now (a .subs)) (now (a .rows)) (a .before) (pre .0) (pre .1) (pre .2) (l .subs) (l .rows) (l .used) (l .expired) (l .over) (l .base) (l .i) (l .inv) (c .before .before .loop-test .left))
 
 pub fan-out-all-spec : {M : Type 1} → statement M
 fan-out-all-spec =

@@ -18,7 +18,7 @@ use Rattle.engine.proofs.storing.store.Tie as tie
 ready : (c : tie.After-count-enqueued) → let a = c .before .args in Arrives (a .e) (c .count-enqueued .result) (now (a .subs)) (now (a .rows))
 ready c =
     let a = c .before .args in
-    rw (c .count-enqueued .ensures) (arrives (a .clock) (a .e) (a .d) (now (a .subs)) (now (a .rows)) (c .before .pre .0) (c .before .pre .1))
+    rw (c .count-enqueued .ensures) (arrives (a .by) (a .e) (a .d) (now (a .subs)) (now (a .rows)) (c .before .pre .0) (c .before .pre .1))
 
 count-enqueued-requires : tie.Need-count-enqueued-requires
 count-enqueued-requires c κs = search needs
@@ -38,7 +38,7 @@ returns c =
     let a = b .before .args in
     let e = b .count-enqueued .ensures in
     let q = c .before .before .queued .ensures in
-    stored-queue (a .clock) (a .e) (a .d) (now (a .subs)) (now (a .rows)) (b .before .pre .0) (b .before .pre .1) _ _ _ (c .before .before .before .before .before .if1 .taken)
+    stored-queue (a .by) (a .e) (a .d) (now (a .subs)) (now (a .rows)) (b .before .pre .0) (b .before .pre .1) _ _ _ (c .before .before .before .before .before .if1 .taken)
     (q .0 ∙ ap queuedHead e) (q .1 .0 ∙ ap (λ (x : Head). onFirst (heldBackRow (a .e .seq)) (x .consumers) (now (a .subs))) e)
     (q .1 .1 ∙ ap (λ (x : Head). insertRow (placeOf (firstWaiting x) (x .used) (a .e .seq) (now (a .rows))) (x .used) (rowOf (a .e) 0 0 0) (now (a .rows))) e)
 
@@ -57,7 +57,7 @@ returns-2 : tie.Need-returns-2
 returns-2 c =
     let b = c .before .before .before .before .before .before in
     let a = b .before .args in
-    stored-topic (a .clock) (a .e) (a .d) (now (a .subs)) (now (a .rows)) (b .before .pre .0) (b .before .pre .1) _ _ _ _ (b .count-enqueued .ensures) (c .before .before .before .before .before .if1 .left) (c .before .before .fan-out-all .ensures)
+    stored-topic (a .by) (a .e) (a .d) (now (a .subs)) (now (a .rows)) (b .before .pre .0) (b .before .pre .1) _ _ _ _ (b .count-enqueued .ensures) (c .before .before .before .before .before .if1 .left) (c .before .before .fan-out-all .ensures)
 
 pub store-spec : {M : Type 1} → statement M
 store-spec =
