@@ -9,7 +9,6 @@ use borrow.Author.Tests.{eqb-true, eqb-false, eq-eqb, ne-eqb}
 use lib.Dec.{leb, eqb}
 use lib.ListN.{length, take, drop, getD, set, replicate, length-take, length-drop}
 use lib.Seq.{slice, slice-empty, slice-cons, getD-drop, getD-take, getD-set-same, getD-set-other}
-use mir.Val.{boolByte}
 use Rattle.words.specs.Pick.{if_then_else_}
 use Rattle.words.proofs.Tests.{by-test}
 use Rattle.entry.specs.Entry.{entryOf}
@@ -214,10 +213,6 @@ alike-test x z w b e = ap₂ (λ (c d : Bool). not c || d) (eqb-comm x (at 0 w))
     turned true true = refl
     turned true false = refl
     turned false d = refl
-
-pub one : (b : Bool) → boolByte b ≡ (if b then 1 else 0)
-one true = refl
-one false = refl
 
 pub enough-queue : (q : Bool) (n : ℕ) → q ≡ true → leb 1 n ≡ leb (if q then 1 else 2) n
 enough-queue q n e = ap (λ (b : Bool). leb (if b then 1 else 2) n) (sym e)

@@ -10,6 +10,8 @@ use borrow.Author.Tests.{eqb-true, eq-eqb, ne-eqb, lt-ltb, le-ltb}
 use lib.Dec.{ltb, eqb}
 use lib.ListN.{length, take, drop, getD, set, take-append-drop}
 use lib.Seq.{slice, slice-empty, slice-cons, take-suc, take-take, getD-set-same}
+use mir.Val.{boolByte}
+use Rattle.words.specs.Pick.{if_then_else_}
 use Rattle.words.proofs.Tests.{by-test}
 use Rattle.definition.specs.Base.{all, member, distinct, rising}
 use Rattle.definition.proofs.Tests.{and-left}
@@ -24,6 +26,10 @@ pub iff : (a b : Bool) → (a ≡ true → b ≡ true) → (b ≡ true → a ≡
 iff true b f g = sym (f refl)
 iff false true f g = g refl
 iff false false f g = refl
+
+pub one : (b : Bool) → boolByte b ≡ (if b then 1 else 0)
+one true = refl
+one false = refl
 
 -- ---- one more element, and two lists one after the other
 

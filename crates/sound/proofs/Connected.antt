@@ -16,9 +16,11 @@ use Rattle.definition.specs.Words.{at}
 use Rattle.definition.specs.Layout.{Row, flag, subAt, eachSub, subsAt, subRows}
 use Rattle.definition.proofs.Stored.{flying-rows}
 use Rattle.definition.proofs.Thin.{map-append}
-use Rattle.sound.specs.Sound.{reservedAt, waitingAt, connsAt, ownConns, sharesAt}
-use Rattle.sound.proofs.Tests.{part-turn, part-end}
-use Rattle.sound.proofs.Gathered.{browses, taken-small}
+use Rattle.subrows.specs.Subrows.{reservedAt, waitingAt}
+use Rattle.sound.specs.Sound.{connsAt, ownConns, sharesAt}
+use Rattle.subrows.proofs.Tests.{part-turn, part-end}
+use Rattle.subrows.proofs.Subs.{browses}
+use Rattle.sound.proofs.Gathered.{taken-small}
 use Rattle.sound.proofs.Sizes.{used-parts}
 use Rattle.shares.specs.Shares.{withinEach, conns}
 use Rattle.shares.proofs.Laws.{within-full, within-turned, within-swapped, within-conns}

@@ -6,20 +6,21 @@ use Prim.Native.Nat.{ℕ, suc, _+_, _≤_, _<_}
 use native.Mathlib.Numerals.{add-one}
 use native.Mathlib.Omega.{arith}
 use lib.ListN.{length, take, drop, getD, set, length-drop}
-use lib.Seq.{slice, drop-drop, take-add, take-suc, take-suc-set, getD-drop}
+use lib.Seq.{slice, drop-drop, take-suc, take-suc-set, getD-drop}
 use Rattle.words.specs.Pick.{if_then_else_}
 use Rattle.entry.specs.Entry.{entryOf}
-use Rattle.definition.specs.Base.{is-some, distinct}
-use Rattle.definition.specs.Types.{Kind, queue, topic, Entry}
+use Rattle.definition.specs.Base.{distinct}
+use Rattle.definition.specs.Types.{queue, topic, Entry}
 use Rattle.definition.specs.Consumer.{isBrowser}
-use Rattle.definition.specs.Calls.{seqs, flying, rowsOf, taken}
-use Rattle.definition.specs.Words.{at}
-use Rattle.definition.specs.Layout.{Row, flag, browserAt, subAt, eachSub, subsAt}
+use Rattle.definition.specs.Calls.{seqs, flying, taken}
+use Rattle.definition.specs.Words.{at, kindBy}
+use Rattle.definition.specs.Layout.{Row, flag, subAt, eachSub, subsAt}
 use Rattle.definition.proofs.Stored.{flying-rows, seqs-rows}
 use Rattle.definition.proofs.Thin.{map-append}
-use Rattle.sound.specs.Sound.{kindBy, seqsAt, apartBy}
-use Rattle.sound.proofs.Tests.{part-turn, part-end}
-use Rattle.sound.proofs.Subs.{rows-of-sub}
+use Rattle.subrows.specs.Subrows.{seqsAt}
+use Rattle.sound.specs.Sound.{apartBy}
+use Rattle.subrows.proofs.Tests.{part-turn, part-end}
+use Rattle.subrows.proofs.Subs.{browses, seqs-of-sub}
 
 -- one number more
 pub seqs-more : (rows : List Row) (from i : ℕ) → from + i < length rows
@@ -42,27 +43,15 @@ gather-turn rows was out from start i h k e =
     ∙ append-assoc (take start was) (seqsAt (take i (drop from rows))) (v ∷ [])
     ∙ ap (λ (l : List ℕ). take start was ++ l) (sym (seqs-more rows from i h))
 
-pub browses : (k : Bool) (l : List Entry) → is-some (browserAt queue k l) ≡ k
-browses true l = refl
-browses false l = refl
-
 -- one consumer's rows
 module _ (w : Row) (rows : List Row) (base : ℕ) where
-  pub seqs-of-sub : (k : Kind)
-      → seqs (rowsOf (subAt k w (take (at 14 w) (drop base rows)) (take (at 15 w) (drop (at 14 w) (drop base rows))))) ≡ seqsAt (take (at 14 w + at 15 w) (drop base rows))
-  seqs-of-sub k =
-      let f : List Row = take (at 14 w) (drop base rows) in
-      let h : List Row = take (at 15 w) (drop (at 14 w) (drop base rows)) in
-      ap seqs (rows-of-sub k w f h ∙ sym (map-append entryOf f h) ∙ ap (map entryOf) (sym (take-add (at 14 w) (at 15 w) (drop base rows))))
-      ∙ sym (seqs-rows (take (at 14 w + at 15 w) (drop base rows)))
-
   pub apart-here : (q : Bool)
       → (not (not q || flag (at 6 w)) || distinct (seqsAt (take (at 14 w + at 15 w) (drop base rows))))
       ≡ apartBy (kindBy q) (subAt (kindBy q) w (take (at 14 w) (drop base rows)) (take (at 15 w) (drop (at 14 w) (drop base rows))))
   unfolding isBrowser subAt
   apart-here true =
-      ap₂ (λ (b : Bool) (l : List ℕ). not b || distinct l) (sym (browses (flag (at 6 w)) (map entryOf (take (at 15 w) (drop (at 14 w) (drop base rows)))))) (sym (seqs-of-sub queue))
-  apart-here false = ap distinct (sym (seqs-of-sub topic))
+      ap₂ (λ (b : Bool) (l : List ℕ). not b || distinct l) (sym (browses (flag (at 6 w)) (map entryOf (take (at 15 w) (drop (at 14 w) (drop base rows)))))) (sym (seqs-of-sub w rows base queue))
+  apart-here false = ap distinct (sym (seqs-of-sub w rows base topic))
 
   -- those that are entries of the queue
   taken-here : seqs (let s = subAt queue w (take (at 14 w) (drop base rows)) (take (at 15 w) (drop (at 14 w) (drop base rows))) in if isBrowser s then [] else flying s)

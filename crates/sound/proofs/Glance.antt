@@ -15,7 +15,8 @@ use Rattle.definition.specs.Layout.{Row}
 use Rattle.definition.proofs.Tests.{and-left, and-right, and-both}
 use Rattle.definition.proofs.Lists.{all-joined}
 use Rattle.distinct.proofs.Laws.{apart, distinct-snoc, mark-kept}
-use Rattle.sound.specs.Sound.{seqsAt, slotsMarked, markedApart, Met}
+use Rattle.subrows.specs.Subrows.{seqsAt}
+use Rattle.sound.specs.Sound.{slotsMarked, markedApart, Met}
 use Rattle.sound.proofs.Rising.{waiting-apart}
 use Rattle.sound.proofs.Gathered.{seqs-more}
 

@@ -19,9 +19,10 @@ use Rattle.definition.proofs.Stored.{seqs-rows}
 use Rattle.definition.proofs.Lists.{all-joined}
 use Rattle.copies.specs.Copies.{alike, agreeAt}
 use Rattle.copies.proofs.Laws.{agree-means, alike-at, member-at}
-use Rattle.sound.specs.Sound.{seqsAt, apartBy, HubAt, SameRows, sizesAt}
-use Rattle.sound.proofs.Subs.{rows-turn, walk-turn}
+use Rattle.subrows.specs.Subrows.{seqsAt}
+use Rattle.subrows.proofs.Subs.{rows-turn, walk-turn}
 use Rattle.sound.proofs.Gathered.{apart-here}
+use Rattle.sound.specs.Sound.{apartBy, HubAt, SameRows, sizesAt}
 use Rattle.sound.proofs.Sizes.{distinct-agree}
 
 -- ---- copies

@@ -1,8 +1,4 @@
-pub mod Tests
-pub mod Rows
 pub mod Rising
-pub mod Head
-pub mod Subs
 pub mod Gathered
 pub mod Sizes
 pub mod Hub

@@ -14,15 +14,15 @@ use Rattle.definition.specs.Base.{all, tally, distinct}
 use Rattle.definition.specs.Types.{Kind, queue, topic, Entry, Sub}
 use Rattle.definition.specs.Consumer.{isBrowser}
 use Rattle.definition.specs.Calls.{seqs, flying, rowsOf, taken, consumerRows, sizesAgree}
-use Rattle.definition.specs.Words.{at}
+use Rattle.definition.specs.Words.{at, kindBy}
 use Rattle.definition.specs.Layout.{Row, flag, subAt, eachSub, subsAt, subRows, subsStrict}
 use Rattle.definition.proofs.Tests.{and-left, and-right}
 use Rattle.definition.proofs.Thin.{map-append}
 use Rattle.definition.proofs.Stored.{seqs-rows}
 use Rattle.copies.specs.Copies.{mayCopy, sharedBy}
-use Rattle.sound.specs.Sound.{ownSound, eachOk, kindBy, apartBy, emptyBy, reservedAt, waitingAt, queueApart, sizesAt}
-use Rattle.sound.proofs.Subs.{rows-of-sub}
-use Rattle.sound.proofs.Gathered.{browses}
+use Rattle.subrows.specs.Subrows.{ownSound, eachOk, reservedAt, waitingAt}
+use Rattle.sound.specs.Sound.{apartBy, sizesAt, emptyBy, queueApart}
+use Rattle.subrows.proofs.Subs.{rows-of-sub, browses}
 use Rattle.sound.proofs.Sizes.{agree-turned, used-parts, distinct-agree}
 use Rattle.sound.proofs.Meaning.{plain-rows, each-parts}
 

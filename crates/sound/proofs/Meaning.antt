@@ -19,17 +19,19 @@ use Rattle.definition.specs.Base.{all, every, empty, is-some, distinct, ascendi
 use Rattle.definition.specs.Types.{Kind, queue, topic, Entry, Sub, Dest}
 use Rattle.definition.specs.Consumer.{shown, isBrowser}
 use Rattle.definition.specs.Calls.{word, idOk, entryOk, clockOk, bound, seqs, flying, rowsOf, subTests, subSound, consumerRows, taken, held, allRows, placed, auditOk, sizesAgree, ownRows, withinShare, soundTests, sound}
-use Rattle.definition.specs.Words.{at, kindOf}
-use Rattle.definition.specs.Layout.{Row, Buffers, idAt, heldAt, subAt, eachSub, subsAt, subRows, idsAt, ringAt, auditsAt, view, usedRows, ringsFormed, isMark, entryStrict, subStrict, subsStrict, tablesStrict, strict, formed, soundBuffers}
+use Rattle.definition.specs.Words.{at, kindOf, kindBy}
+use Rattle.definition.specs.Layout.{Row, Buffers, idAt, heldAt, subAt, eachSub, subsAt, subRows, idsAt, ringAt, auditsAt, view, usedRows, ringsFormed, isMark, entryStrict, subStrict, subsStrict, tablesStrict, strict, formed, soundBuffers, lent}
 use Rattle.definition.proofs.Tests.{and-left, and-right, and-both}
 use Rattle.definition.proofs.Lists.{empty-nil, empty-map, all-first, all-rest, all-weaker, all-joined}
 use Rattle.definition.proofs.Stored.{held-rows, ids-length, audits-length, seqs-rows, subs-length}
 use Rattle.definition.proofs.Thin.{every-all, all-every, map-append}
 use Rattle.distinct.proofs.Laws.{iff, distinct-left, distinct-right}
-use Rattle.sound.specs.Sound.{limitsOk, countsOk, marksOk, headOk, rowOk, holderOk, ownTests, ownSound, ownOk, eachOk, kindBy, seqsAt, apartBy, emptyBy, reservedAt, waitingAt, queueApart, sizesAt, tableTests, tablesOk, sharesAt, lent, restOk}
-use Rattle.sound.proofs.Tests.{swap-inner, empty-take, all-map}
-use Rattle.sound.proofs.Rows.{Words, words-drop, id-fits}
-use Rattle.sound.proofs.Subs.{rows-ok, sorted-means, rows-of-sub, optional-test, ids-means}
+use Rattle.heads.specs.Heads.{limitsOk, countsOk, marksOk, headOk}
+use Rattle.subrows.specs.Subrows.{rowOk, holderOk, ownTests, ownSound, ownOk, eachOk, seqsAt, reservedAt, waitingAt}
+use Rattle.sound.specs.Sound.{apartBy, sizesAt, emptyBy, queueApart, tableTests, tablesOk, sharesAt, restOk}
+use Rattle.subrows.proofs.Tests.{swap-inner, empty-take, all-map}
+use Rattle.subrows.proofs.Rows.{Words, words-drop, id-fits}
+use Rattle.subrows.proofs.Subs.{rows-ok, sorted-means, rows-of-sub, optional-test, ids-means}
 use Rattle.sound.proofs.Sizes.{agree-turned, used-parts}
 use Rattle.sound.proofs.Connected.{own-queue, own-topic}
 

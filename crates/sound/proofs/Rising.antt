@@ -9,14 +9,17 @@ use lib.Dec.{ltb, eqb}
 use lib.ListN.{length, take, drop, getD, length-take, length-drop}
 use lib.Seq.{slice, take-take, take-all}
 use Rattle.words.proofs.Tests.{by-test}
-use Rattle.definition.specs.Base.{member, distinct, rising, ascending}
-use Rattle.definition.specs.Words.{at}
-use Rattle.definition.specs.Layout.{Row}
+use Rattle.definition.specs.Base.{all, member, distinct, rising, ascending}
+use Rattle.definition.specs.Types.{topic}
+use Rattle.definition.specs.Words.{at, kindBy}
+use Rattle.definition.specs.Layout.{Row, subAt, eachSub, subStrict}
 use Rattle.definition.proofs.Tests.{and-left, and-right, and-both}
-use Rattle.definition.proofs.Thin.{ascending-tail, ascending-distinct}
+use Rattle.definition.proofs.Thin.{every-all, ascending-tail, ascending-distinct}
+use Rattle.definition.proofs.Stored.{seqs-rows}
 use Rattle.distinct.proofs.Laws.{eqb-comm, apart, apart-swap, distinct-append, rising-new, rising-distinct}
-use Rattle.sound.specs.Sound.{seqsAt, heldRise, SameFrom}
-use Rattle.sound.proofs.Tests.{part-turn, part-end, part-of}
+use Rattle.subrows.specs.Subrows.{ownTests, ownSound, ownOk, eachOk, seqsAt}
+use Rattle.sound.specs.Sound.{heldSeqs, heldRise, SameFrom}
+use Rattle.subrows.proofs.Tests.{part-turn, part-end, part-of}
 
 -- numbers that rise, and others: only these are compared, and looked for among those
 pub rising-apart : (l others : List ℕ) → ascending l ≡ true → distinct (l ++ others) ≡ (distinct others && apart others l)
@@ -131,3 +134,22 @@ resumed rows from to place start x last f g h k a s b = by-test (ltb x last)
 pub waiting-apart : (rows : List Row) (f n : ℕ) (l : List ℕ) → f ≤ length rows → ascending (seqsAt (slice f (f + n) rows)) ≡ true
     → distinct (seqsAt (take n (drop f rows)) ++ l) ≡ (distinct l && apart l (seqsAt (slice f (f + n) rows)))
 waiting-apart rows f n l b e = ap (λ (m : List Row). distinct (seqsAt m ++ l)) (sym (part-of rows f n b)) ∙ rising-apart (seqsAt (slice f (f + n) rows)) l e
+
+-- ---- what consumers hold
+
+-- where each consumer is sound, what it holds on a topic rises
+pub held-rise : (q : Bool) (most : ℕ) (ws rows : List Row) → eachOk (kindBy q) most ws rows ≡ true → all (heldRise q) (eachSub heldSeqs ws rows) ≡ true
+unfolding eachSub ownSound subAt
+held-rise q most [] rows e = refl
+held-rise q most (w ∷ ws) rows e =
+    let f : List Row = take (at 14 w) rows in
+    let h : List Row = take (at 15 w) (drop (at 14 w) rows) in
+    let rest : List Row = drop (at 15 w) (drop (at 14 w) rows) in
+    let own : Bool = ownOk (kindBy q) most w f h in
+    and-both (heldRise q (seqsAt h)) (all (heldRise q) (eachSub heldSeqs ws rest))
+    (here-rises q f h (and-left own (eachOk (kindBy q) most ws rest) e)) (held-rise q most ws rest (and-right own (eachOk (kindBy q) most ws rest) e))
+  where
+    here-rises : (b : Bool) (f h : List Row) → ownOk (kindBy b) most w f h ≡ true → heldRise b (seqsAt h) ≡ true
+    here-rises true f h t = refl
+    here-rises false f h t =
+        ap ascending (seqs-rows h) ∙ every-all (ownTests topic most (subAt topic w f h)) (and-left (ownSound topic most (subAt topic w f h)) (subStrict w f h) t) .1 .1 .1 .1 .1 .1 .1 .0

@@ -19,8 +19,8 @@ use Rattle.definition.proofs.Tests.{and-left, and-right, and-both}
 use Rattle.definition.proofs.Thin.{map-append}
 use Rattle.definition.proofs.Sums.{odd, sum-append, agree-sum, sum-agree}
 use Rattle.distinct.proofs.Laws.{iff}
-use Rattle.sound.specs.Sound.{reservedAt, waitingAt}
-use Rattle.sound.proofs.Subs.{rows-of-sub}
+use Rattle.subrows.specs.Subrows.{reservedAt, waitingAt}
+use Rattle.subrows.proofs.Subs.{rows-of-sub}
 
 -- ---- three blocks
 

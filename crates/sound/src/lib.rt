@@ -1,432 +1,26 @@
 // Whether lent buffers are long enough, and the layout of a sound state.
-use audit::Audit;
-use entry::ALLOWANCE_MOST;
-use entry::CALLS_MOST;
 use entry::Row;
 use entry::SEQ_END;
-use entry::SIZE_END;
 ghost use mathlib.Core.Path.{_≡_};
 ghost use mathlib.Core.Bool.{true, false, not, _&&_, _||_};
 ghost use mathlib.Core.List.{[], _++_};
-ghost use Prim.Native.Nat.{ℕ, _+_, _-_, _≤_, _<_, _^_};
+ghost use Prim.Native.Nat.{ℕ, _+_, _-_, _≤_, _<_};
 ghost use lib.Dec.{ltb, eqb};
 ghost use lib.ListN.{take, drop, getD};
 ghost use lib.Seq.{slice};
 ghost use Rattle.words.specs.Pick.{if_then_else_};
-ghost use Rattle.model.specs.Model.{idOf, sameId};
-ghost use Rattle.definition.specs.Base.{all, every, member, distinct, rising, ascending};
+ghost use Rattle.definition.specs.Base.{all, member, distinct, rising, ascending};
 ghost use Rattle.definition.specs.Types.{queue};
-ghost use Rattle.definition.specs.Calls.{idOk, countersOk, seqs, taken, stateShort};
+ghost use Rattle.definition.specs.Calls.{seqs, taken, stateShort};
 ghost use Rattle.definition.specs.Words.{at};
-ghost use Rattle.definition.specs.Layout.{flag, idAt, statsAt, eachSub, subsAt, subRows, ringsFormed, wordsStrict, soundBuffers, lengthsOf};
+ghost use Rattle.definition.specs.Layout.{flag, eachSub, subsAt, subRows, ringsFormed, soundBuffers, lengthsOf, lent};
 ghost use Rattle.copies.specs.Copies.{sharedBy};
 ghost use Rattle.shares.specs.Shares.{conns};
-ghost use Rattle.sound.specs.Sound.{limitsOk, countsOk, marksOk, headOk, rowOk, rowAfter, RowForm, flightOk, holderOk, flyingOk, sortedOk, wordTests, ownOk, eachOk, kindBy, idsApart, seqsAt, heldSeqs, heldRise, SameFrom, Met, apartBy, rowsUpTo, queueSeqs, queueApart, HubAt, SameRows, sizesAt, AlikeBy, tablesOk, connsAt, ownConns, sharesAt, lent, restOk};
+ghost use Rattle.heads.specs.Heads.{headOk};
+ghost use Rattle.subrows.specs.Subrows.{sortedOk, seqsAt};
+ghost use Rattle.sound.specs.Sound.{kindBy, heldSeqs, heldRise, SameFrom, Met, apartBy, queueSeqs, queueApart, HubAt, SameRows, sizesAt, AlikeBy, numbersOk, LoneAgree, connsAt, ownConns, sharesAt, restOk};
 
 type SubRow = [u64; 16];
-
-const PREFETCH_END: u64 = 2147483648;
-
-// ---- the head
-
-fn limits_ok(head: &[u64]) -> bool
-    requires { do ⌜ 8347 ≤ (← ⟦head.len()⟧) ⌝ }
-    ensures { λ r. ⌜ r ≡ limitsOk (now (head .entry)) ⌝ }
-{
-    let limit = head[2];
-    let share = head[8346];
-    (1 <= limit)
-        & ((limit <= CALLS_MOST)
-            & ((head[3] <= limit)
-                & ((head[1] <= 512)
-                    & ((head[8345] <= ALLOWANCE_MOST) & ((1 <= share) & (share <= 512))))))
-}
-
-fn counts_ok(head: &[u64]) -> bool
-    requires { do ⌜ 8347 ≤ (← ⟦head.len()⟧) ⌝ }
-    ensures { λ r. ⌜ r ≡ countsOk (now (head .entry)) ⌝ }
-{
-    let n = head[12];
-    let turn = head[4];
-    (n <= 32) & ((head[13] <= 32) & ((head[14] <= 8) & ((turn < n) | (turn == 0))))
-}
-
-// The kind and whether it is idle, and since when.
-fn marks_ok(head: &[u64]) -> bool
-    requires { do ⌜ 8347 ≤ (← ⟦head.len()⟧) ⌝ }
-    ensures { λ r. ⌜ r ≡ marksOk (now (head .entry)) ⌝ }
-{
-    let idle = head[5];
-    (head[0] <= 1) & ((idle <= 1) & ((idle == 0) | (head[6] <= entry::CLOCK_MOST)))
-}
-
-fn counters_ok(head: &[u64], most: u64) -> bool
-    requires { do ⌜ 8347 ≤ (← ⟦head.len()⟧) ⌝ }
-    ensures { λ r. ⌜ r ≡ countersOk most (statsAt (now (head .entry))) ⌝ }
-{
-    (head[7] <= most)
-        & ((head[8] <= most)
-            & ((head[9] <= most) & ((head[10] <= most) & ((head[11] <= most) & true))))
-}
-
-fn head_ok(head: &[u64]) -> bool
-    requires { do ⌜ 8347 ≤ (← ⟦head.len()⟧) ⌝ }
-    ensures { λ r. ⌜ r ≡ headOk (now (head .entry)) ⌝ }
-{
-    if !limits_ok(head) {
-        return false;
-    }
-    counts_ok(head) & (marks_ok(head) & counters_ok(head, 65536 * head[3] + 1))
-}
-
-// Each of n audits.
-fn rings_ok(head: &[u64], n: u64) -> bool
-    requires { do ⌜ 8347 ≤ (← ⟦head.len()⟧) ⌝ }
-    requires { ⌜ n ≤ 8 ⌝ }
-    ensures { λ r. ⌜ r ≡ ringsFormed n (drop 113 (now (head .entry))) ⌝ }
-{
-    let mut left = n;
-    let mut from = 113;
-    while 0 < left {
-        let ring = Audit {
-            start: head[from + 3] as usize,
-            count: head[from + 4] as usize,
-        };
-        if !ring.sound() {
-            return false;
-        }
-        left -= 1;
-        from += 1029;
-    }
-    true
-}
-
-// ---- rows
-
-// The words of an entry, and of the identifier of a reserved one.
-fn entry_ok(row: Row) -> bool
-    ensures { λ r. ⌜ r ≡ rowOk row ⌝ }
-    ensures { λ r. ⌜ holderOk row ≡ true ⌝ }
-    ensures { λ r. ⌜ (r ≡ true → at 0 row < 2 ^ 63) ⌝ }
-{
-    let seq = row[0];
-    ((1 <= seq) & (seq < SEQ_END)) & ((row[2] <= 1) & (words::is_int(row[5]) & (row[9] < SIZE_END)))
-}
-
-// And in flight the marks that it is freed or in a transaction.
-fn flight_ok(row: Row) -> bool
-    ensures { λ r. ⌜ r ≡ flightOk row ⌝ }
-{
-    entry_ok(row) & ((row[7] <= 1) & (row[8] <= 1))
-}
-
-// rows[from..to].
-fn entries_ok(rows: &[Row], from: usize, to: usize) -> bool
-    requires { ⌜ from ≤ to ⌝ }
-    requires { do ⌜ to ≤ (← ⟦rows.len()⟧) ⌝ }
-    ensures { λ r. ⌜ r ≡ all rowOk (slice from to (now (rows .entry))) ⌝ }
-    ensures { λ r. ⌜ (r ≡ true → all holderOk (slice from to (now (rows .entry))) ≡ true) ⌝ }
-{
-    let mut i = from;
-    while i < to {
-        if !entry_ok(rows[i]) {
-            return false;
-        }
-        i += 1;
-    }
-    true
-}
-
-// Whether a row's number is above the last one, its marks and its redelivery are strict, and its size is in range.
-fn follows(row: Row, last: u64) -> bool
-    ensures { λ r. ⌜ r ≡ rowAfter last row ⌝ }
-    ensures { λ _. ⌜ RowForm row ⌝ }
-{
-    (last < row[0]) & ((row[2] <= 1) & (words::is_int(row[5]) & (row[9] < SIZE_END)))
-}
-
-// The same of four rows, each after the one before. Tests with one bound stand together, so that the compiler joins them.
-fn four_follow(a: Row, b: Row, c: Row, d: Row, last: u64) -> bool
-    ensures { λ r. ⌜ r ≡ (rowAfter last a && (rowAfter (at 0 a) b && (rowAfter (at 0 b) c && rowAfter (at 0 c) d))) ⌝ }
-    ensures { λ _. ⌜ RowForm a × (RowForm b × (RowForm c × RowForm d)) ⌝ }
-{
-    let rise = (last < a[0]) & ((a[0] < b[0]) & ((b[0] < c[0]) & (c[0] < d[0])));
-    let marks = (a[2] <= 1) & ((b[2] <= 1) & ((c[2] <= 1) & (d[2] <= 1)));
-    let ints = words::is_int(a[5])
-        & (words::is_int(b[5]) & (words::is_int(c[5]) & words::is_int(d[5])));
-    let sizes = (a[9] < SIZE_END) & ((b[9] < SIZE_END) & ((c[9] < SIZE_END) & (d[9] < SIZE_END)));
-    (rise & marks) & (ints & sizes)
-}
-
-// rows[from..to] by rising sequence number, four a turn: the first is above 0, each above the one before, the last in range.
-fn sorted_ok(rows: &[Row], from: usize, to: usize) -> bool
-    requires { ⌜ from ≤ to ⌝ }
-    requires { do ⌜ to ≤ (← ⟦rows.len()⟧) ⌝ }
-    ensures { λ r. ⌜ r ≡ sortedOk 0 (slice from to (now (rows .entry))) ⌝ }
-{
-    let mut last = 0;
-    let mut i = from;
-    while 4 <= to - i {
-        let a = rows[i];
-        let b = rows[i + 1];
-        let c = rows[i + 2];
-        let d = rows[i + 3];
-        if !four_follow(a, b, c, d, last) {
-            return false;
-        }
-        last = d[0];
-        i += 4;
-    }
-    while i < to {
-        let row = rows[i];
-        if !follows(row, last) {
-            return false;
-        }
-        last = row[0];
-        i += 1;
-    }
-    last < SEQ_END
-}
-
-// A consumer's rows in flight, rows[from..to]: delivery numbers rise and are below the next one, and the freed ones are counted.
-fn flying_ok(rows: &[Row], from: usize, to: usize, next: u64, freed: u64) -> bool
-    requires { ⌜ from ≤ to ⌝ }
-    requires { do ⌜ to ≤ (← ⟦rows.len()⟧) ⌝ }
-    ensures { λ r. ⌜ r ≡ flyingOk 0 0 next freed (slice from to (now (rows .entry))) ⌝ }
-{
-    let mut least = 0;
-    let mut count = 0;
-    let mut i = from;
-    while i < to {
-        let row = rows[i];
-        let dseq = row[6];
-        if !flight_ok(row) {
-            return false;
-        }
-        if dseq < least {
-            return false;
-        }
-        if next <= dseq {
-            return false;
-        }
-        least = dseq + 1;
-        count += (row[7] != 0) as u64;
-        i += 1;
-    }
-    freed == count
-}
-
-// ---- consumers
-
-// How many rows the first n consumers have; 513 for more than 512.
-fn sub_rows(subs: &[SubRow], n: usize) -> usize
-    requires { do ⌜ n ≤ (← ⟦subs.len()⟧) ⌝ }
-    ensures { λ r. ⌜ r ≡ rowsUpTo (subRows (take n (now (subs .entry)))) ⌝ }
-{
-    let mut room: u64 = 512;
-    let mut i = 0;
-    while i < n {
-        let w = subs[i];
-        let inflight = w[14];
-        let held = w[15];
-        if room < inflight {
-            return 513;
-        }
-        room -= inflight;
-        if room < held {
-            return 513;
-        }
-        room -= held;
-        i += 1;
-    }
-    (512 - room) as usize
-}
-
-// The marks of one consumer.
-fn sub_marks_ok(w: SubRow) -> bool
-    ensures { λ r. ⌜ r ≡ wordsStrict w ⌝ }
-{
-    (w[5] <= 1) & ((w[6] <= 1) & ((w[7] <= 1) & ((w[10] <= 1) & true)))
-}
-
-// The words of one consumer by themselves: on a queue it holds rows only if it browses.
-fn words_ok(w: SubRow, most: u64, on_queue: bool) -> bool
-    ensures { λ r. ⌜ r ≡ every (wordTests «on_queue» most w) ⌝ }
-    ensures { λ r. ⌜ idOk (idAt w) ≡ true ⌝ }
-{
-    let pull = (w[10] == 0) | (w[11] <= most);
-    let place = !on_queue | ((w[6] != 0) | (w[15] == 0));
-    let marks = sub_marks_ok(w);
-    (w[3] < PREFETCH_END)
-        & ((w[4] <= 64)
-            & ((w[9] < SEQ_END)
-                & ((w[8] <= most) & ((w[12] <= most) & (pull & (place & (marks & true)))))))
-}
-
-// One consumer, whose rows start at base.
-fn sub_ok(w: SubRow, rows: &[Row], base: usize, most: u64, on_queue: bool) -> bool
-    requires { do ⌜ base + (at 14 w + at 15 w) ≤ (← ⟦rows.len()⟧) ⌝ }
-    ensures { λ r. ⌜ r ≡ ownOk (kindBy «on_queue») most w (take (at 14 w) (drop base (now (rows .entry)))) (take (at 15 w) (drop (at 14 w) (drop base (now (rows .entry))))) ⌝ }
-{
-    if !words_ok(w, most, on_queue) {
-        return false;
-    }
-    let mid = base + w[14] as usize;
-    let end = mid + w[15] as usize;
-    if !flying_ok(rows, base, mid, w[8], w[13]) {
-        return false;
-    }
-    if on_queue {
-        return entries_ok(rows, mid, end);
-    }
-    sorted_ok(rows, mid, end)
-}
-
-// Where the rows of one consumer end, and how many they are.
-struct Span {
-    end: usize,
-    many: usize,
-}
-
-// On a topic the first of n consumers that has most rows. That it has most is not promised: nothing but speed depends on it.
-fn most_rows(subs: &[SubRow], n: usize, on_queue: bool) -> Span
-    requires { do ⌜ n ≤ (← ⟦subs.len()⟧) ⌝ }
-    requires { ⌜ subRows (take n (now subs)) ≤ 512 ⌝ }
-    ensures { λ r. ⌜ HubAt (take n (now (subs .entry))) (r .end) (r .many) ⌝ }
-{
-    let mut end = 0;
-    let mut many = 0;
-    if on_queue {
-        return Span { end, many };
-    }
-    let mut base = 0;
-    let mut i = 0;
-    while i < n {
-        let w = subs[i];
-        let k = w[14] as usize + w[15] as usize;
-        base += k;
-        if many < k {
-            many = k;
-            end = base;
-        }
-        i += 1;
-    }
-    Span { end, many }
-}
-
-// Whether k rows from place a have the numbers and the sizes of those from place b, one by one.
-fn same_rows(rows: &[Row], a: usize, b: usize, k: usize) -> bool
-    requires { do ⌜ a + k ≤ (← ⟦rows.len()⟧) ⌝ }
-    requires { do ⌜ b + k ≤ (← ⟦rows.len()⟧) ⌝ }
-    ensures { λ r. ⌜ (r ≡ true → SameRows a b k (now (rows .entry))) ⌝ }
-{
-    if a == b {
-        return true;
-    }
-    let mut i = 0;
-    while i < k {
-        let x = rows[a + i];
-        let y = rows[b + i];
-        if (x[0] != y[0]) | (x[9] != y[9]) {
-            return false;
-        }
-        i += 1;
-    }
-    true
-}
-
-// Whether k rows from place base are copies of the last of many rows before place end, in their order. No is no answer.
-fn alike_at(rows: &[Row], base: usize, k: usize, end: usize, many: usize) -> bool
-    requires { ⌜ many ≤ end ⌝ }
-    requires { do ⌜ end ≤ (← ⟦rows.len()⟧) ⌝ }
-    requires { do ⌜ base + k ≤ (← ⟦rows.len()⟧) ⌝ }
-    ensures { λ r. ⌜ (r ≡ true → (k ≤ many) × SameRows base (end - k) k (now (rows .entry))) ⌝ }
-{
-    if many < k {
-        return false;
-    }
-    same_rows(rows, base, end - k, k)
-}
-
-// Whether all consumers are sound; and whether it was seen that copies of an entry agree on its size.
-struct Look {
-    ok: bool,
-    alike: bool,
-}
-
-// The first n consumers. On a topic where each takes all entries, its rows are copies of the last rows of the one that has most, and they are compared as soon
-// as they were read.
-fn subs_ok(subs: &[SubRow], n: usize, rows: &[Row], most: u64, on_queue: bool) -> Look
-    requires { do ⌜ n ≤ (← ⟦subs.len()⟧) ⌝ }
-    requires { do ⌜ subRows (take n (now subs)) ≤ (← ⟦rows.len()⟧) ⌝ }
-    requires { ⌜ subRows (take n (now subs)) ≤ 512 ⌝ }
-    ensures { λ r. ⌜ r .ok ≡ eachOk (kindBy «on_queue») most (take n (now (subs .entry))) (now (rows .entry)) ⌝ }
-    ensures { λ r. ⌜ (r .alike ≡ true → AlikeBy «on_queue» (take n (now (subs .entry))) (now (rows .entry))) ⌝ }
-{
-    let hub = most_rows(subs, n, on_queue);
-    let end = hub.end;
-    let many = hub.many;
-    let mut alike = !on_queue;
-    let mut base = 0;
-    let mut i = 0;
-    while i < n {
-        let w = subs[i];
-        if !sub_ok(w, rows, base, most, on_queue) {
-            return Look {
-                ok: false,
-                alike: false,
-            };
-        }
-        let k = w[14] as usize + w[15] as usize;
-        if alike {
-            alike = alike_at(rows, base, k, end, many);
-        }
-        base += k;
-        i += 1;
-    }
-    Look { ok: true, alike }
-}
-
-// ---- identifiers
-
-// Whether two identifiers are one: equal words hold equal numbers.
-fn same_id(conn: u64, session: u64, value: u64, conn2: u64, session2: u64, value2: u64) -> bool
-    ensures { λ r. ⌜ r ≡ sameId (idOf conn session value) (idOf conn2 session2 value2) ⌝ }
-{
-    (conn == conn2) & ((session == session2) & (value == value2))
-}
-
-// No consumer from place i on has this identifier.
-fn alone(subs: &[SubRow], from: usize, n: usize, conn: u64, session: u64, value: u64) -> bool
-    requires { ⌜ from ≤ n ⌝ }
-    requires { do ⌜ n ≤ (← ⟦subs.len()⟧) ⌝ }
-    ensures { λ r. ⌜ r ≡ all (λ v. not (sameId (idAt v) (idOf conn session value))) (slice from n (now (subs .entry))) ⌝ }
-{
-    let mut i = from;
-    while i < n {
-        let w = subs[i];
-        if same_id(w[0], w[1], w[2], conn, session, value) {
-            return false;
-        }
-        i += 1;
-    }
-    true
-}
-
-fn ids_apart(subs: &[SubRow], n: usize) -> bool
-    requires { do ⌜ n ≤ (← ⟦subs.len()⟧) ⌝ }
-    ensures { λ r. ⌜ r ≡ idsApart (take n (now (subs .entry))) ⌝ }
-{
-    let mut i = 0;
-    while i < n {
-        let w = subs[i];
-        if !alone(subs, i + 1, n, w[0], w[1], w[2]) {
-            return false;
-        }
-        i += 1;
-    }
-    true
-}
 
 // ---- sequence numbers
 
@@ -785,6 +379,97 @@ fn apart(
 
 // ---- sizes
 
+// Where the rows of one consumer end, and how many they are.
+struct Span {
+    end: usize,
+    many: usize,
+}
+
+// The first of n consumers that has most rows. That it has most is not promised: nothing but speed depends on it.
+fn most_rows(subs: &[SubRow], n: usize) -> Span
+    requires { do ⌜ n ≤ (← ⟦subs.len()⟧) ⌝ }
+    requires { ⌜ subRows (take n (now subs)) ≤ 512 ⌝ }
+    ensures { λ r. ⌜ HubAt (take n (now (subs .entry))) (r .end) (r .many) ⌝ }
+{
+    let mut end = 0;
+    let mut many = 0;
+    let mut base = 0;
+    let mut i = 0;
+    while i < n {
+        let w = subs[i];
+        let k = w[14] as usize + w[15] as usize;
+        base += k;
+        if many < k {
+            many = k;
+            end = base;
+        }
+        i += 1;
+    }
+    Span { end, many }
+}
+
+// Whether k rows from place a have the numbers and the sizes of those from place b, one by one.
+fn same_rows(rows: &[Row], a: usize, b: usize, k: usize) -> bool
+    requires { do ⌜ a + k ≤ (← ⟦rows.len()⟧) ⌝ }
+    requires { do ⌜ b + k ≤ (← ⟦rows.len()⟧) ⌝ }
+    ensures { λ r. ⌜ (r ≡ true → SameRows a b k (now (rows .entry))) ⌝ }
+{
+    if a == b {
+        return true;
+    }
+    let mut i = 0;
+    while i < k {
+        let x = rows[a + i];
+        let y = rows[b + i];
+        if (x[0] != y[0]) | (x[9] != y[9]) {
+            return false;
+        }
+        i += 1;
+    }
+    true
+}
+
+// Whether k rows from place base are copies of the last of many rows before place end, in their order. No is no answer.
+fn alike_at(rows: &[Row], base: usize, k: usize, end: usize, many: usize) -> bool
+    requires { ⌜ many ≤ end ⌝ }
+    requires { do ⌜ end ≤ (← ⟦rows.len()⟧) ⌝ }
+    requires { do ⌜ base + k ≤ (← ⟦rows.len()⟧) ⌝ }
+    ensures { λ r. ⌜ (r ≡ true → (k ≤ many) × SameRows base (end - k) k (now (rows .entry))) ⌝ }
+{
+    if many < k {
+        return false;
+    }
+    same_rows(rows, base, end - k, k)
+}
+
+// Whether it is seen that copies of an entry agree on its size: on a topic where each consumer takes all entries, its rows are copies of the last rows of the
+// one that has most. No is no answer.
+fn alike(subs: &[SubRow], n: usize, rows: &[Row], on_queue: bool) -> bool
+    requires { do ⌜ n ≤ (← ⟦subs.len()⟧) ⌝ }
+    requires { do ⌜ subRows (take n (now subs)) ≤ (← ⟦rows.len()⟧) ⌝ }
+    requires { ⌜ subRows (take n (now subs)) ≤ 512 ⌝ }
+    ensures { λ r. ⌜ (r ≡ true → AlikeBy «on_queue» (take n (now (subs .entry))) (now (rows .entry))) ⌝ }
+{
+    if on_queue {
+        return false;
+    }
+    let hub = most_rows(subs, n);
+    let end = hub.end;
+    let many = hub.many;
+    let mut base = 0;
+    let mut i = 0;
+    while i < n {
+        let w = subs[i];
+        let k = w[14] as usize + w[15] as usize;
+        if !alike_at(rows, base, k, end, many) {
+            return false;
+        }
+        base += k;
+        i += 1;
+    }
+    true
+}
+
 // Whether copies of an entry among the first rows agree on its size. Where no entry can have two rows, none is looked at.
 fn sizes_ok(subs: &[SubRow], n: usize, rows: &[Row], used: usize, on_queue: bool) -> bool
     requires { do ⌜ n ≤ (← ⟦subs.len()⟧) ⌝ }
@@ -887,80 +572,60 @@ fn shares_ok(
 
 // ---- all
 
-// The consumers and the rows, whose counts fit.
-fn tables_ok(
+// The numbers and the sizes of consumers and rows that are sound one by one.
+fn numbers_ok(
     subs: &[SubRow],
     n: usize,
     rows: &[Row],
     others: usize,
     reserved: usize,
     waiting: usize,
-    most: u64,
     on_queue: bool,
 ) -> bool
     requires { do ⌜ n ≤ (← ⟦subs.len()⟧) ⌝ }
     requires { ⌜ others ≡ subRows (take n (now subs)) ⌝ }
     requires { do ⌜ others + (reserved + waiting) ≤ (← ⟦rows.len()⟧) ⌝ }
     requires { ⌜ others + (reserved + waiting) ≤ 512 ⌝ }
-    ensures { λ r. ⌜ r ≡ tablesOk (kindBy «on_queue») most others reserved waiting (take n (now (subs .entry))) (now (rows .entry)) ⌝ }
+    requires { ⌜ sortedOk 0 (slice (others + reserved) (others + reserved + waiting) (now rows)) ≡ true ⌝ }
+    requires { ⌜ all (heldRise «on_queue») (eachSub heldSeqs (take n (now subs)) (now rows)) ≡ true ⌝ }
+    requires { ⌜ LoneAgree «on_queue» others reserved waiting (take n (now subs)) (now rows) ⌝ }
+    ensures { λ r. ⌜ r ≡ numbersOk (kindBy «on_queue») others reserved waiting (take n (now (subs .entry))) (now (rows .entry)) ⌝ }
 {
     let first = others + reserved;
     let place = on_queue | (reserved + waiting == 0);
-    let look = subs_ok(subs, n, rows, most, on_queue);
-    if !look.ok {
-        return false;
-    }
-    let ids = ids_apart(subs, n);
-    let kept = entries_ok(rows, others, first);
-    if !sorted_ok(rows, first, first + waiting) {
-        return false;
-    }
     let seqs = apart(subs, n, rows, others, reserved, waiting, on_queue);
-    if !(place & (ids & (kept & seqs))) {
+    if !(place & seqs) {
         return false;
     }
-    if look.alike {
+    if alike(subs, n, rows, on_queue) {
         return true;
     }
     sizes_ok(subs, n, rows, first + waiting, on_queue)
 }
 
-// What follows the head's own numbers.
+// What follows the head.
 fn rest_ok(head: &[u64], subs: &[SubRow], rows: &[Row]) -> bool
     requires { do ⌜ 8347 ≤ (← ⟦head.len()⟧) ⌝ }
     requires { do ⌜ 32 ≤ (← ⟦subs.len()⟧) ⌝ }
     requires { do ⌜ 512 ≤ (← ⟦rows.len()⟧) ⌝ }
-    requires { ⌜ headOk (now head) ≡ true ⌝ }
+    requires { ⌜ (headOk (now head) ≡ true) × (ringsFormed (at 14 (now head)) (drop 113 (now head)) ≡ true) ⌝ }
     ensures { λ r. ⌜ r ≡ restOk (lent (now (head .entry)) (now (subs .entry)) (now (rows .entry))) ⌝ }
 {
+    let n = head[12] as usize;
     let reserved = head[15] as usize;
     let waiting = head[16] as usize;
-    if 512 < reserved {
-        return false;
-    }
-    if 512 < waiting {
-        return false;
-    }
-    let n = head[12] as usize;
-    let others = sub_rows(subs, n);
-    if 512 < others + (reserved + waiting) {
-        return false;
-    }
-    let rings = rings_ok(head, head[14]);
-    let most = 65536 * head[3] + 1;
     let on_queue = head[0] == 0;
-    if !(rings & tables_ok(subs, n, rows, others, reserved, waiting, most, on_queue)) {
+    let most = 65536 * head[3] + 1;
+    let look = subrows::test_all(subs, n, rows, reserved, waiting, most, on_queue);
+    if !look.ok {
         return false;
     }
-    shares_ok(
-        subs,
-        n,
-        rows,
-        others,
-        reserved + waiting,
-        head[8346],
-        on_queue,
-    )
+    let others = look.others;
+    if !numbers_ok(subs, n, rows, others, reserved, waiting, on_queue) {
+        return false;
+    }
+    let rest = reserved + waiting;
+    shares_ok(subs, n, rows, others, rest, head[8346], on_queue)
 }
 
 // Whether the buffers are long enough.
@@ -977,7 +642,7 @@ pub fn sound(head: &[u64], subs: &[SubRow], rows: &[Row]) -> bool
     if !whole(head, subs, rows) {
         return false;
     }
-    if !head_ok(head) {
+    if !heads::sound(head) {
         return false;
     }
     rest_ok(head, subs, rows)

@@ -10,7 +10,8 @@ use Rattle.words.proofs.Words.{flag-small}
 use Rattle.definition.specs.Base.{tally}
 use Rattle.definition.specs.Layout.{Row}
 use Rattle.copies.specs.Copies.{mayCopy}
-use Rattle.copies.proofs.Laws.{one, tally-turn, tally-end}
+use Rattle.distinct.proofs.Laws.{one}
+use Rattle.copies.proofs.Laws.{tally-turn, tally-end}
 use native.Mathlib.Omega.{arith}
 use borrow.Author.Needs.{needs}
 use Rattle.copies.proofs.holders.Statement.{statement}

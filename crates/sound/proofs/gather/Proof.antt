@@ -5,7 +5,7 @@ use Prim.Native.Nat.{ℕ, _+_, _-_, _≤_}
 use native.Mathlib.Nat.{add-zero}
 use lib.ListN.{length, take, drop, getD, length-set}
 use Rattle.definition.specs.Words.{at}
-use Rattle.sound.specs.Sound.{seqsAt}
+use Rattle.subrows.specs.Subrows.{seqsAt}
 use Rattle.sound.proofs.Gathered.{gather-turn}
 use native.Mathlib.Omega.{arith}
 use borrow.Author.Needs.{needs}

@@ -7,7 +7,7 @@ use lib.Seq.{slice}
 use Rattle.definition.specs.Types.{queue}
 use Rattle.definition.specs.Calls.{seqs, taken}
 use Rattle.definition.specs.Layout.{subsAt, subRows}
-use Rattle.sound.proofs.Subs.{rows-turn, rows-end}
+use Rattle.subrows.proofs.Subs.{rows-turn, rows-end}
 use Rattle.sound.proofs.Gathered.{taken-next, taken-end, taken-small}
 use native.Mathlib.Omega.{arith}
 use borrow.Author.Needs.{needs}

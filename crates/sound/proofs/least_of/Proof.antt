@@ -3,8 +3,8 @@ use mathlib.Core.Path.{ap}
 use mathlib.Core.List.{List}
 use Rattle.definition.specs.Base.{member}
 use Rattle.definition.specs.Layout.{Row}
-use Rattle.sound.specs.Sound.{seqsAt}
-use Rattle.sound.proofs.Tests.{part-end}
+use Rattle.subrows.specs.Subrows.{seqsAt}
+use Rattle.subrows.proofs.Tests.{part-end}
 use Rattle.sound.proofs.Rising.{below-first}
 use native.Mathlib.Omega.{arith}
 use borrow.Author.Needs.{needs}

@@ -7,7 +7,8 @@ use lib.ListN.{length, take, drop, getD, length-set}
 use lib.Seq.{slice}
 use Rattle.definition.specs.Base.{member, ascending}
 use Rattle.definition.specs.Words.{at}
-use Rattle.sound.specs.Sound.{seqsAt, SameFrom, markedApart, Met}
+use Rattle.subrows.specs.Subrows.{seqsAt}
+use Rattle.sound.specs.Sound.{SameFrom, markedApart, Met}
 use Rattle.sound.proofs.Rising.{resumed}
 use Rattle.sound.proofs.Glance.{met-none, met-more}
 use native.Mathlib.Omega.{arith}

@@ -5,8 +5,9 @@ use Prim.Native.Nat.{_-_, _≤_}
 use lib.ListN.{take, getD}
 use lib.Seq.{slice}
 use Rattle.definition.specs.Base.{all, member, ascending}
-use Rattle.sound.specs.Sound.{seqsAt, SameFrom}
-use Rattle.sound.proofs.Tests.{all-stop, all-next, all-end}
+use Rattle.subrows.specs.Subrows.{seqsAt}
+use Rattle.sound.specs.Sound.{SameFrom}
+use Rattle.subrows.proofs.Tests.{all-stop, all-next, all-end}
 use Rattle.sound.proofs.Rising.{resumed}
 use native.Mathlib.Omega.{arith}
 use borrow.Author.Needs.{needs}

@@ -4,7 +4,8 @@ use mathlib.Core.Bool.{true}
 use Prim.Native.Nat.{_-_, _≤_}
 use lib.Seq.{slice}
 use Rattle.definition.specs.Base.{ascending}
-use Rattle.sound.specs.Sound.{seqsAt, SameFrom}
+use Rattle.subrows.specs.Subrows.{seqsAt}
+use Rattle.sound.specs.Sound.{SameFrom}
 use Rattle.sound.proofs.Rising.{same-next, ascends-next, met-at, met-nowhere}
 use native.Mathlib.Omega.{arith}
 use borrow.Author.Needs.{needs}

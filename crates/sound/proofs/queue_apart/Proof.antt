@@ -11,8 +11,8 @@ use Rattle.definition.specs.Types.{queue}
 use Rattle.definition.specs.Calls.{seqs, taken}
 use Rattle.definition.specs.Layout.{subsAt}
 use Rattle.distinct.proofs.Laws.{apart}
-use Rattle.sound.specs.Sound.{seqsAt, reservedAt, waitingAt}
-use Rattle.sound.proofs.Subs.{sorted-rises}
+use Rattle.subrows.specs.Subrows.{seqsAt, reservedAt, waitingAt}
+use Rattle.subrows.proofs.Subs.{sorted-rises}
 use Rattle.sound.proofs.Rising.{waiting-apart}
 use Rattle.sound.proofs.Tables.{gathered-two}
 use native.Mathlib.Omega.{arith}

@@ -3,7 +3,7 @@ use mathlib.Core.Path.{_≡_}
 use Prim.Native.Nat.{_-_, _≤_}
 use lib.Seq.{slice}
 use Rattle.definition.specs.Base.{rising}
-use Rattle.sound.specs.Sound.{seqsAt}
+use Rattle.subrows.specs.Subrows.{seqsAt}
 use Rattle.sound.proofs.Rising.{rise-stop, rise-next, rise-end}
 use native.Mathlib.Omega.{arith}
 use borrow.Author.Needs.{needs}

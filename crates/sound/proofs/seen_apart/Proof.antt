@@ -9,8 +9,9 @@ use lib.Seq.{slice}
 use Rattle.definition.specs.Types.{queue}
 use Rattle.definition.specs.Calls.{seqs, taken}
 use Rattle.definition.specs.Layout.{subsAt, subRows}
-use Rattle.sound.specs.Sound.{seqsAt, reservedAt, markedApart}
-use Rattle.sound.proofs.Subs.{rows-turn, sorted-rises}
+use Rattle.subrows.specs.Subrows.{seqsAt, reservedAt}
+use Rattle.sound.specs.Sound.{markedApart}
+use Rattle.subrows.proofs.Subs.{rows-turn, sorted-rises}
 use Rattle.sound.proofs.Gathered.{taken-more, taken-all, taken-small}
 use Rattle.sound.proofs.Glance.{marked-queue}
 use native.Mathlib.Omega.{arith}

@@ -8,8 +8,8 @@ use lib.ListN.{length, take, drop, length-drop}
 use Rattle.definition.specs.Base.{distinct, ascending}
 use Rattle.definition.specs.Words.{at}
 use Rattle.definition.specs.Layout.{Row, flag}
-use Rattle.sound.specs.Sound.{seqsAt}
-use Rattle.sound.proofs.Tests.{part-of, part-end}
+use Rattle.subrows.specs.Subrows.{seqsAt}
+use Rattle.subrows.proofs.Tests.{part-of, part-end}
 use Rattle.sound.proofs.Rising.{topic-rises, asked-topic, asked-browser, not-asked}
 use native.Mathlib.Omega.{arith}
 use borrow.Author.Needs.{needs}

@@ -7,11 +7,12 @@ use borrow.Author.Tests.{not-true, not-false}
 use lib.ListN.{take, drop, getD}
 use lib.Seq.{slice}
 use Rattle.definition.specs.Base.{all}
-use Rattle.definition.specs.Words.{at}
+use Rattle.definition.specs.Words.{at, kindBy}
 use Rattle.definition.specs.Layout.{subAt, eachSub, subsAt, subRows}
 use Rattle.definition.proofs.Tests.{and-left, and-right}
-use Rattle.sound.specs.Sound.{kindBy, seqsAt, heldSeqs, heldRise, apartBy}
-use Rattle.sound.proofs.Subs.{rows-turn, walk-turn, walk-stop, walk-next, walk-end}
+use Rattle.subrows.specs.Subrows.{seqsAt}
+use Rattle.sound.specs.Sound.{apartBy, heldSeqs, heldRise}
+use Rattle.subrows.proofs.Subs.{rows-turn, walk-turn, walk-stop, walk-next, walk-end}
 use Rattle.sound.proofs.Gathered.{apart-here}
 use native.Mathlib.Omega.{arith}
 use borrow.Author.Needs.{needs}

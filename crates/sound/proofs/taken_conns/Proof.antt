@@ -7,7 +7,7 @@ use lib.Seq.{slice}
 use Rattle.definition.specs.Types.{queue}
 use Rattle.definition.specs.Calls.{taken}
 use Rattle.definition.specs.Layout.{subsAt, subRows}
-use Rattle.sound.proofs.Subs.{rows-turn}
+use Rattle.subrows.proofs.Subs.{rows-turn}
 use Rattle.shares.specs.Shares.{conns}
 use Rattle.sound.proofs.Gathered.{taken-small}
 use Rattle.sound.proofs.Connected.{taken-next, taken-end}

@@ -1,0 +1,4 @@
+pub mod Tests
+pub mod Rows
+pub mod Subs
+pub mod Looked
