@@ -3,3 +3,5 @@ pub mod Digits
 pub mod Parts
 pub mod Events
 pub mod Sets
+pub mod Cutting
+pub mod Filling

@@ -1,4 +1,5 @@
 pub mod Blocks
 pub mod Lines
 pub mod Placed
+pub mod Cutting
 pub mod Cases

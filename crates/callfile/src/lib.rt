@@ -3,12 +3,13 @@ ghost use mathlib.Core.Path.{_≡_};
 ghost use mathlib.Core.List.{[], _∷_};
 ghost use Prim.Native.Nat.{_+_, _≤_, _<_, _^_};
 ghost use lib.Dec.{leb};
-ghost use lib.ListN.{length};
+ghost use lib.ListN.{length, drop};
 ghost use Rattle.words.specs.Words.{signed};
 ghost use Rattle.model.specs.Model.{idOf};
 ghost use Rattle.callfile.specs.Blocks.{byteAt, numberAt, wordAt, check, checkIn, callsIn, callAt};
 ghost use Rattle.callfile.specs.Lines.{decimal, field, signedField, wordField, idFields, callLine, eventLine, letterAt, messageAt, nullAt, wordsLine, badLine, countersLine};
 ghost use Rattle.callfile.specs.Placed.{Puts, PutLine};
+ghost use Rattle.callfile.specs.Cutting.{Filled};
 use calls::Call;
 use stats::Stats;
 
@@ -21,6 +22,21 @@ pub const LINE: usize = 128;
 
 // The code of no call.
 const UNKNOWN: u64 = 18446744073709551615;
+
+// How far a file is read: how many bytes of the next block are there, that block's number, the next call's index, and whether reading goes on.
+pub struct Reading {
+    pub have: usize,
+    pub number: u64,
+    pub index: u64,
+    pub goes_on: bool,
+}
+
+// After a step on a piece: how far the file is read, the place in the piece, and how many bytes of lines were written.
+pub struct Took {
+    pub reading: Reading,
+    pub next: usize,
+    pub written: usize,
+}
 
 // ---- blocks
 
@@ -211,6 +227,25 @@ pub fn put_all(out: &mut [u8], at: usize, part: &[u8]) -> usize
         return at;
     }
     put_each(out, at, part)
+}
+
+// Takes bytes of a piece, from a place of it on, into a block behind its first `have`: as many as fit. How many there were.
+pub fn fill(block: &mut [u8], have: usize, piece: &[u8], from: usize) -> usize
+    ensures { λ r. ⌜ Filled have (drop from (now (piece .entry))) (now (block .entry)) r (now (block .exit)) ⌝ }
+{
+    if block.len() <= have {
+        return 0;
+    }
+    if piece.len() <= from {
+        return 0;
+    }
+    let room = block.len() - have;
+    let left = piece.len() - from;
+    if room < left {
+        let end = from + room;
+        return put_each(block, have, &piece[from..end]) - have;
+    }
+    put_each(block, have, &piece[from..]) - have
 }
 
 fn word_field(out: &mut [u8], at: usize, w: u64, minus: bool) -> usize

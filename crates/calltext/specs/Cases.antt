@@ -11,6 +11,7 @@ use Rattle.textwords.specs.Numbers.{digitsAfter, unsignedOf, negated, numberOf}
 use Rattle.calltext.specs.declared.Parsed.{Parsed}
 use Rattle.calltext.specs.Names.{names, placeIn, namePlace, codePlace, kinds}
 use Rattle.calltext.specs.Lines.{gatherCall, namedCall, callIn, lineCall}
+use Rattle.calltext.specs.Faults.{faultAmong, faultIn, faultWord}
 use Rattle.calltext.specs.Shown.{shownWords, fields, codeField, callText}
 
 -- what a line is, and its call's code and words
@@ -21,7 +22,7 @@ zeros : List ℕ
 zeros = 0 ∷ 0 ∷ 0 ∷ 0 ∷ 0 ∷ 0 ∷ 0 ∷ 0 ∷ []
 
 cases : List Bool
-unfolding digits decimal run pieces full wordsOf plain sameText digitsAfter unsignedOf negated numberOf names placeIn namePlace codePlace kinds gatherCall namedCall callIn lineCall shownWords fields codeField callText is zeros
+unfolding digits decimal run pieces full wordsOf plain sameText digitsAfter unsignedOf negated numberOf names placeIn namePlace codePlace kinds gatherCall namedCall callIn lineCall faultAmong faultIn faultWord shownWords fields codeField callText is zeros
 cases =
     -- open 0 0 100 0
     is (lineCall (111 ∷ 112 ∷ 101 ∷ 110 ∷ 32 ∷ 48 ∷ 32 ∷ 48 ∷ 32 ∷ 49 ∷ 48 ∷ 48 ∷ 32 ∷ 48 ∷ [])) 0 0 (0 ∷ 0 ∷ 100 ∷ 0 ∷ 0 ∷ 0 ∷ 0 ∷ 0 ∷ [])
@@ -73,6 +74,20 @@ cases =
     ∷ sameText (callText (newCall 8 (9 ∷ 1 ∷ 1 ∷ 0 ∷ 0 ∷ 0 ∷ 0 ∷ 0 ∷ []))) (117 ∷ 110 ∷ 109 ∷ 97 ∷ 114 ∷ 107 ∷ 32 ∷ 57 ∷ 32 ∷ 49 ∷ 32 ∷ 49 ∷ 10 ∷ [])
     -- raw 16 0 18446744073709551615
     ∷ sameText (callText (newCall 16 (0 ∷ (2 ^ 64 - 1) ∷ 0 ∷ 0 ∷ 0 ∷ 0 ∷ 0 ∷ 0 ∷ []))) (114 ∷ 97 ∷ 119 ∷ 32 ∷ 49 ∷ 54 ∷ 32 ∷ 48 ∷ 32 ∷ 49 ∷ 56 ∷ 52 ∷ 52 ∷ 54 ∷ 55 ∷ 52 ∷ 52 ∷ 48 ∷ 55 ∷ 51 ∷ 55 ∷ 48 ∷ 57 ∷ 53 ∷ 53 ∷ 49 ∷ 54 ∷ 49 ∷ 53 ∷ 10 ∷ [])
+    -- the word at fault of: opem 0
+    ∷ sameText (faultWord (111 ∷ 112 ∷ 101 ∷ 109 ∷ 32 ∷ 48 ∷ [])) (111 ∷ 112 ∷ 101 ∷ 109 ∷ [])
+    -- the word at fault of: enqueue 1 2 x y
+    ∷ sameText (faultWord (101 ∷ 110 ∷ 113 ∷ 117 ∷ 101 ∷ 117 ∷ 101 ∷ 32 ∷ 49 ∷ 32 ∷ 50 ∷ 32 ∷ 120 ∷ 32 ∷ 121 ∷ [])) (120 ∷ [])
+    -- the word at fault of: leave 1 --1 # +
+    ∷ sameText (faultWord (108 ∷ 101 ∷ 97 ∷ 118 ∷ 101 ∷ 32 ∷ 49 ∷ 32 ∷ 45 ∷ 45 ∷ 49 ∷ 32 ∷ 35 ∷ 32 ∷ 43 ∷ [])) (45 ∷ 45 ∷ 49 ∷ [])
+    -- the word at fault of: clear 1 2 3 4 5 6 7 8 9 10
+    ∷ sameText (faultWord (99 ∷ 108 ∷ 101 ∷ 97 ∷ 114 ∷ 32 ∷ 49 ∷ 32 ∷ 50 ∷ 32 ∷ 51 ∷ 32 ∷ 52 ∷ 32 ∷ 53 ∷ 32 ∷ 54 ∷ 32 ∷ 55 ∷ 32 ∷ 56 ∷ 32 ∷ 57 ∷ 32 ∷ 49 ∷ 48 ∷ [])) (57 ∷ [])
+    -- the word at fault of: raw 1 2 3 4 5 6 7 8 9 10
+    ∷ sameText (faultWord (114 ∷ 97 ∷ 119 ∷ 32 ∷ 49 ∷ 32 ∷ 50 ∷ 32 ∷ 51 ∷ 32 ∷ 52 ∷ 32 ∷ 53 ∷ 32 ∷ 54 ∷ 32 ∷ 55 ∷ 32 ∷ 56 ∷ 32 ∷ 57 ∷ 32 ∷ 49 ∷ 48 ∷ [])) (49 ∷ 48 ∷ [])
+    -- the word at fault of: clear 1
+    ∷ sameText (faultWord (99 ∷ 108 ∷ 101 ∷ 97 ∷ 114 ∷ 32 ∷ 49 ∷ [])) ([])
+    -- the word at fault of: # opem
+    ∷ sameText (faultWord (35 ∷ 32 ∷ 111 ∷ 112 ∷ 101 ∷ 109 ∷ [])) ([])
     ∷ []
 
 all-right : T (every cases)

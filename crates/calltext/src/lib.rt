@@ -3,9 +3,11 @@ ghost use mathlib.Core.Path.{_≡_};
 ghost use Prim.Native.Nat.{_+_, _<_, _≤_};
 ghost use lib.ListN.{length, getD, drop};
 ghost use Rattle.textwords.specs.Text.{wordsOf, sameText};
+ghost use Rattle.textwords.specs.Numbers.{numberOf};
 ghost use Rattle.callfile.specs.Placed.{Puts, PutLine};
 ghost use Rattle.calltext.specs.Names.{nameAt, namePlace, codePlace, kindAt};
 ghost use Rattle.calltext.specs.Lines.{parsedCall, withoutCall, callOf, gatherCall, namedCall, callIn, lineCall};
+ghost use Rattle.calltext.specs.Faults.{isNumber, faultAmong, faultIn, faultWord, FaultAt};
 ghost use Rattle.calltext.specs.Shown.{shownWords, fields, codeField, callText};
 use calls::Call;
 use textwords::Number;
@@ -438,6 +440,12 @@ pub struct Parsed {
     pub call: Call,
 }
 
+// A word of a line, from a place to another.
+pub struct Fault {
+    pub from: usize,
+    pub to: usize,
+}
+
 // What a line can be.
 pub const CALL: u64 = 0;
 
@@ -563,6 +571,65 @@ pub fn parse(line: &[u8]) -> Parsed
 {
     let e = textwords::scan(line, 0, Stop::Remark);
     parse_words(&line[0..e])
+}
+
+// ---- the word at fault
+
+fn is_number(word: &[u8]) -> bool
+    ensures { λ r. ⌜ r ≡ isNumber (numberOf (now (word .entry))) ⌝ }
+{
+    let Number::Of(_) = textwords::number_of(word) else {
+        return false;
+    };
+    true
+}
+
+// The first word from a place on that is no number, or that is one too many.
+fn fault_from(text: &[u8], from: usize, first: usize) -> Fault
+    requires { do ⌜ (from ≤ (← ⟦text.len()⟧)) × (first ≤ 9) ⌝ }
+    ensures { λ r. ⌜ FaultAt (faultAmong first (wordsOf (drop from (now (text .entry))))) (now (text .entry)) r ⌝ }
+{
+    let mut n = first;
+    let mut i = textwords::scan(text, from, Stop::Word);
+    while i < text.len() {
+        let e = textwords::scan(text, i, Stop::Blank);
+        if 8 < n {
+            return Fault { from: i, to: e };
+        }
+        if !is_number(&text[i..e]) {
+            return Fault { from: i, to: e };
+        }
+        n += 1;
+        i = textwords::scan(text, e, Stop::Word);
+    }
+    Fault { from: i, to: i }
+}
+
+// Of a text without remarks.
+fn fault_in(text: &[u8]) -> Fault
+    ensures { λ r. ⌜ FaultAt (faultIn (wordsOf (now (text .entry)))) (now (text .entry)) r ⌝ }
+{
+    let i = textwords::scan(text, 0, Stop::Word);
+    if i == text.len() {
+        return Fault { from: i, to: i };
+    }
+    let e = textwords::scan(text, i, Stop::Blank);
+    let place = place_of(&text[i..e]);
+    if RAW < place {
+        return Fault { from: i, to: e };
+    }
+    if place == RAW {
+        return fault_from(text, e, 0);
+    }
+    fault_from(text, e, 1)
+}
+
+// The word of a line that makes it a bad one; no bytes where it is none.
+pub fn fault_of(text: &[u8]) -> Fault
+    ensures { λ r. ⌜ FaultAt (faultWord (now (text .entry))) (now (text .entry)) r ⌝ }
+{
+    let e = textwords::scan(text, 0, Stop::Remark);
+    fault_in(&text[0..e])
 }
 
 // ---- from a call to a line

@@ -10,7 +10,7 @@ pub const END: u64 = 1;
 pub const FAILED: u64 = 2;
 
 // It goes on.
-const AGAIN: u64 = 3;
+pub const AGAIN: u64 = 3;
 
 // How many bytes stand in the buffer, and how the reading ended.
 pub struct Got {
@@ -18,8 +18,8 @@ pub struct Got {
     pub how: u64,
 }
 
-// One read, behind the bytes that stand in the buffer.
-fn read_once(fd: i32, buf: &mut [u8], at: usize) -> Got
+// One read, behind the bytes that stand in the buffer. Where a signal interrupts it no byte came, and reading goes on.
+pub fn read_once(fd: i32, buf: &mut [u8], at: usize) -> Got
     ensures { λ r. ⌜ r .how ≤ 3 ⌝ }
     ensures { λ r. ⌜ ReadInto at (now (buf .entry)) (now (buf .exit)) (r .n) (r .how) ⌝ }
 {

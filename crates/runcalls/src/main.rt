@@ -1,117 +1,127 @@
 // Runs a call file, document 01's program: from standard input, or from the file that its one argument names. Here is only reading and
-// writing: `running` says what is printed.
-ghost use Prim.Native.Nat.{_≤_};
+// writing: `running` says what is printed, wherever the file is cut.
 ghost use mathlib.Core.Path.{_≡_};
 ghost use lib.ListN.{length};
+use callfile::Reading;
 use consumers::SubRow;
 use entry::Row;
-use libc::STDERR_FILENO;
-use libc::STDIN_FILENO;
-use libc::STDOUT_FILENO;
 use state::Event;
-
-// ---- writing
-
-// One write, and another where a signal has interrupted it; 0 where it failed.
-fn write_some(part: &[u8]) -> usize
-    ensures { λ r. ⌜ r ≤ length (now (part .entry)) ⌝ }
-{
-    let mut turns = 18446744073709551615u64;
-    while 0 < turns {
-        let n = libc::write(STDOUT_FILENO, part);
-        if 0 <= n {
-            return io::count(n, part);
-        }
-        if os::errno() != libc::EINTR {
-            return 0;
-        }
-        turns -= 1;
-    }
-    0
-}
 
 // Writes the first n bytes of a text, and says whether that was done.
 fn write(text: &[u8], n: usize) -> bool {
-    if text.len() < n {
-        return false;
-    }
-    let mut done = 0;
-    while done < n {
-        let put = write_some(&text[done..n]);
-        if put == 0 {
-            os::fail(b"runcalls: standard output");
-            return false;
-        }
-        done += put;
-    }
-    true
+    program::write(b"runcalls", text, n)
 }
 
-// ---- blocks
+// A read failed.
+fn say_failed() {
+    program::failed(b"runcalls", b"input");
+}
 
-// The next call's index, whether reading goes on, and whether all was written.
+// ---- pieces
+
+// How far the file is read, whether reading goes on, whether a read failed, and whether all was written.
 struct Next {
-    index: u64,
+    at: Reading,
     goes_on: bool,
+    failed: bool,
     written: bool,
 }
 
-// Reads the next block, runs it and writes its lines. A block that cannot be read whole is a bad one.
-fn next_block(
+// Hands a piece over, and writes its lines.
+fn run_piece(
+    head: &mut [u64],
+    subs: &mut [SubRow],
+    rows: &mut [Row],
+    events: &mut [Event],
+    block: &mut [u8],
+    start: Reading,
+    piece: &[u8],
+    out: &mut [u8],
+) -> Next {
+    let mut at = start;
+    let mut from = 0;
+    while from < piece.len() {
+        let t = running::run_piece(head, subs, rows, events, block, at, piece, from, out);
+        if !write(out, t.written) {
+            return Next {
+                at,
+                goes_on: false,
+                failed: false,
+                written: false,
+            };
+        }
+        at = t.reading;
+        from = t.next;
+    }
+    Next {
+        at,
+        goes_on: at.goes_on,
+        failed: false,
+        written: true,
+    }
+}
+
+// Reads the next piece and runs it.
+fn next_piece(
     fd: i32,
     head: &mut [u64],
     subs: &mut [SubRow],
     rows: &mut [Row],
     events: &mut [Event],
+    block: &mut [u8],
+    at: Reading,
+    piece: &mut [u8],
     out: &mut [u8],
-    index: u64,
-    number: u64,
 ) -> Next {
-    let mut block = [0u8; 512];
-    let g = reading::read_on(fd, &mut block, 0);
-    if g.how == reading::FAILED {
-        os::fail(b"runcalls: input");
-    } else if g.n == 0 {
+    let g = reading::read_once(fd, piece, 0);
+    let n = g.n;
+    let failed = g.how == reading::FAILED;
+    if failed {
+        say_failed();
+    }
+    if g.how != reading::AGAIN {
         return Next {
-            index,
+            at,
             goes_on: false,
+            failed,
             written: true,
         };
     }
-    let ran = running::run_block(head, subs, rows, events, &block, g.n, index, number, out);
-    let written = write(out, ran.written);
-    Next {
-        index: ran.index,
-        goes_on: ran.goes_on,
-        written,
-    }
+    run_piece(head, subs, rows, events, block, at, &piece[..n], out)
 }
 
-// All blocks, up to the end or a bad one; whether all was written.
+// All pieces, up to the end, a read that fails or a bad block.
 fn run_all(
     fd: i32,
     head: &mut [u64],
     subs: &mut [SubRow],
     rows: &mut [Row],
     events: &mut [Event],
+    block: &mut [u8],
+    piece: &mut [u8],
     out: &mut [u8],
-) -> bool {
-    let mut index = 0;
-    let mut number = 0;
+) -> Next {
+    let mut at = Reading {
+        have: 0,
+        number: 0,
+        index: 0,
+        goes_on: true,
+    };
     let mut turns = 18446744073709551615u64;
     while 0 < turns {
-        let r = next_block(fd, head, subs, rows, events, out, index, number);
-        if !r.written {
-            return false;
-        }
+        let r = next_piece(fd, head, subs, rows, events, block, at, piece, out);
         if !r.goes_on {
-            return true;
+            return r;
         }
-        index = r.index;
-        number = stats::more_of(number);
+        at = r.at;
         turns -= 1;
     }
-    true
+    Next {
+        at,
+        goes_on: false,
+        failed: false,
+        written: true,
+    }
 }
 
 fn text() -> [u8; 489216]
@@ -120,66 +130,74 @@ fn text() -> [u8; 489216]
     [0; 489216]
 }
 
+fn pieces() -> [u8; 65536]
+    ensures { λ r. ⌜ 65536 ≡ length r ⌝ }
+{
+    [0; 65536]
+}
+
+// The first n bytes of a text, on standard error.
+fn say(text: &[u8], n: usize) {
+    if text.len() < n {
+        return;
+    }
+    program::message(b"runcalls", &text[0..n]);
+}
+
+// Where not one call was read, says on standard error what the file looks like: the block has its first bytes.
+fn hint(block: &[u8], at: Reading) {
+    if at.index != 0 {
+        return;
+    }
+    let mut n = at.have;
+    if at.number != 0 {
+        n = block.len();
+    }
+    if n == 0 {
+        return;
+    }
+    let kind = program::looks_like(block, n);
+    if kind == program::CALLS {
+        return;
+    }
+    let mut said = [0u8; 160];
+    let end = program::put_hint(&mut said, kind);
+    say(&said, end);
+}
+
 // The whole run, from a state of zeros.
 fn run(fd: i32) {
     let mut head = [0u64; 8347];
     let mut subs = [[0u64; 16]; 32];
     let mut rows = [[0u64; 10]; 512];
     let mut events = [[0u64; 6]; 545];
+    let mut block = [0u8; 512];
+    let mut piece = pieces();
     let mut out = text();
-    if run_all(fd, &mut head, &mut subs, &mut rows, &mut events, &mut out) {
-        let n = running::last_line(&head, &mut out);
+    let r = run_all(
+        fd,
+        &mut head,
+        &mut subs,
+        &mut rows,
+        &mut events,
+        &mut block,
+        &mut piece,
+        &mut out,
+    );
+    if r.written {
+        let n = running::run_end(&head, r.at, r.failed, &mut out);
         write(&out, n);
     }
-}
-
-// ---- the argument
-
-fn usage(fd: i32) {
-    io::write_all(
-        fd,
-        b"usage: runcalls [FILE]: runs a call file, standard input without FILE, and prints its lines\n",
-    );
-}
-
-fn run_file(name: &[u8]) {
-    let fd = os::open_read(name);
-    if fd < 0 {
-        os::fail(name);
-        return;
-    }
-    run(fd);
-    libc::close(fd);
-}
-
-// An argument that begins with `-` is no file.
-fn run_named(name: &[u8]) {
-    if name.len() == 0 {
-        usage(STDERR_FILENO);
-    } else if name[0] != b'-' {
-        run_file(name);
-    } else if textwords::same(name, b"--help") {
-        usage(STDOUT_FILENO);
-    } else {
-        usage(STDERR_FILENO);
-    }
+    hint(&block, r.at);
 }
 
 fn main() {
-    let n = os::arg_count();
-    if n < 2 {
-        run(STDIN_FILENO);
-        return;
+    let s = program::open_argument(
+        b"runcalls",
+        b"usage: runcalls [FILE]: runs a call file, standard input without FILE, and prints its lines\n",
+    );
+    if s.how == program::OPENED {
+        run(s.fd);
+        libc::close(s.fd);
     }
-    if 2 < n {
-        usage(STDERR_FILENO);
-        return;
-    }
-    let mut name = io::buffer();
-    let length = os::arg(1, &mut name);
-    if os::errno() != 0 {
-        os::fail(b"runcalls: argument");
-        return;
-    }
-    run_named(&name[..length]);
 }

@@ -4,7 +4,7 @@ use native.Mathlib.Omega.{arith}
 use mathlib.Core.Path.{_≡_, refl, sym, ap, ap₂, _∙_, subst, subst⁻¹}
 use mathlib.Core.Bool.{Bool, true, false, _||_, true≢false, or-false, or-assoc}
 use mathlib.Core.List.{List, [], _++_, append-assoc, append-nil}
-use borrow.Author.Tests.{eqb-true, eqb-false, eq-eqb, ne-eqb, lt-ltb, le-ltb}
+use borrow.Author.Tests.{eqb-true, eqb-false, eq-eqb, ne-eqb}
 use lib.ListN.{length}
 use Rattle.definition.specs.Calls.{Lengths, Result}
 use Rattle.definition.specs.Layout.{Row, Buffers, soundBuffers, lengthsOf, bufferStep}
@@ -18,7 +18,7 @@ use Rattle.callfile.specs.Placed.{Puts, PutLine}
 use Rattle.callfile.proofs.Parts.{then, line-puts, none-put}
 use Rattle.callfile.proofs.Digits.{bad-length}
 use Rattle.running.specs.declared.Ran.{Ran}
-use Rattle.running.specs.Running.{callLines, LentState, lentBy, accepted, stepOn, leftBy, outcomeOf, Run, followedRun, runCalls, blockCalls, ends, runBlock, Runs}
+use Rattle.running.specs.Running.{callLines, LentState, lentBy, accepted, stepOn, leftBy, outcomeOf, Run, followedRun, runCalls, blockCalls, ends, runBlock, Left, Runs}
 use Rattle.running.proofs.Texts.{first-next, first-text}
 use Rattle.running.proofs.Called.{step-by, sends, text-length, left}
 
@@ -142,9 +142,7 @@ module _ (block : List ℕ) (count from : ℕ) (b₀ : Buffers) (events₀ : Lis
       goes-on = refl;
       text = first-text (s .put) (omega (arith, room, s .small, s .passed, most, first-next (s .put)));
       shows = refl;
-      leaves-sound = s .leaves-sound;
-      kept = s .kept;
-      past = s .past;
+      left = record { leaves-sound = s .leaves-sound; kept = s .kept; past = s .past };
     })
       where
         none-left : count - k ≡ 0
@@ -158,38 +156,26 @@ module _ (block : List ℕ) (count from : ℕ) (b₀ : Buffers) (events₀ : Lis
 
 -- ---- a block, from its tests on
 
-module _ (l : Lengths) (block : List ℕ) (got index number : ℕ) (b : Buffers) (events : List Row) (out : List ℕ) where
+module _ (l : Lengths) (block : List ℕ) (index number : ℕ) (b : Buffers) (events : List Row) (out : List ℕ) (room : 489216 ≤ length out) (count : ℕ) (counted : count ≡ callsIn block (length block)) where
   abbrev run : Run
-  run = runBlock l (length out) block got index number (lentBy b events)
+  run = runBlock l block index number (lentBy b events)
 
-  ended : (text out′ : List ℕ) (r : ℕ) → run ≡ ends text index (lentBy b events) → Puts text 0 out r out′ → length text ≤ length out
-      → Runs run b b events events out out′ (record { index = index; written = r; «goes_on» = false })
-  ended text out′ r e p h = subst⁻¹ (λ (q : Run). Runs q b b events events out out′ (record { index = index; written = r; «goes_on» = false })) e (record {
-    index = refl;
-    written = first-next p;
-    goes-on = refl;
-    text = first-text p h;
-    shows = refl;
-    leaves-sound = λ f. absurd (true≢false (sym f));
-    kept = λ _. refl;
-    past = unchanged b events;
-  })
-
-  pub no-room : length out < 489216 → Runs run b b events events out out (record { index = index; written = 0; «goes_on» = false })
+  pub bad-block : count ≡ 0 → {out′ : List ℕ} {r : ℕ} → PutLine 128 (badLine number) 0 out r out′ → Runs run b b events events out out′ (record { index = index; written = r; «goes_on» = false })
   unfolding runBlock
-  no-room h = ended [] out 0 (if-true _ _ (lt-ltb (length out) 489216 h)) (none-put 0 out) (omega arith)
+  bad-block z {out′} {r} p =
+      let put : Puts (badLine number) 0 out r out′ = line-puts (omega (arith, room)) (bad-length number) p in
+      subst⁻¹ (λ (q : Run). Runs q b b events events out out′ (record { index = index; written = r; «goes_on» = false })) (if-true _ _ (eq-eqb (callsIn block (length block)) 0 (sym counted ∙ z))) (record {
+        index = refl;
+        written = first-next put;
+        goes-on = refl;
+        text = first-text put (omega (arith, room, bad-length number));
+        shows = refl;
+        left = record { leaves-sound = λ f. absurd (true≢false (sym f)); kept = λ _. refl; past = unchanged b events };
+      })
 
-  module _ (room : 489216 ≤ length out) (count : ℕ) (counted : count ≡ callsIn block got) where
-    pub bad-block : count ≡ 0 → {out′ : List ℕ} {r : ℕ} → PutLine 128 (badLine number) 0 out r out′ → Runs run b b events events out out′ (record { index = index; written = r; «goes_on» = false })
-    unfolding runBlock
-    bad-block z {out′} {r} p = ended (badLine number) out′ r
-        (if-false _ _ (le-ltb (length out) 489216 room) ∙ if-true _ _ (eq-eqb (callsIn block got) 0 (sym counted ∙ z)))
-        (line-puts (omega (arith, room)) (bad-length number) p)
-        (omega (arith, room, bad-length number))
-
-    pub good-block : (count ≡ 0 → ⊥) → {b′ : Buffers} {events′ : List Row} {out′ : List ℕ} {r : Ran}
-        → Runs (runCalls l (blockCalls 0 count block) index (lentBy b events)) b b′ events events′ out out′ r → Runs run b b′ events events′ out out′ r
-    unfolding runBlock
-    good-block z {b′} {events′} {out′} {r} p = subst (λ (q : Run). Runs q b b′ events events′ out out′ r)
-        (ap (λ (n : ℕ). runCalls l (blockCalls 0 n block) index (lentBy b events)) counted
-        ∙ sym (if-false _ _ (le-ltb (length out) 489216 room) ∙ if-false _ _ (ne-eqb (callsIn block got) 0 (λ e. z (counted ∙ e))))) p
+  pub good-block : (count ≡ 0 → ⊥) → {b′ : Buffers} {events′ : List Row} {out′ : List ℕ} {r : Ran}
+      → Runs (runCalls l (blockCalls 0 count block) index (lentBy b events)) b b′ events events′ out out′ r → Runs run b b′ events events′ out out′ r
+  unfolding runBlock
+  good-block z {b′} {events′} {out′} {r} p = subst (λ (q : Run). Runs q b b′ events events′ out out′ r)
+      (ap (λ (n : ℕ). runCalls l (blockCalls 0 n block) index (lentBy b events)) counted
+      ∙ sym (if-false _ _ (ne-eqb (callsIn block (length block)) 0 (λ e. z (counted ∙ e))))) p

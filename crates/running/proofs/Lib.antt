@@ -3,3 +3,5 @@ pub mod Sending
 pub mod Texts
 pub mod Called
 pub mod Blocks
+pub mod Files
+pub mod Along

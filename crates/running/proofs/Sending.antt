@@ -27,7 +27,7 @@ use Rattle.definition.proofs.Ops.{touch-fine, kind-fine, reserved-fine, acked-f
 use Rattle.definition.proofs.Reach.{stored-fine, fanned-fine}
 use Rattle.definition.proofs.Leave.{returning-fine, release-some}
 use Rattle.definition.proofs.Kept.{accepted, joins, Stores, stores}
-use Rattle.sound.proofs.Tests.{all-map as test-map}
+use Rattle.subrows.proofs.Tests.{all-map as test-map}
 use Rattle.running.proofs.Ranges.{id-fits, redelivery-fits, Fits, both, Ready, dispatch-fits}
 
 -- ---- a sound state

@@ -3,7 +3,7 @@ use mathlib.Core.Path.{_≡_}
 use mathlib.Core.Bool.{Bool, true, false, not, _&&_, _||_}
 use mathlib.Core.List.{List, [], _∷_, _++_, map}
 use Prim.Native.Nat.{ℕ, zero, suc, _+_}
-use lib.Dec.{eqb, ltb}
+use lib.Dec.{eqb}
 use lib.ListN.{length, drop}
 use Rattle.definition.specs.Base.{if_then_else_}
 use Rattle.definition.specs.Types.{Dest, Event}
@@ -91,24 +91,27 @@ blockCalls k (suc n) block = callAt k block ∷ blockCalls (k + 1) n block
 abbrev pub ends : List ℕ → ℕ → LentState → Run
 ends text index s = record { text = text; index = index; goesOn = false; changed = false; lent = s }
 
--- of which so many bytes were read, into a text with so many places: where a block's lines may lack room, nothing happens; a bad block has
--- its line, and ends the reading
-unfoldable pub runBlock : Lengths → ℕ → List ℕ → ℕ → ℕ → ℕ → LentState → Run
-runBlock l places block got index number s =
-    if ltb places 489216 then ends [] index s
-    else if eqb (callsIn block got) 0 then ends (badLine number) index s
-    else runCalls l (blockCalls 0 (callsIn block got) block) index s
+-- a bad block has its line, and ends the reading
+unfoldable pub runBlock : Lengths → List ℕ → ℕ → ℕ → LentState → Run
+runBlock l block index number s =
+    if eqb (callsIn block (length block)) 0 then ends (badLine number) index s
+    else runCalls l (blockCalls 0 (callsIn block (length block)) block) index s
 
 -- ---- in lent buffers
 
--- the lines stand first in the text, and the rest of it is as it was; the state and the event list are q's; once a call is accepted the
--- state is sound, and until then the buffers are as they were
+-- once a call is accepted the state is sound, and until then the buffers are as they were. Open in a state that has changed, and no line depends on
+-- it: the words that are not in use, as `Called` of `engine` names them. The buffers past what a destination needs are as they were
+pub record Left (changed : Bool) (b b′ : Buffers) (events events′ : List Row) : Type 0 where
+  pub leaves-sound : changed ≡ true → soundBuffers b′ ≡ true
+  pub kept : changed ≡ false → b′ ≡ b
+  pub past : Past b b′ events events′
+
+-- the lines stand first in the text, and the rest of it is as it was; the state and the event list are q's. Nothing else is open than `Left` says: the
+-- answer, the text and the event list are equal to q's on their whole length
 pub record Runs (q : Run) (b b′ : Buffers) (events events′ : List Row) (out out′ : List ℕ) (r : Ran) : Type 0 where
   pub index : r .index ≡ q .index
   pub written : r .written ≡ length (q .text)
   pub goes-on : r .«goes_on» ≡ q .goesOn
   pub text : out′ ≡ q .text ++ drop (length (q .text)) out
   pub shows : lentBy b′ events′ ≡ q .lent
-  pub leaves-sound : q .changed ≡ true → soundBuffers b′ ≡ true
-  pub kept : q .changed ≡ false → b′ ≡ b
-  pub past : Past b b′ events events′
+  pub left : Left (q .changed) b b′ events events′

@@ -2,9 +2,7 @@
 ghost use mathlib.Core.Path.{_≡_};
 ghost use Prim.Native.Nat.{_≤_};
 ghost use lib.ListN.{length};
-use libc::STDERR_FILENO;
-use libc::STDIN_FILENO;
-use libc::STDOUT_FILENO;
+use texting::Bad;
 
 // What is carried from part to part: the bytes of the last line so far, the number of the next line, the calls in the block, whether a line was bad,
 // whether the output could not be written, and whether there is more to read.
@@ -50,11 +48,7 @@ fn keep(buf: &mut [u8], from: usize, n: usize) {
 // ---- writing
 
 fn write_out(part: &[u8]) -> bool {
-    if io::write_all(STDOUT_FILENO, part) {
-        return true;
-    }
-    os::fail(b"textcalls: cannot write");
-    false
+    program::write(b"textcalls", part, part.len())
 }
 
 // In place of blocks; too short for one.
@@ -62,18 +56,27 @@ fn spoil() {
     write_out(b"bad text\n");
 }
 
-// The first bytes of a text, to standard error.
+// The first bytes of a text, as a message.
 fn say(text: &[u8], n: usize) {
     if text.len() < n {
         return;
     }
     let part = &text[0..n];
-    io::write_all(STDERR_FILENO, part);
+    program::message(b"textcalls", part);
 }
 
-fn complain(line: u64, kind: u64) {
+// The message of a bad line of a text.
+fn complain(part: &[u8], b: Bad) {
+    let from = b.from;
+    let to = b.to;
+    if part.len() < to {
+        return;
+    }
+    if to < from {
+        return;
+    }
     let mut text = [0u8; 192];
-    let n = texting::put_message(&mut text, line, kind);
+    let n = texting::put_message(&mut text, b.line, &part[from..to]);
     say(&text, n);
 }
 
@@ -92,7 +95,7 @@ fn check(part: &[u8], w: Work) -> Work
         if b.kind == 0 {
             return next;
         }
-        complain(b.line, b.kind);
+        complain(part, b);
         next.line = stats::more_of(b.line);
         next.bad = true;
         from = b.at;
@@ -176,11 +179,9 @@ fn stopped(w: Work) -> Work
 }
 
 fn too_long(line: u64) {
-    let mut text = [0u8; 128];
-    let n = callfile::put_word(&mut text, 0, line, false);
-    io::write_all(STDERR_FILENO, b"line");
+    let mut text = [0u8; 192];
+    let n = texting::put_long(&mut text, line);
     say(&text, n);
-    io::write_all(STDERR_FILENO, b": longer than 1048576 bytes\n");
 }
 
 // The last part, which needs no end of a line.
@@ -204,10 +205,9 @@ fn turn(fd: i32, buf: &mut [u8], block: &mut [u8], w: Work, write: bool) -> Work
     requires { ⌜ w .k ≤ 6 ⌝ }
     ensures { λ r. ⌜ r .k ≤ 6 ⌝ }
 {
-    let g = reading::read_on(fd, buf, w.have);
+    let g = program::read(b"textcalls", fd, buf, w.have);
     let n = g.n;
     if g.how == reading::FAILED {
-        os::fail(b"textcalls: cannot read");
         return stopped(w);
     }
     if g.how == reading::END {
@@ -259,7 +259,7 @@ fn pass(fd: i32, write: bool) -> Work {
 // A text with a bad line ends in what is no block, and so does an output that could not be written whole.
 fn finish(w: Work) {
     if w.gone {
-        io::write_all(STDOUT_FILENO, b"bad text\n");
+        io::write_all(libc::STDOUT_FILENO, b"bad text\n");
         return;
     }
     if w.bad {
@@ -280,7 +280,7 @@ fn text_calls(fd: i32) {
         return;
     }
     if libc::lseek(fd, start, libc::SEEK_SET) != start {
-        os::fail(b"textcalls: cannot read");
+        program::failed(b"textcalls", b"input");
         spoil();
         return;
     }
@@ -290,60 +290,21 @@ fn text_calls(fd: i32) {
         return;
     }
     if again.line != first.line {
-        io::write_all(STDERR_FILENO, b"textcalls: the text has changed\n");
+        program::message(b"textcalls", b"the text has changed\n");
         spoil();
     }
 }
 
-// ---- the arguments
-
-fn usage(fd: i32) {
-    io::write_all(fd, b"usage: textcalls [FILE]\n");
-}
-
-fn text_file(path: &[u8]) {
-    let fd = os::open_read(path);
-    if fd < 0 {
-        os::fail(path);
-        spoil();
-        return;
-    }
-    text_calls(fd);
-    libc::close(fd);
-}
-
-fn with_argument(word: &[u8]) {
-    if textwords::same(word, b"--help") {
-        usage(STDOUT_FILENO);
-        return;
-    }
-    if 0 < word.len() {
-        if word[0] == b'-' {
-            usage(STDERR_FILENO);
-            spoil();
-            return;
-        }
-    }
-    text_file(word);
-}
+// ---- the argument
 
 fn main() {
-    let count = os::arg_count();
-    if count < 2 {
-        text_calls(STDIN_FILENO);
-        return;
-    }
-    let mut word = io::buffer();
-    let n = os::arg(1, &mut word);
-    if os::errno() != 0 {
-        os::fail(b"textcalls");
+    let s = program::open_argument(b"textcalls", b"usage: textcalls [FILE]\n");
+    if s.how == program::FAILED {
         spoil();
         return;
     }
-    if 2 < count {
-        usage(STDERR_FILENO);
-        spoil();
-        return;
+    if s.how == program::OPENED {
+        text_calls(s.fd);
+        libc::close(s.fd);
     }
-    with_argument(&word[..n]);
 }

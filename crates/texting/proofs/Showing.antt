@@ -2,22 +2,27 @@
 use Prim.Native.Nat.{ℕ, zero, suc, _+_, _*_, _≤_, _<_}
 use native.Mathlib.Numerals.{add-one}
 use native.Mathlib.Omega.{arith}
-use mathlib.Core.Path.{_≡_, refl, sym, _∙_}
-use mathlib.Core.List.{List, [], _++_}
-use borrow.Author.Tests.{eq-eqb, ne-eqb, leb-true}
+use mathlib.Core.Path.{_≡_, refl, ap, sym, _∙_}
+use mathlib.Core.Bool.{true, false}
+use mathlib.Core.List.{List, [], _∷_, _++_, map, map-append}
+use borrow.Author.Tests.{eq-eqb, ne-eqb, leb-true, le-leb, lt-leb}
 use lib.Dec.{leb}
-use lib.ListN.{length, getD, length-append}
+use lib.ListN.{length, getD, take, length-append}
+use lib.Seq.{take-all}
+use Rattle.words.proofs.Lists.{take-next}
 use Rattle.words.proofs.Tests.{by-test}
+use Rattle.textwords.specs.Text.{hasMark}
 use Rattle.calls.specs.declared.Call.{Call}
 use Rattle.callfile.specs.Blocks.{callsIn, callAt}
 use Rattle.callfile.specs.Lines.{wordField, newline, badLine}
 use Rattle.callfile.proofs.Digits.{word-length}
 use Rattle.calltext.specs.Names.{nameAt, codePlace, minusAt}
+use Rattle.calltext.specs.Faults.{faultWord}
 use Rattle.calltext.specs.Shown.{shownWords, fields, codeField, callText}
 use Rattle.calltext.proofs.Tables.{short}
 use Rattle.calltext.proofs.Showing.{field-length}
 use Rattle.calltext.proofs.RoundTrip.{shown-within}
-use Rattle.texting.specs.Lines.{unknownCall, noNumber, tooMany, complaint}
+use Rattle.texting.specs.Lines.{unknownCall, noNumber, tooMany, complaint, textLineKind, shownByte, shownWord, markComplaint, markedLine, wrongWith}
 use Rattle.texting.specs.Shown.{callTexts, blockText}
 
 -- ---- messages
@@ -34,6 +39,49 @@ module _ (kind : ℕ) where
   pub says-many : (kind ≡ 2 → ⊥) → (kind ≡ 3 → ⊥) → tooMany ≡ complaint kind
   unfolding complaint
   says-many e f = rw (ne-eqb kind 2 e, ne-eqb kind 3 f)
+
+-- a byte that is shown as it is, or not
+module _ (b : ℕ) where
+  pub shown-low : b < 32 → 63 ≡ shownByte b
+  shown-low h = rw (lt-leb 32 b h)
+
+  pub shown-high : 126 < b → 63 ≡ shownByte b
+  shown-high h = rw (le-leb 32 b (omega arith), lt-leb b 126 h)
+
+  pub shown-plain : 32 ≤ b → b ≤ 126 → b ≡ shownByte b
+  shown-plain h k = rw (le-leb 32 b h, le-leb b 126 k)
+
+-- one byte more
+pub shown-next : (w : List ℕ) (i : ℕ) → i < length w → map shownByte (take (i + 1) w) ≡ map shownByte (take i w) ++ (shownByte (getD w i 0) ∷ [])
+shown-next w i h = ap (map shownByte) (take-next w i 0 h) ∙ map-append shownByte (take i w) (getD w i 0 ∷ [])
+
+-- a word that is not cut, and one that is
+module _ (w : List ℕ) where
+  pub shown-whole : length w ≤ 40 → map shownByte (take (length w) w) ++ (10 ∷ []) ≡ shownWord w
+  unfolding shownWord
+  shown-whole h =
+      let e : take (length w) w ≡ take 40 w = take-all (length w) w (omega arith) ∙ sym (take-all 40 w h) in
+      rw (le-leb (length w) 40 h, e)
+
+  pub shown-cut : 40 < length w → map shownByte (take 40 w) ++ (46 ∷ 46 ∷ 10 ∷ []) ≡ shownWord w
+  unfolding shownWord
+  shown-cut h = rw (lt-leb (length w) 40 h)
+
+-- a byte order mark
+module _ (n : ℕ) (line : List ℕ) where
+  pub marked-later : (n ≡ 1 → ⊥) → false ≡ markedLine n line
+  marked-later h = rw (ne-eqb n 1 h)
+
+  pub marked-first : n ≡ 1 → hasMark line ≡ markedLine n line
+  marked-first e = rw (eq-eqb n 1 e)
+
+  pub wrong-mark : markedLine n line ≡ true → markComplaint ≡ wrongWith n line
+  unfolding wrongWith
+  wrong-mark t = rw t
+
+  pub wrong-word : markedLine n line ≡ false → complaint (textLineKind line) ++ shownWord (faultWord line) ≡ wrongWith n line
+  unfolding wrongWith
+  wrong-word t = rw t
 
 -- ---- the text of a call
 

@@ -15,9 +15,10 @@ use Rattle.textwords.proofs.Words.{run-within}
 use Rattle.callblocks.specs.Packed.{withCall, sealed}
 use Rattle.calltext.specs.declared.Parsed.{Parsed}
 use Rattle.calltext.specs.Lines.{lineCall}
+use Rattle.texting.specs.declared.Bad.{Bad}
 use Rattle.texting.specs.declared.Filled.{Filled}
 use Rattle.texting.specs.Lines.{linesOf, textLineKind, isBad}
-use Rattle.texting.specs.Parts.{afterLine, Filling, filling, withParsed, countParsed, fillFrom, begun, ended, sealing, Fills, badAt, firstBad}
+use Rattle.texting.specs.Parts.{afterLine, Filling, filling, withParsed, countParsed, fillFrom, begun, ended, sealing, Fills, badAt, badNowhere, firstBad}
 
 -- ---- lines
 
@@ -121,12 +122,12 @@ sealed-fills x e = record { count = x .count; at = x .at; block = e ∙ (λ i. e
 -- ---- bad lines
 
 module _ (n at : ℕ) where
-  pub bad-none : firstBad n at [] ≡ badAt 0 n at
+  pub bad-none : firstBad n at [] ≡ badNowhere n at
   unfolding firstBad
   bad-none = refl
 
   module _ (l : List ℕ) (ls : List (List ℕ)) where
-    pub bad-here : 1 < textLineKind l → firstBad n at (l ∷ ls) ≡ badAt (textLineKind l) n (afterLine at l)
+    pub bad-here : 1 < textLineKind l → firstBad n at (l ∷ ls) ≡ badAt (textLineKind l) n at l
     unfolding firstBad
     bad-here h = rw (lt-ltb 1 (textLineKind l) h)
 
@@ -135,10 +136,12 @@ module _ (n at : ℕ) where
     bad-later h = rw (le-ltb 1 (textLineKind l) h)
 
 module _ (n at : ℕ) (t : List ℕ) {e kind : ℕ} (w : Taken t at e) (q : kind ≡ textLineKind (take (e - at) (drop at t))) where
-  pub bad-found : 1 < kind → badAt kind n (e + 1) ≡ firstBad n at (linesOf (drop at t))
+  pub bad-found : 1 < kind → record { kind = kind; line = n; from = at; to = e; at = e + 1 } ≡ firstBad n at (linesOf (drop at t))
   bad-found h =
       let l = take (e - at) (drop at t) in
-      let f : badAt kind n (e + 1) ≡ badAt (textLineKind l) n (afterLine at l) = λ i. badAt (q i) n (sym (w .next) i) in
+      let end : at + length l ≡ e = omega (arith, w .next) in
+      let f : record { kind = kind; line = n; from = at; to = e; at = e + 1 } ≡ badAt (textLineKind l) n at l =
+      λ i. record { kind = q i; line = n; from = at; to = sym end i; at = sym (w .next) i } in
       rw (w .lines) (f ∙ sym (bad-here n at l (linesOf (drop (e + 1) t)) (omega arith)))
 
   pub bad-passed : kind ≤ 1 → firstBad (more n) (e + 1) (linesOf (drop (e + 1) t)) ≡ firstBad n at (linesOf (drop at t))

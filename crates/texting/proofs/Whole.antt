@@ -51,6 +51,22 @@ lines-tail t at l ls e = by-test (ltb at (length t))
     let z : _≡_ {A = ℕ} 0 1 = cc in
     absurd (omega arith))
 
+-- the first line stands at its place
+line-there : (t : List ℕ) (at : ℕ) (l : List ℕ) (ls : List (List ℕ)) → (l ∷ ls) ≡ linesOf (drop at t) → l ≡ take ((at + length l) - at) (drop at t)
+line-there t at l ls e = by-test (ltb at (length t))
+    (λ h.
+    let to = at + run LineEnd (drop at t) in
+    let w = taken t at to (ltb-true at (length t) h) refl in
+    let m = take (to - at) (drop at t) in
+    let p : (l ∷ ls) ≡ m ∷ linesOf (drop (to + 1) t) = e ∙ w .lines in
+    let a : l ≡ m = cc in
+    let n : to - at ≡ (at + length l) - at = omega (arith, w .next, ap length a) in
+    a ∙ ap (λ (k : ℕ). take k (drop at t)) n)
+    (λ h.
+    let p : (l ∷ ls) ≡ [] = e ∙ lines-end t at (ltb-false at (length t) h) in
+    let z : _≡_ {A = ℕ} 0 1 = cc in
+    absurd (omega arith))
+
 -- ---- blocks
 
 -- a block that has seven calls is written, and the next call begins an empty one
@@ -89,7 +105,7 @@ fill-open (l ∷ ls) block k at h = by-test (leb 7 k)
 
 -- ---- messages
 
-bad-lines : (ls ms : List (List ℕ)) (n at : ℕ) (t : List ℕ) → ls ≡ linesOf (drop at t) → messages n (ls ++ ms) ≡ said (firstBad n at ls) ++ messages (nextLine (firstBad n at ls)) (linesOf (drop (firstBad n at ls .at) t) ++ ms)
+bad-lines : (ls ms : List (List ℕ)) (n at : ℕ) (t : List ℕ) → ls ≡ linesOf (drop at t) → messages n (ls ++ ms) ≡ said t (firstBad n at ls) ++ messages (nextLine (firstBad n at ls)) (linesOf (drop (firstBad n at ls .at) t) ++ ms)
 unfolding messages firstBad
 bad-lines [] ms n at t e = ap (λ (ls : List (List ℕ)). messages n (ls ++ ms)) e
 bad-lines (l ∷ ls) ms n at t e =
@@ -97,9 +113,9 @@ bad-lines (l ∷ ls) ms n at t e =
     by-test (isBad l)
     (λ b.
     let z : textLineKind l ≡ 0 → ⊥ = λ z. omega (arith, ltb-true 1 (textLineKind l) b) in
-    rw (b, ne-eqb (textLineKind l) 0 z) (ap (λ (ls : List (List ℕ)). message n (textLineKind l) ++ messages (more n) (ls ++ ms)) r))
+    rw (b, ne-eqb (textLineKind l) 0 z) (λ i. message n (line-there t at l ls e i) ++ messages (more n) (r i ++ ms)))
     (λ b. rw b (bad-lines ls ms (more n) (afterLine at l) t r))
 
 -- `first_bad`, as a step of the whole messages
-pub bad-messages : (t : List ℕ) (ms : List (List ℕ)) (n at : ℕ) → let b = firstBad n at (linesOf (drop at t)) in messages n (linesOf (drop at t) ++ ms) ≡ said b ++ messages (nextLine b) (linesOf (drop (b .at) t) ++ ms)
+pub bad-messages : (t : List ℕ) (ms : List (List ℕ)) (n at : ℕ) → let b = firstBad n at (linesOf (drop at t)) in messages n (linesOf (drop at t) ++ ms) ≡ said t b ++ messages (nextLine b) (linesOf (drop (b .at) t) ++ ms)
 bad-messages t ms n at = bad-lines (linesOf (drop at t)) ms n at t refl

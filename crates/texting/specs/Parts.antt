@@ -1,9 +1,9 @@
 -- A text line by line: what one call of the library takes of it. Assumes nothing.
-use Prim.Native.Nat.{ℕ, suc, _+_}
+use Prim.Native.Nat.{ℕ, suc, _+_, _-_}
 use mathlib.Core.Path.{_≡_}
 use mathlib.Core.List.{List, [], _∷_}
 use lib.Dec.{eqb, leb}
-use lib.ListN.{length, replicate}
+use lib.ListN.{length, replicate, take, drop}
 use Rattle.words.specs.Pick.{if_then_else_}
 use Rattle.stats.specs.Counted.{more}
 use Rattle.callblocks.specs.Packed.{withCall, sealed}
@@ -55,18 +55,22 @@ pub record Fills (f : Filling) (r : Filled) (block′ : List ℕ) : Type 0 where
   pub at : r .at ≡ f .at
   pub block : block′ ≡ f .block
 
--- a line's kind, its number, and the place after it
-abbrev pub badAt : ℕ → ℕ → ℕ → Bad
-badAt kind n at = record { kind = kind; line = n; at = at }
+-- a bad line's kind and number, where it stands, and the place after it
+abbrev pub badAt : ℕ → ℕ → ℕ → List ℕ → Bad
+badAt kind n at line = record { kind = kind; line = n; from = at; to = at + length line; at = afterLine at line }
+
+-- no line is bad
+abbrev pub badNowhere : ℕ → ℕ → Bad
+badNowhere n at = record { kind = 0; line = n; from = at; to = at; at = at }
 
 -- the first bad line; without one the kind is 0, and the number that of the line after the last
 unfoldable pub firstBad : ℕ → ℕ → List (List ℕ) → Bad
-firstBad n at [] = badAt 0 n at
-firstBad n at (l ∷ ls) = if isBad l then badAt (textLineKind l) n (afterLine at l) else firstBad (more n) (afterLine at l) ls
+firstBad n at [] = badNowhere n at
+firstBad n at (l ∷ ls) = if isBad l then badAt (textLineKind l) n at l else firstBad (more n) (afterLine at l) ls
 
--- what is said of it, and the number of the line after it
-abbrev pub said : Bad → List ℕ
-said b = if eqb (b .kind) 0 then [] else message (b .line) (b .kind)
+-- what is said of it, by the text that it stands in, and the number of the line after it
+abbrev pub said : List ℕ → Bad → List ℕ
+said text b = if eqb (b .kind) 0 then [] else message (b .line) (take (b .to - b .from) (drop (b .from) text))
 
 abbrev pub nextLine : Bad → ℕ
 nextLine b = if eqb (b .kind) 0 then b .line else more (b .line)

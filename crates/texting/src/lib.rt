@@ -1,9 +1,11 @@
 // The text of a call file to blocks, and a block to text, in lent buffers.
 ghost use mathlib.Core.Path.{_≡_};
+ghost use mathlib.Core.List.{_++_, map};
 ghost use Prim.Native.Nat.{_+_, _≤_};
-ghost use lib.ListN.{length, drop, replicate};
+ghost use lib.ListN.{length, take, drop, replicate};
 ghost use Rattle.callfile.specs.Placed.{Puts, PutLine};
-ghost use Rattle.texting.specs.Lines.{linesOf, complaint, message};
+ghost use Rattle.calltext.specs.Faults.{faultWord};
+ghost use Rattle.texting.specs.Lines.{linesOf, textLineKind, complaint, shownByte, shownWord, markedLine, wrongWith, lineNumber, message, longMessage};
 ghost use Rattle.texting.specs.Parts.{withParsed, countParsed, fillFrom, begun, ended, sealing, Fills, firstBad};
 ghost use Rattle.texting.specs.Shown.{callTexts, blockText};
 use calltext::Parsed;
@@ -17,16 +19,21 @@ pub const TEXT: usize = 3584;
 
 pub const MESSAGE: usize = 192;
 
+// The bytes of a word that are shown.
+const CUT: usize = 40;
+
 // How many calls a block has, and the place in the text after the lines that were taken.
 pub struct Filled {
     pub count: usize,
     pub at: usize,
 }
 
-// A bad line: its kind and number, and the place after it. Kind 0: no line is bad, and the number is that of the next line.
+// A bad line: its kind and number, where it stands in the text, and the place after it. Kind 0: no line is bad, and the number is that of the next line.
 pub struct Bad {
     pub kind: u64,
     pub line: u64,
+    pub from: usize,
+    pub to: usize,
     pub at: usize,
 }
 
@@ -113,48 +120,161 @@ pub fn first_bad(text: &[u8], from: usize, line: u64) -> Bad
         let e = textwords::scan(text, at, Stop::LineEnd);
         let p = calltext::parse(&text[at..e]);
         let kind = p.kind;
-        at = e + 1;
+        let next = e + 1;
         if calltext::EMPTY < kind {
-            return Bad { kind, line: n, at };
+            return Bad {
+                kind,
+                line: n,
+                from: at,
+                to: e,
+                at: next,
+            };
         }
         n = stats::more_of(n);
+        at = next;
     }
     Bad {
         kind: 0,
         line: n,
+        from: at,
+        to: at,
         at,
     }
 }
 
+// ---- messages
+
 // What is wrong with a line.
 fn put_complaint(out: &mut [u8], at: usize, kind: u64) -> usize
-    requires { ⌜ at + 28 ≤ length (now out) ⌝ }
-    ensures { λ r. ⌜ Puts (complaint kind) at (now (out .entry)) r (now (out .exit)) × (r ≤ at + 28) ⌝ }
+    requires { ⌜ at + 29 ≤ length (now out) ⌝ }
+    ensures { λ r. ⌜ Puts (complaint kind) at (now (out .entry)) r (now (out .exit)) × (r ≤ at + 29) ⌝ }
 {
     match kind {
-        calltext::UNKNOWN => callfile::put_all(out, at, b": unknown call\n"),
-        calltext::NO_NUMBER => callfile::put_all(out, at, b": not a number of 64 bits\n"),
-        _ => callfile::put_all(out, at, b": more than eight arguments\n"),
+        calltext::UNKNOWN => callfile::put_all(out, at, b": unknown call: "),
+        calltext::NO_NUMBER => callfile::put_all(out, at, b": not a number of 64 bits: "),
+        _ => callfile::put_all(out, at, b": more than eight arguments: "),
     }
 }
 
-fn message_text(out: &mut [u8], line: u64, kind: u64) -> usize
-    requires { ⌜ 192 ≤ length (now out) ⌝ }
-    ensures { λ r. ⌜ Puts (message line kind) 0 (now (out .entry)) r (now (out .exit)) × (r ≤ 192) ⌝ }
+fn shown(b: u8) -> u8
+    ensures { λ r. ⌜ r ≡ shownByte b ⌝ }
 {
-    let a = callfile::put_all(out, 0, b"line");
-    let b = callfile::put_word(out, a, line, false);
-    put_complaint(out, b, kind)
+    if b < 32 {
+        return b'?';
+    }
+    if 126 < b {
+        return b'?';
+    }
+    b
 }
 
-// The message of a bad line. Without room for 192 bytes, nothing is put.
-pub fn put_message(out: &mut [u8], line: u64, kind: u64) -> usize
-    ensures { λ r. ⌜ PutLine 192 (message line kind) 0 (now (out .entry)) r (now (out .exit)) ⌝ }
+// The first n bytes of a word.
+fn put_bytes(out: &mut [u8], at: usize, word: &[u8], n: usize) -> usize
+    requires { ⌜ (n ≤ length (now word)) × (at + n ≤ length (now out)) ⌝ }
+    ensures { λ r. ⌜ Puts (map shownByte (take n (now (word .entry)))) at (now (out .entry)) r (now (out .exit)) × (r ≤ at + n) ⌝ }
+{
+    let mut next = at;
+    let mut i = 0;
+    while i < n {
+        let b = shown(word[i]);
+        next = callfile::put_byte(out, next, b);
+        i += 1;
+    }
+    next
+}
+
+// A word, which may be cut, and the end of the line.
+fn put_shown(out: &mut [u8], at: usize, word: &[u8]) -> usize
+    requires { ⌜ at + 43 ≤ length (now out) ⌝ }
+    ensures { λ r. ⌜ Puts (shownWord (now (word .entry))) at (now (out .entry)) r (now (out .exit)) × (r ≤ at + 43) ⌝ }
+{
+    if word.len() <= CUT {
+        let a = put_bytes(out, at, word, word.len());
+        return callfile::put_all(out, a, b"\n");
+    }
+    let a = put_bytes(out, at, word, CUT);
+    callfile::put_all(out, a, b"..\n")
+}
+
+// What is wrong with a line, and the word at fault.
+fn put_fault(out: &mut [u8], at: usize, line: &[u8]) -> usize
+    requires { ⌜ at + 72 ≤ length (now out) ⌝ }
+    ensures { λ r. ⌜ Puts (complaint (textLineKind (now (line .entry))) ++ shownWord (faultWord (now (line .entry)))) at (now (out .entry)) r (now (out .exit)) × (r ≤ at + 72) ⌝ }
+{
+    let p = calltext::parse(line);
+    let kind = p.kind;
+    let f = calltext::fault_of(line);
+    let from = f.from;
+    let to = f.to;
+    let a = put_complaint(out, at, kind);
+    put_shown(out, a, &line[from..to])
+}
+
+fn marked(n: u64, line: &[u8]) -> bool
+    ensures { λ r. ⌜ r ≡ markedLine n (now (line .entry)) ⌝ }
+{
+    if n != 1 {
+        return false;
+    }
+    textwords::has_mark(line)
+}
+
+fn put_wrong(out: &mut [u8], at: usize, n: u64, line: &[u8]) -> usize
+    requires { ⌜ at + 72 ≤ length (now out) ⌝ }
+    ensures { λ r. ⌜ Puts (wrongWith n (now (line .entry))) at (now (out .entry)) r (now (out .exit)) × (r ≤ at + 72) ⌝ }
+{
+    if marked(n, line) {
+        return callfile::put_all(
+            out,
+            at,
+            b": begins with a byte order mark: save the text without one\n",
+        );
+    }
+    put_fault(out, at, line)
+}
+
+fn put_line_number(out: &mut [u8], n: u64) -> usize
+    requires { ⌜ 192 ≤ length (now out) ⌝ }
+    ensures { λ r. ⌜ Puts (lineNumber n) 0 (now (out .entry)) r (now (out .exit)) × (r ≤ 26) ⌝ }
+{
+    let a = callfile::put_all(out, 0, b"line");
+    callfile::put_word(out, a, n, false)
+}
+
+fn message_text(out: &mut [u8], n: u64, line: &[u8]) -> usize
+    requires { ⌜ 192 ≤ length (now out) ⌝ }
+    ensures { λ r. ⌜ Puts (message n (now (line .entry))) 0 (now (out .entry)) r (now (out .exit)) × (r ≤ 192) ⌝ }
+{
+    let a = put_line_number(out, n);
+    put_wrong(out, a, n, line)
+}
+
+// The message of bad line n, lent without its end. Without room for 192 bytes, nothing is put.
+pub fn put_message(out: &mut [u8], n: u64, line: &[u8]) -> usize
+    ensures { λ r. ⌜ PutLine 192 (message n (now (line .entry))) 0 (now (out .entry)) r (now (out .exit)) ⌝ }
 {
     if out.len() < MESSAGE {
         return 0;
     }
-    message_text(out, line, kind)
+    message_text(out, n, line)
+}
+
+fn long_text(out: &mut [u8], n: u64) -> usize
+    requires { ⌜ 192 ≤ length (now out) ⌝ }
+    ensures { λ r. ⌜ Puts (longMessage n) 0 (now (out .entry)) r (now (out .exit)) × (r ≤ 192) ⌝ }
+{
+    let a = put_line_number(out, n);
+    callfile::put_all(out, a, b": longer than 1048576 bytes\n")
+}
+
+// The message of a line that is too long to be read. Without room for 192 bytes, nothing is put.
+pub fn put_long(out: &mut [u8], n: u64) -> usize
+    ensures { λ r. ⌜ PutLine 192 (longMessage n) 0 (now (out .entry)) r (now (out .exit)) ⌝ }
+{
+    if out.len() < MESSAGE {
+        return 0;
+    }
+    long_text(out, n)
 }
 
 // ---- from a block to text

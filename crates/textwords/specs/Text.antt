@@ -53,3 +53,7 @@ sameText [] [] = true
 sameText [] (y ∷ ys) = false
 sameText (x ∷ xs) [] = false
 sameText (x ∷ xs) (y ∷ ys) = eqb x y && sameText xs ys
+
+-- whether a text begins with the three bytes of a byte order mark
+unfoldable pub hasMark : List ℕ → Bool
+hasMark text = sameText (take 3 text) (239 ∷ 187 ∷ 191 ∷ [])

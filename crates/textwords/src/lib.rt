@@ -2,7 +2,7 @@
 ghost use mathlib.Core.Path.{_≡_};
 ghost use Prim.Native.Nat.{_+_};
 ghost use lib.ListN.{drop};
-ghost use Rattle.textwords.specs.Text.{stops, run, blank, sameText};
+ghost use Rattle.textwords.specs.Text.{stops, run, blank, sameText, hasMark};
 ghost use Rattle.textwords.specs.Numbers.{digitsAfter, negated, numberOf};
 
 const SPACE: u8 = 32;
@@ -78,6 +78,16 @@ pub fn same(a: &[u8], b: &[u8]) -> bool
         i += 1;
     }
     true
+}
+
+// Whether a text begins with a byte order mark, which some editors put there.
+pub fn has_mark(text: &[u8]) -> bool
+    ensures { λ r. ⌜ r ≡ hasMark (now (text .entry)) ⌝ }
+{
+    if text.len() < 3 {
+        return false;
+    }
+    same(&text[0..3], &[239, 187, 191])
 }
 
 // ---- numbers

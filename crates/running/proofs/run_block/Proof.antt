@@ -1,19 +1,13 @@
 -- `running::run_block` meets its contract. Assumes nothing.
 use lib.ListN.{length}
 use denote.Ref.{now}
-use Rattle.definition.specs.Layout.{lengthsOf}
+use Rattle.definition.specs.Layout.{lengthsOf, lent}
 use Rattle.callfile.proofs.Checks.{calls-few}
-use Rattle.sound.specs.Sound.{lent}
-use Rattle.running.proofs.Blocks.{no-room, bad-block, good-block}
+use Rattle.running.proofs.Blocks.{bad-block, good-block}
 use native.Mathlib.Omega.{arith}
 use borrow.Author.Needs.{needs}
 use Rattle.running.proofs.run_block.Statement.{statement}
 use Rattle.running.proofs.run_block.Tie as tie
-
-returns : tie.Need-returns
-returns c =
-    let a = c .before .before .before .before .args in
-    no-room (lengthsOf (lent (now (a .head)) (now (a .subs)) (now (a .rows))) (length (now (a .events)))) (now (a .block)) (a .got) (a .index) (a .number) (lent (now (a .head)) (now (a .subs)) (now (a .rows))) (now (a .events)) (now (a .out)) (c .if1 .taken)
 
 calls-in-requires : tie.Need-calls-in-requires
 calls-in-requires c κs = search needs
@@ -24,16 +18,16 @@ put-bad-requires c κs = search needs
 same-length : tie.Need-same-length
 same-length c = search needs
 
-returns-2 : tie.Need-returns-2
-returns-2 c =
-    let a = c .before .before .before .before .before .before .before .before .before .before .args in
+returns : tie.Need-returns
+returns c =
+    let a = c .before .before .before .before .before .before .before .before .before .args in
     let m = c .before .before .before .before .before .calls-in in
-    bad-block (lengthsOf (lent (now (a .head)) (now (a .subs)) (now (a .rows))) (length (now (a .events)))) (now (a .block)) (a .got) (a .index) (a .number) (lent (now (a .head)) (now (a .subs)) (now (a .rows))) (now (a .events)) (now (a .out)) (c .before .before .before .before .before .before .if1 .left) (m .result) (m .ensures) (c .before .before .before .before .if2 .taken) (c .before .before .put-bad .ensures)
+    bad-block (lengthsOf (lent (now (a .head)) (now (a .subs)) (now (a .rows))) (length (now (a .events)))) (now (a .block)) (a .index) (a .number) (lent (now (a .head)) (now (a .subs)) (now (a .rows))) (now (a .events)) (now (a .out)) (c .before .before .before .before .before .before .before .before .before .pre) (m .result) (m .ensures) (c .before .before .before .before .if1 .taken) (c .before .before .put-bad .ensures)
 
 run-calls-requires : tie.Need-run-calls-requires
 run-calls-requires c κs =
-    let a = c .before .before .before .before .before .before .before .before .before .before .before .args in
-    (omega (arith, c .before .before .before .before .before .before .calls-in .ensures, calls-few (now (a .block)) (a .got)), c .before .before .before .before .before .before .before .if1 .left)
+    let a = c .before .before .before .before .before .before .before .before .before .before .args in
+    (omega (arith, c .before .before .before .before .before .before .calls-in .ensures, calls-few (now (a .block)) (length (now (a .block)))), c .before .before .before .before .before .before .before .before .before .before .pre)
 
 same-length-2 : tie.Need-same-length-2
 same-length-2 c = search needs
@@ -50,25 +44,24 @@ same-length-5 c = search needs
 same-length-6 : tie.Need-same-length-6
 same-length-6 c = search needs
 
-returns-3 : tie.Need-returns-3
-returns-3 c =
-    let a = c .before .before .before .before .before .before .before .before .before .before .before .before .before .before .before .before .before .before .before .args in
+returns-2 : tie.Need-returns-2
+returns-2 c =
+    let a = c .before .before .before .before .before .before .before .before .before .before .before .before .before .before .before .before .before .before .args in
     let m = c .before .before .before .before .before .before .before .before .before .before .before .before .before .before .calls-in in
-    good-block (lengthsOf (lent (now (a .head)) (now (a .subs)) (now (a .rows))) (length (now (a .events)))) (now (a .block)) (a .got) (a .index) (a .number) (lent (now (a .head)) (now (a .subs)) (now (a .rows))) (now (a .events)) (now (a .out)) (c .before .before .before .before .before .before .before .before .before .before .before .before .before .before .before .if1 .left) (m .result) (m .ensures) (c .before .before .before .before .before .before .before .before .before .before .before .before .before .if2 .left) (c .before .before .before .before .before .before .before .run-calls .ensures)
+    good-block (lengthsOf (lent (now (a .head)) (now (a .subs)) (now (a .rows))) (length (now (a .events)))) (now (a .block)) (a .index) (a .number) (lent (now (a .head)) (now (a .subs)) (now (a .rows))) (now (a .events)) (now (a .out)) (c .before .before .before .before .before .before .before .before .before .before .before .before .before .before .before .before .before .before .pre) (m .result) (m .ensures) (c .before .before .before .before .before .before .before .before .before .before .before .before .before .if1 .left) (c .before .before .before .before .before .before .before .run-calls .ensures)
 
 pub run-block-spec : {M : Type 1} → statement M
 run-block-spec =
     tie.close
     (tie.spec
-    returns
     calls-in-requires
     put-bad-requires
     same-length
-    returns-2
+    returns
     run-calls-requires
     same-length-2
     same-length-3
     same-length-4
     same-length-5
     same-length-6
-    returns-3)
+    returns-2)

@@ -1,12 +1,12 @@
 -- `running::run_call` meets its contract. Assumes nothing.
 use denote.Ref.{now}
 use lib.ListN.{length}
-use Rattle.sound.specs.Sound.{lent}
 use Rattle.running.proofs.Sending.{events-fit}
 use Rattle.running.proofs.Called.{sends, all-there, as-told, room-left, printed}
 use borrow.Author.Needs.{needs}
 use Rattle.running.proofs.run_call.Statement.{statement}
 use Rattle.running.proofs.run_call.Tie as tie
+use Rattle.definition.specs.Layout.{lent}
 
 call-requires : tie.Need-call-requires
 call-requires c κs = search needs

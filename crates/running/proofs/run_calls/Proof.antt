@@ -2,12 +2,12 @@
 use mathlib.Core.Path.{subst⁻¹}
 use Prim.Native.Nat.{ℕ, _+_, _-_}
 use denote.Ref.{now}
-use Rattle.sound.specs.Sound.{lent}
 use Rattle.running.proofs.Blocks.{Sofar, none-yet, one-more, all-run}
 use native.Mathlib.Omega.{arith}
 use borrow.Author.Needs.{needs}
 use Rattle.running.proofs.run_calls.Statement.{statement}
 use Rattle.running.proofs.run_calls.Tie as tie
+use Rattle.definition.specs.Layout.{lent}
 
 abbrev Inv-loop : tie.InvT-loop
 Inv-loop head₀ subs₀ rows₀ events₀ block count from out₀ index₀ at₀ k₀ head subs rows events out index at k =

@@ -50,8 +50,8 @@ part-parse-end c =
 parse-requires : tie.Need-parse-requires Inv-loop μ-loop
 parse-requires c κs = search needs
 
-add-at : tie.Need-add-at Inv-loop μ-loop
-add-at c =
+add-next : tie.Need-add-next Inv-loop μ-loop
+add-next c =
     let a = c .before .before .before .before .before .before .args in
     let g = c .before .before .before .before in
     let s = c .before .before .scan in
@@ -100,7 +100,7 @@ first-bad-spec =
     part-parse-start
     part-parse-end
     parse-requires
-    add-at
+    add-next
     returns
     more-of-requires
     loop-less

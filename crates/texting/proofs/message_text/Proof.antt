@@ -1,28 +1,16 @@
 -- `texting::message_text` meets its contract. Assumes nothing.
-use mathlib.Core.Bool.{false}
-use Rattle.callfile.proofs.Parts.{then, line-puts}
-use Rattle.calltext.proofs.Showing.{field-length}
+use Rattle.callfile.proofs.Parts.{then}
 use Rattle.texting.specs.Lines.{message}
 use native.Mathlib.Omega.{arith}
 use borrow.Author.Needs.{needs}
 use Rattle.texting.proofs.message_text.Statement.{statement}
 use Rattle.texting.proofs.message_text.Tie as tie
 
-slice-aggregate-put-all : tie.Need-slice-aggregate-put-all
-slice-aggregate-put-all c = search needs
+put-line-number-requires : tie.Need-put-line-number-requires
+put-line-number-requires c κs = search needs
 
-put-all-requires : tie.Need-put-all-requires
-put-all-requires c κs = search needs
-
-put-word-requires : tie.Need-put-word-requires
-put-word-requires c κs = search needs
-
-put-complaint-requires : tie.Need-put-complaint-requires
-put-complaint-requires c κs =
-    let a = c .before .before .before .before .before .before .before .before .before .before .before .args in
-    let p = line-puts (omega arith) (omega arith) (c .before .before .before .before .before .before .before .put-all .ensures) in
-    let q = line-puts (omega (arith, p .next, p .same)) (omega (arith, field-length false (a .line))) (c .before .before .before .put-word .ensures) in
-    omega (arith, p .next, p .same, q .next, q .same, field-length false (a .line))
+put-wrong-requires : tie.Need-put-wrong-requires
+put-wrong-requires c κs = search needs
 
 same-length : tie.Need-same-length
 same-length c = search needs
@@ -30,19 +18,10 @@ same-length c = search needs
 returns : tie.Need-returns
 unfolding message
 returns c =
-    let a = c .before .before .before .before .before .before .before .before .before .before .before .before .before .before .args in
-    let p = line-puts (omega arith) (omega arith) (c .before .before .before .before .before .before .before .before .before .before .put-all .ensures) in
-    let q = line-puts (omega (arith, p .next, p .same)) (omega (arith, field-length false (a .line))) (c .before .before .before .before .before .before .put-word .ensures) in
-    let r = c .before .before .put-complaint .ensures in
-    (then p (then q (r .0)), omega (arith, p .next, q .next, r .1, field-length false (a .line)))
+    let p = c .before .before .before .before .before .before .put-line-number .ensures in
+    let q = c .before .before .put-wrong .ensures in
+    (then (p .0) (q .0), omega (arith, p .1, q .1))
 
 pub message-text-spec : {M : Type 1} → statement M
 message-text-spec =
-    tie.close
-    (tie.spec
-    slice-aggregate-put-all
-    put-all-requires
-    put-word-requires
-    put-complaint-requires
-    same-length
-    returns)
+    tie.close (tie.spec put-line-number-requires put-wrong-requires same-length returns)

@@ -1,17 +1,19 @@
--- `runcalls::write` is safe and ends: each turn writes a byte or more. Assumes nothing.
+-- `program::write_to` meets its contract: each turn writes a byte or more. Assumes nothing.
 use Prim.Native.Nat.{_-_, _≤_}
+use mathlib.Core.Bool.{false≢true}
+use native.Mathlib.Omega.{arith}
 use borrow.Author.Needs.{needs}
-use Rattle.runcalls.proofs.write.Statement.{statement}
-use Rattle.runcalls.proofs.write.Tie as tie
+use Rattle.program.proofs.write_to.Statement.{statement}
+use Rattle.program.proofs.write_to.Tie as tie
 
 abbrev Inv-loop : tie.InvT-loop
-Inv-loop text n done₀ t5 done = done ≤ n
+Inv-loop fd text n done₀ done = done ≤ n
 
 abbrev μ-loop : tie.MeasureT-loop
-μ-loop text n done₀ t5 done = n - done
+μ-loop fd text n done₀ done = n - done
 
 returns : tie.Need-returns Inv-loop μ-loop
-returns c = search needs
+returns c = record { enough = λ e. absurd (false≢true e) }
 
 loop-holds : tie.Need-loop-holds Inv-loop μ-loop
 loop-holds c = search needs
@@ -28,14 +30,8 @@ part-write-some-end c = search needs
 write-some-requires : tie.Need-write-some-requires Inv-loop μ-loop
 write-some-requires c κs = search needs
 
-slice-aggregate-fail : tie.Need-slice-aggregate-fail Inv-loop μ-loop
-slice-aggregate-fail c = search needs
-
-fail-requires : tie.Need-fail-requires Inv-loop μ-loop
-fail-requires c κs = search needs
-
 returns-2 : tie.Need-returns-2 Inv-loop μ-loop
-returns-2 c = search needs
+returns-2 c = record { enough = λ e. absurd (false≢true e) }
 
 add-done : tie.Need-add-done Inv-loop μ-loop
 add-done c = search needs
@@ -47,10 +43,10 @@ loop-again : tie.Need-loop-again Inv-loop μ-loop
 loop-again c = search needs
 
 returns-3 : tie.Need-returns-3 Inv-loop μ-loop
-returns-3 c = search needs
+returns-3 c = record { enough = λ e. omega (arith, c .before .before .if1 .left) }
 
-pub write-spec : {M : Type 1} → statement M
-write-spec =
+pub write-to-spec : {M : Type 1} → statement M
+write-to-spec =
     tie.close
     (tie.spec
     Inv-loop
@@ -61,8 +57,6 @@ write-spec =
     part-write-some-start
     part-write-some-end
     write-some-requires
-    slice-aggregate-fail
-    fail-requires
     returns-2
     add-done
     loop-less

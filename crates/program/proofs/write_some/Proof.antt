@@ -1,13 +1,14 @@
--- `runcalls::write_some` is safe, ends and answers no more than was lent. Assumes nothing.
+-- `program::write_some` is safe, ends and answers no more than was lent. Assumes nothing.
+use native.Mathlib.Omega.{arith}
 use borrow.Author.Needs.{needs}
-use Rattle.runcalls.proofs.write_some.Statement.{statement}
-use Rattle.runcalls.proofs.write_some.Tie as tie
+use Rattle.program.proofs.write_some.Statement.{statement}
+use Rattle.program.proofs.write_some.Tie as tie
 
 abbrev Inv-loop : tie.InvT-loop
-Inv-loop part turns₀ turns = Unit {0}
+Inv-loop fd part turns₀ turns = Unit {0}
 
 abbrev μ-loop : tie.MeasureT-loop
-μ-loop part turns₀ turns = turns
+μ-loop fd part turns₀ turns = turns
 
 loop-holds : tie.Need-loop-holds Inv-loop μ-loop
 loop-holds c = tt
