@@ -25,13 +25,14 @@
  * Whose memory. All of it is the caller's. The library keeps no pointer after a call. Each array is passed as a pointer to its first
  * element and its number of elements (words of head; rows of the others). No pointer may be null. Nobody else may read or write the
  * arrays during the call; the queries only read the state, so several may run at once on one state. A length above the array's true
- * one is an error that cannot be seen here. A call takes about 10 kB of stack.
+ * one is an error that cannot be seen here. A call takes at most 12 kB of stack, bytes held 14 kB, an outlook 20 kB (DESTINATION_STACK_..;
+ * examples/destination/stack.c measures them).
  *
  * Alignment. Each array starts at an address that 8 divides. Arrays of uint64_t and the structs below do, and so does what malloc gives;
  * a place among bytes, as in a buffer of char or a mapped file, need not. It is not tested.
  *
  * Overlap. No two arrays that are lent to one call may share a byte: head, subs, rows, the event list, the requests and outcomes of
- * destination_calls, the lines of a page. The library takes it that what it writes to one changes no other, and it is not tested.
+ * destination_calls, the lists of blocks of destination_call_noted, the lines of a page. The library takes it that what it writes to one changes no other, and it is not tested.
  *
  * A call answers with a refusal, 0 for none. A REFUSED CALL HAS CHANGED NOTHING: state and events are as they were, the answer
  * is 0 and the number of events is 0.
@@ -54,7 +55,14 @@ extern "C" {
 #define DESTINATION_ROWS 512        /* destination_rows() */
 #define DESTINATION_EVENTS 545      /* destination_events() */
 #define DESTINATION_OUTLOOK_LINES 512 /* destination_outlook_lines(): the fewest lines that the list of an outlook may have */
+#define DESTINATION_HELD_BLOCKS 512 /* destination_held_blocks(): the fewest blocks that the list of those held may have */
+#define DESTINATION_LEFT_BLOCKS 513 /* destination_left_blocks(): and that of those that leave in a call */
 #define DESTINATION_PAGE_LINES 50   /* destination_page_lines(): the most lines that a page has, and the fewest that its list may have */
+
+/* bytes of stack that a function takes at most, as measured: a call or a query; bytes held; an outlook */
+#define DESTINATION_STACK_CALL 12288
+#define DESTINATION_STACK_BYTES 14336
+#define DESTINATION_STACK_OUTLOOK 20480
 
 #define DESTINATION_SUB_WORDS 16
 #define DESTINATION_ROW_WORDS 10
@@ -75,8 +83,9 @@ extern "C" {
 /* ---- refusals, in the order in which they are tested (a join tests 6, 7, 5) */
 
 #define DESTINATION_ACCEPTED 0
-#define DESTINATION_SHORT 1         /* a state array is short, the event list holds under 545, a page list under 50 lines, or an
-                                       outlook's under 512 */
+#define DESTINATION_SHORT 1         /* a state array is short, the event list holds under 545, a page list under 50 lines, an outlook's
+                                       under 512, a list of blocks held under 512 or more than that in use, or one of those that leave
+                                       under 513 */
 #define DESTINATION_NOT_SOUND 2     /* the state's numbers do not fit or are out of range, as before the first open; open does not ask */
 #define DESTINATION_ARGUMENTS 3     /* a number is outside its range, a code is unknown, or an unused word is not 0 */
 #define DESTINATION_READINGS_TURNED 17 /* an outlook: the earlier reading is above the later one */
@@ -148,6 +157,16 @@ extern "C" {
 #define DESTINATION_MESSAGE 2     /* send an entry to a consumer: 2, connection, session, value, sequence, redelivery */
 #define DESTINATION_NULL 3        /* send a consumer an empty message: 3, connection, session, value, 0, 0 */
 
+/* block: where it is held, or how it left. On a queue none is discarded. */
+#define DESTINATION_PLACE_WAITING 0
+#define DESTINATION_PLACE_IN_FLIGHT 1     /* at one consumer that is no browser */
+#define DESTINATION_PLACE_RESERVED 2      /* for a consumer that left with a transaction */
+#define DESTINATION_PLACE_DEQUEUED 3      /* by an acknowledgement, but POISON and EXPIRED */
+#define DESTINATION_PLACE_EXPIRED 4       /* by the clock less the allowance, or by an EXPIRED acknowledgement */
+#define DESTINATION_PLACE_DISCARDED 5
+#define DESTINATION_PLACE_DEAD_LETTERED 6 /* by a POISON acknowledgement, persistent or not */
+#define DESTINATION_PLACE_CLEARED 7       /* by a clear */
+
 /* head: the words that say how many calls are left, the allowance, and the share */
 #define DESTINATION_HEAD_CALL_LIMIT 2
 #define DESTINATION_HEAD_CALLS_USED 3
@@ -194,6 +213,22 @@ struct destination_outcome {
     uint64_t refusal; /* DESTINATION_ACCEPTED, or why nothing has happened */
     uint64_t answer;  /* see the calls below */
     size_t events;    /* how many events stand in the list, at most 545; what stands after them is as it was */
+};
+
+/* A block of a queue: an entry that it accepted since its latest open. 24 bytes. */
+struct destination_block {
+    uint64_t sequence;
+    uint64_t place;      /* DESTINATION_PLACE_.. */
+    uint64_t persistent; /* 0 or 1 */
+};
+
+/* What a call gives with the account of a queue's blocks. 40 bytes. */
+struct destination_noted {
+    uint64_t refusal;
+    uint64_t answer;
+    size_t events;
+    size_t held; /* how many blocks the destination holds: they stand first in the list; beside a refusal as many as were said to be in use */
+    size_t left; /* how many left in this call: they stand first in their list; 0 beside a refusal */
 };
 
 /* What many calls give together. 16 bytes. */
@@ -293,6 +328,8 @@ size_t destination_rows(void);
 size_t destination_events(void);
 size_t destination_page_lines(void);
 size_t destination_outlook_lines(void);
+size_t destination_held_blocks(void);
+size_t destination_left_blocks(void);
 
 /* Does the call. */
 struct destination_outcome destination_call(uint64_t *head, size_t head_words,
@@ -304,13 +341,28 @@ struct destination_outcome destination_call(uint64_t *head, size_t head_words,
 /* Does many calls with one test of the state: from the first on, each as destination_call would do it on what is left of the event list. The
  * outcomes and events of all stand one after another; what stands past them is as it was. It ends with the last request, with the last
  * place for an outcome, or where fewer than 545 places for events are left: so lend a list that is longer by what the calls may send, and
- * go on from requests + calls. Where a state array is short or the state is not sound none is done; destination_call then says why. */
+ * go on from requests + calls. Where a state array is short or the state is not sound none is done; destination_call then says why. So on a
+ * state that was never opened a batch that begins with an open does nothing: make the first open with destination_call. */
 struct destination_done destination_calls(uint64_t *head, size_t head_words,
                                           uint64_t (*subs)[DESTINATION_SUB_WORDS], size_t subs_length,
                                           uint64_t (*rows)[DESTINATION_ROW_WORDS], size_t rows_length,
                                           uint64_t (*events)[DESTINATION_EVENT_WORDS], size_t events_length,
                                           const struct destination_request *requests, size_t requests_length,
                                           struct destination_outcome *outcomes, size_t outcomes_length);
+
+/* Does the call as destination_call does, and keeps the account of a queue's blocks. The host lends two lists: `held`, of which the first
+ * `in_use` are the blocks that the destination holds, as the call before left them (none before the open), and `left`. After an accepted
+ * call the one has the blocks that it holds now, waiting ones first, then reserved ones, then those in flight; the other those that left
+ * in this call, each with the place where it went. What stands after them is as it was, and beside a refusal so are both lists. An open
+ * begins a new account; a topic has none. So each block of a run is told once as it leaves, and what is held at the end is in `held`:
+ * the number of all is the enqueued counter. A number may come again once it has left, and is then another block. About 24 kB of stack. */
+struct destination_noted destination_call_noted(uint64_t *head, size_t head_words,
+                                                uint64_t (*subs)[DESTINATION_SUB_WORDS], size_t subs_length,
+                                                uint64_t (*rows)[DESTINATION_ROW_WORDS], size_t rows_length,
+                                                uint64_t (*events)[DESTINATION_EVENT_WORDS], size_t events_length,
+                                                struct destination_block *held, size_t held_length, size_t in_use,
+                                                struct destination_block *left, size_t left_length,
+                                                struct destination_request request);
 
 /* Two changing calls that have no code: the host found before storing an entry that it must be discarded, or that it has expired. Each counts
  * one, uses a call and sends nothing. Refusals 1, 2, 9. */
@@ -377,8 +429,8 @@ struct destination_paged destination_page(const uint64_t *head, size_t head_word
 
 /* When the clock is only known to lie between two readings: how many of the entries that wait on the queue have surely expired, perhaps, or are
  * alive, the allowance included, and which expires next. Lists those whose expiration is above 0 and from `from` to `to`, both included and
- * without the allowance, by expiration and then sequence number; lines past them stay as they were. For any clock between the readings a sweep
- * with maximum 512 that is accepted next removes, of these entries, the sure ones and none but sure and perhaps. On a topic all is 0.
+ * without the allowance, by expiration and then sequence number; lines past them stay as they were. A sweep with maximum 512 whose clock lies between
+ * the readings, ends included, and that is the next call accepted, removes of these entries the sure ones and none but sure and perhaps. On a topic all is 0.
  * Refusals 1, 2; 3 for a reading above 2^62; then 17. */
 struct destination_outlooked destination_outlook(const uint64_t *head, size_t head_words,
                                                  const uint64_t (*subs)[DESTINATION_SUB_WORDS], size_t subs_length,
@@ -623,6 +675,14 @@ static inline struct destination_done destination_calls_of(struct destination *d
 {
     return destination_calls(d->head, DESTINATION_HEAD_WORDS, d->subs, DESTINATION_CONSUMERS, d->rows, DESTINATION_ROWS, events,
                              events_length, requests, requests_length, outcomes, outcomes_length);
+}
+
+/* held and left: lists of DESTINATION_HELD_BLOCKS and DESTINATION_LEFT_BLOCKS; in_use: what the call before gave as held, 0 before the open. */
+static inline struct destination_noted destination_call_noted_of(struct destination *d, struct destination_block *held, size_t in_use,
+                                                                 struct destination_block *left, struct destination_request request)
+{
+    return destination_call_noted(d->head, DESTINATION_HEAD_WORDS, d->subs, DESTINATION_CONSUMERS, d->rows, DESTINATION_ROWS, d->events,
+                                  DESTINATION_EVENTS, held, DESTINATION_HELD_BLOCKS, in_use, left, DESTINATION_LEFT_BLOCKS, request);
 }
 
 static inline struct destination_outcome destination_add_discarded_of(struct destination *d)

@@ -1,7 +1,7 @@
 #!/usr/bin/env python3
-"""model.py [--bytes] <CALL_FILE: the definitions of crates/definition/specs in Python, function by function and under the same names, with a
-mark for each branch. Prints what a run of the file prints, with --bytes also the bytes held after each call. No proof covers it: it shows which
-branches a call file reaches (see `reach`), and it can be the reference of `run` where there is no other."""
+"""model.py [--bytes|--fates] <CALL_FILE: the definitions of crates/definition/specs in Python, function by function and under the same names, with a
+mark for each branch. Prints what a run of the file prints, with --bytes also the bytes held after each call, with --fates instead what `blockfates`
+prints. No proof covers it: it shows which branches a call file reaches (see `reach`), and it can be the reference of `run` where there is no other."""
 import struct
 import sys
 from dataclasses import dataclass, field, replace
@@ -1012,22 +1012,105 @@ def calls_of(block):
     return [struct.unpack_from("<9Q", block, 72 * k) for k in range(count)]
 
 
-def run(data, held=False):
-    """The lines that a run prints; with `held` also the bytes held after each call, once a destination is open."""
-    lines, t, index = [], Dest(), 0
+def steps(data):
+    """Each call with its index and words, its refusal, answer and events, and the destination it leaves; for a bad block its number and nothing else."""
+    t, index = Dest(), 0
     for k in range(0, len(data), 512):
         calls = calls_of(data[k : k + 512])
         if calls is None:
-            lines.append(f"b {k // 512}")
-            break
+            yield k // 512, None, 0, 0, [], t
+            return
         for words in calls:
             refusal, answer, events, t = step(words[0], words[1:], t)
-            lines.append(f"{index} {refusal} {answer}")
-            lines += [" ".join(map(str, e)) for e in events]
-            lines += [f"h {bytes_held(t)}"] if held and sound(t) else []
+            yield index, words, refusal, answer, events, t
             index += 1
-    return lines + ["= " + " ".join(str(t.stats[n]) for n in t.stats)]
+
+
+def counters(t):
+    return "= " + " ".join(str(t.stats[n]) for n in t.stats)
+
+
+def run(data, held=False):
+    """The lines that a run prints; with `held` also the bytes held after each call, once a destination is open."""
+    lines, t = [], Dest()
+    for index, words, refusal, answer, events, t in steps(data):
+        if words is None:
+            lines.append(f"b {index}")
+            continue
+        lines.append(f"{index} {refusal} {answer}")
+        lines += [" ".join(map(str, e)) for e in events]
+        lines += [f"h {bytes_held(t)}"] if held and sound(t) else []
+    return lines + [counters(t)]
+
+
+# ---- where each block ended (document 02 §7)
+
+PLACES = ("waiting", "in-flight", "reserved", "dequeued", "expired", "discarded", "dead-lettered", "cleared")
+
+
+def places(t):
+    """The blocks that a queue holds: by its number, each one's place and whether it is persistent. A topic has no account."""
+    lists = ([], [], []) if t.kind == "topic" else (t.pending, taken(t.subs), [e for _, e in t.reserved])
+    return {e.seq: (place, e.persistent) for place, entries in enumerate(lists) for e in entries}
+
+
+def left_as(code, words, waited):
+    """How a block left in a call that was accepted: one that did not wait is removed by an acknowledgement alone, or returned expired."""
+    if code == 10:
+        return 7
+    if code == 4 and not waited:
+        return {1: 6, 6: 4}.get(words[3] % 256, 3)
+    return 4
+
+
+def arrived(words, t, blocks):
+    """The line of what an accepted enqueue or join brought."""
+    if words[0] == 2:
+        return ["j %d %d %d %d" % (ident(words[1:]) + (words[6],))]
+    if words[0] == 1 and t.kind == "queue":
+        blocks[words[1]] = (0, words[3] == 1)
+        return ["e %d %d" % (words[1], words[3])]
+    return []
+
+
+def told(number, block):
+    return "f %d %s %d" % (number, PLACES[block[0]], block[1])
+
+
+def account(words, t, blocks, totals):
+    """The lines of what left in an accepted call. Those blocks go into the totals; the others stay in the order of their enqueues."""
+    now, lines = places(t), []
+    for number, (place, persistent) in list(blocks.items()):
+        if number in now:
+            blocks[number] = now[number]
+        else:
+            gone = left_as(words[0], words[1:], place == 0)
+            totals[gone] += 1
+            lines.append(told(number, (gone, persistent)))
+            del blocks[number]
+    return lines
+
+
+def fates(data):
+    """The lines that `blockfates` prints."""
+    lines, blocks, totals, t = [], {}, [0] * 8, Dest()
+    for index, words, refusal, _, events, t in steps(data):
+        if words is None:
+            lines.append(f"b {index}")
+            continue
+        first, left = [], []
+        if refusal == 0 and words[0] == 0:
+            blocks, totals = {}, [0] * 8
+        elif refusal == 0:
+            first, left = arrived(words, t, blocks), account(words, t, blocks, totals)
+        held = [sum(b[0] == place for b in blocks.values()) for place in range(3)]
+        lines.append("c %d %d %d %d %d %d" % (index, words[0], refusal, *held))
+        lines += first + [" ".join(map(str, e)) for e in events] + left
+    for block in blocks.values():
+        totals[block[0]] += 1
+    return lines + [told(*b) for b in blocks.items()] + ["t " + " ".join(map(str, totals)), counters(t)]
 
 
 if __name__ == "__main__":
-    sys.stdout.write("\n".join(run(sys.stdin.buffer.read(), "--bytes" in sys.argv[1:])) + "\n")
+    options, data = sys.argv[1:], sys.stdin.buffer.read()
+    sys.stdout.write("\n".join(fates(data) if "--fates" in options else run(data, "--bytes" in options)) + "\n")

@@ -54,6 +54,16 @@ ALWAYS(offsetof(struct destination_outlooked, perhaps) == 16);
 ALWAYS(offsetof(struct destination_outlooked, alive) == 24);
 ALWAYS(offsetof(struct destination_outlooked, next) == 32);
 ALWAYS(offsetof(struct destination_outlooked, count) == 40);
+ALWAYS(sizeof(struct destination_block) == 24);
+ALWAYS(offsetof(struct destination_block, sequence) == 0);
+ALWAYS(offsetof(struct destination_block, place) == 8);
+ALWAYS(offsetof(struct destination_block, persistent) == 16);
+ALWAYS(sizeof(struct destination_noted) == 40);
+ALWAYS(offsetof(struct destination_noted, refusal) == 0);
+ALWAYS(offsetof(struct destination_noted, answer) == 8);
+ALWAYS(offsetof(struct destination_noted, events) == 16);
+ALWAYS(offsetof(struct destination_noted, held) == 24);
+ALWAYS(offsetof(struct destination_noted, left) == 32);
 ALWAYS(sizeof(((struct destination *)0)->subs[0]) == 128);
 ALWAYS(sizeof(((struct destination *)0)->rows[0]) == 80);
 ALWAYS(sizeof(((struct destination *)0)->events[0]) == 48);
@@ -151,6 +161,7 @@ static void limits(void)
     CHECK(destination_events() == DESTINATION_EVENTS);
     CHECK(destination_page_lines() == DESTINATION_PAGE_LINES);
     CHECK(destination_outlook_lines() == DESTINATION_OUTLOOK_LINES);
+    CHECK(destination_held_blocks() == DESTINATION_HELD_BLOCKS && destination_left_blocks() == DESTINATION_LEFT_BLOCKS);
 
     /* each length alone, one short: so no two of them are exchanged */
     struct destination_request open = {0, {0, 0, 100, 0}};
@@ -522,6 +533,52 @@ static void many_calls(void)
     CHECK(batch_lent(8347, 32, 512) == 1);
 }
 
+/* ---- the account of a queue's blocks */
+
+static struct {
+    uint64_t g0[GUARD];
+    struct destination_block held[DESTINATION_HELD_BLOCKS];
+    uint64_t g1[GUARD];
+    struct destination_block left[DESTINATION_LEFT_BLOCKS];
+    uint64_t g2[GUARD];
+} account;
+
+static struct destination_noted note(struct destination_request r, size_t held, size_t in_use, size_t left)
+{
+    struct destination_noted n = destination_call_noted(one.head, DESTINATION_HEAD_WORDS, one.subs, DESTINATION_CONSUMERS, one.rows, DESTINATION_ROWS,
+                                                        one.events, DESTINATION_EVENTS, account.held, held, in_use, account.left, left, r);
+    CHECK(guarded(account.g0) && guarded(account.g1) && guarded(account.g2));
+    return n;
+}
+
+static bool told(struct destination_noted n, uint64_t refusal, uint64_t answer, size_t events, size_t held, size_t left)
+{
+    return n.refusal == refusal && n.answer == answer && n.events == events && n.held == held && n.left == left;
+}
+
+static bool block(struct destination_block b, uint64_t sequence, uint64_t place, uint64_t persistent)
+{
+    return b.sequence == sequence && b.place == place && b.persistent == persistent;
+}
+
+static void noted_calls(void)
+{
+    const struct destination_request open = {0, {0, 0, 100, 0}}, first = {1, {51, 5, 1, 0, 0, 0, 3}}, second = {1, {52, 0, 0, 0, 0, 0, 3}};
+    const struct destination_request join = {2, {61, 62, 63, 1, 64, 0, 3}}, sweep = {9, {5, 2}}, clear = {10, {0}};
+    for (size_t i = 0; i < sizeof account / 8; i++)
+        ((uint64_t *)&account)[i] = GUARD_WORD;
+    CHECK(told(note(open, 511, 0, 513), 1, 0, 0, 0, 0) && told(note(open, 512, 0, 512), 1, 0, 0, 0, 0));
+    CHECK(told(note(open, 512, 513, 513), 1, 0, 0, 513, 0));
+    CHECK(told(note(open, 512, 7, 513), 0, 0, 0, 0, 0) && block(account.held[0], GUARD_WORD, GUARD_WORD, GUARD_WORD));
+    CHECK(told(note(first, 512, 0, 513), 0, 0, 0, 1, 0) && block(account.held[0], 51, DESTINATION_PLACE_WAITING, 1));
+    CHECK(told(note(first, 512, 1, 513), 4, 0, 0, 1, 0));
+    CHECK(told(note(second, 512, 1, 513), 0, 0, 0, 2, 0) && block(account.held[1], 52, DESTINATION_PLACE_WAITING, 0));
+    CHECK(told(note(sweep, 512, 2, 513), 0, 1, 0, 1, 1) && block(account.left[0], 51, DESTINATION_PLACE_EXPIRED, 1));
+    CHECK(block(account.held[0], 52, DESTINATION_PLACE_WAITING, 0) && block(account.left[1], GUARD_WORD, GUARD_WORD, GUARD_WORD));
+    CHECK(told(destination_call_noted_of(&one, account.held, 1, account.left, join), 0, 0, 1, 1, 0) && block(account.held[0], 52, DESTINATION_PLACE_IN_FLIGHT, 0));
+    CHECK(told(note(clear, 512, 1, 513), 0, 1, 0, 0, 1) && block(account.left[0], 52, DESTINATION_PLACE_CLEARED, 0));
+}
+
 static void events(void)
 {
     const uint64_t letter[6] = {1, 5, UINT64_MAX, 1, 0, 0}, message[6] = {2, 3, UINT64_MAX - 3, 4, 6, 7};
@@ -552,6 +609,7 @@ int main(void)
     inline_functions();
     on_struct();
     many_calls();
+    noted_calls();
     events();
     printf("declarations: %d checks hold\n", checks);
     return 0;

@@ -1,17 +1,14 @@
-// Runs a call file, from standard input or from the file that its one argument names, and says where each block of its queue is or how it left. Here is only
-// reading and writing: `engine` makes the calls, and `report` keeps the account.
+// Runs a call file, from standard input or from the file that its one argument names, and says where each block of its queue is or how it left. `report` makes the calls and keeps
+// the account: the blocks that are held, at most 512, and those that leave in each call. Here are the lines, reading and writing.
 use calls::Call;
 use consumers::SubRow;
 use entry::Row;
-use libc::STDERR_FILENO;
-use libc::STDIN_FILENO;
-use libc::STDOUT_FILENO;
 use report::Block;
 use report::Noted;
 use state::Event;
 use stats::Stats;
 
-// The next call's index, how many blocks are kept, and whether the run goes on.
+// The next call's index, how many blocks are held, and whether the run goes on.
 struct Next {
     index: u64,
     count: usize,
@@ -22,15 +19,7 @@ struct Next {
 
 // The first bytes of a text.
 fn write_out(text: &[u8], n: usize) -> bool {
-    if text.len() < n {
-        return false;
-    }
-    let part = &text[0..n];
-    if io::write_all(STDOUT_FILENO, part) {
-        return true;
-    }
-    os::fail(b"blockfates: standard output");
-    false
+    program::write(b"blockfates", text, n)
 }
 
 // A letter and two numbers.
@@ -58,6 +47,38 @@ fn put_turn(
     let d = callfile::put_word(out, c, flying, false);
     let e = callfile::put_word(out, d, reserved, false);
     callfile::put_byte(out, e, b'\n')
+}
+
+// An accepted join's consumer and flags.
+fn put_join(out: &mut [u8], at: usize, words: [u64; 8]) -> usize {
+    let a = callfile::put_byte(out, at, b'j');
+    let b = callfile::put_word(out, a, words[0], false);
+    let c = callfile::put_word(out, b, words[1], true);
+    let d = callfile::put_word(out, c, words[2], true);
+    let e = callfile::put_word(out, d, words[5], false);
+    callfile::put_byte(out, e, b'\n')
+}
+
+// What an accepted call brought; a refused one nothing: a join its consumer, an enqueue on a queue its block.
+fn put_brought(
+    out: &mut [u8],
+    at: usize,
+    refusal: u64,
+    code: u64,
+    words: [u64; 8],
+    queue: bool,
+) -> usize {
+    if refusal != 0 {
+        return at;
+    }
+    if code == Call::JOIN {
+        return put_join(out, at, words);
+    }
+    if (code == Call::ENQUEUE) & queue {
+        let end = put_pair(out, at, b'e', words[0], words[2]);
+        return callfile::put_byte(out, end, b'\n');
+    }
+    at
 }
 
 // The lines of the first n events, from `at` on.
@@ -88,107 +109,134 @@ fn put_place(out: &mut [u8], at: usize, place: u64) -> usize {
     }
 }
 
-// A block's line: its sequence number and its place.
-fn write_block(b: Block) -> bool {
-    let mut out = [0u8; 256];
-    let seq = b[0];
-    let place = b[1];
-    let first = callfile::put_byte(&mut out, 0, b'f');
-    let second = callfile::put_word(&mut out, first, seq, false);
-    let third = put_place(&mut out, second, place);
-    let end = callfile::put_byte(&mut out, third, b'\n');
-    write_out(&out, end)
+// A block's line: its sequence number, its place, and whether it is persistent.
+fn put_block(out: &mut [u8], at: usize, b: Block) -> usize {
+    let first = callfile::put_byte(out, at, b'f');
+    let second = callfile::put_word(out, first, b[0], false);
+    let third = put_place(out, second, b[1]);
+    let fourth = callfile::put_word(out, third, b[2], false);
+    callfile::put_byte(out, fourth, b'\n')
 }
 
-fn write_blocks(blocks: &[Block], n: usize) -> bool {
+// The lines of the first n blocks, from `at` on.
+fn put_blocks(out: &mut [u8], from: usize, blocks: &[Block], n: usize) -> usize {
+    let mut at = from;
     let mut i = 0;
     while i < n {
         if blocks.len() <= i {
-            return true;
+            return at;
         }
-        if !write_block(blocks[i]) {
-            return false;
-        }
+        at = put_block(out, at, blocks[i]);
         i += 1;
     }
-    true
+    at
+}
+
+// How many blocks are at a place: held there, or gone.
+fn total_at(held: &[Block], n: usize, gone: &[u64], place: usize) -> u64 {
+    if place < 3 {
+        return report::total(held, n, place as u64) as u64;
+    }
+    if gone.len() <= place {
+        return 0;
+    }
+    gone[place]
 }
 
 // The totals of the eight places.
-fn write_totals(blocks: &[Block], n: usize) -> bool {
-    let mut out = [0u8; 2048];
-    let mut at = callfile::put_byte(&mut out, 0, b't');
+fn put_totals(out: &mut [u8], from: usize, held: &[Block], n: usize, gone: &[u64]) -> usize {
+    let mut at = callfile::put_byte(out, from, b't');
     let mut place = 0;
     while place < 8 {
-        let many = report::total(blocks, n, place) as u64;
-        at = callfile::put_word(&mut out, at, many, false);
+        let many = total_at(held, n, gone, place);
+        at = callfile::put_word(out, at, many, false);
         place += 1;
     }
-    let end = callfile::put_byte(&mut out, at, b'\n');
-    write_out(&out, end)
-}
-
-// The counters, as `runcalls` prints them last.
-fn write_counters(head: &[u64]) -> bool {
-    let mut out = [0u8; 256];
-    let d = state::load(head, &[]);
-    let s: Stats = d.stats;
-    let end = callfile::put_counters(&mut out, 0, s);
-    write_out(&out, end)
+    callfile::put_byte(out, at, b'\n')
 }
 
 // ---- calls
 
-// Notes a call; a refused one leaves the blocks as they are.
-fn keep(
-    refusal: u64,
-    code: u64,
-    words: [u64; 8],
-    head: &[u64],
-    subs: &[SubRow],
-    rows: &[Row],
-    blocks: &mut [Block],
-    n: usize,
-) -> Noted {
-    if refusal != 0 {
-        return Noted {
-            refusal: 0,
-            count: n,
-        };
+// Where an account begins anew, nothing is gone yet.
+fn forget(gone: &mut [u64], anew: bool) {
+    if !anew {
+        return;
     }
-    report::note(code, words, head, subs, rows, blocks, n)
+    let n = gone.len();
+    let mut i = 0;
+    while i < n {
+        gone[i] = 0;
+        i += 1;
+    }
 }
 
-// Makes a call, notes it and writes its lines.
+// One more is gone to a place.
+fn count_one(gone: &mut [u64], place: usize) {
+    if place < gone.len() {
+        gone[place] = stats::more_of(gone[place]);
+    }
+}
+
+// Each of the first n blocks that left.
+fn count_gone(gone: &mut [u64], left: &[Block], n: usize) {
+    let mut i = 0;
+    while i < n {
+        if left.len() <= i {
+            return;
+        }
+        count_one(gone, left[i][1] as usize);
+        i += 1;
+    }
+}
+
+// What is gone after a call: n blocks more, or only these where an account began anew.
+fn keep_gone(gone: &mut [u64], left: &[Block], n: usize, anew: bool) {
+    forget(gone, anew);
+    count_gone(gone, left, n);
+}
+
+// The lines of a call: its own, what it brought, what it sent, what left.
+fn put_lines(
+    out: &mut [u8],
+    head: &[u64],
+    events: &[Event],
+    held: &[Block],
+    left: &[Block],
+    index: u64,
+    c: Call,
+    r: Noted,
+) -> usize {
+    let code = c.code;
+    let words = c.words;
+    let d = state::load(head, &[]);
+    let at = put_turn(out, index, code, r.refusal, held, r.held);
+    let came = put_brought(out, at, r.refusal, code, words, d.queue);
+    let sent = put_events(out, came, events, r.events);
+    put_blocks(out, sent, left, r.left)
+}
+
+// Makes a call and writes its lines.
 fn next_call(
     head: &mut [u64],
     subs: &mut [SubRow],
     rows: &mut [Row],
     events: &mut [Event],
-    blocks: &mut [Block],
+    held: &mut [Block],
+    left: &mut [Block],
+    gone: &mut [u64],
     out: &mut [u8],
     c: Call,
-    index: u64,
-    n: usize,
+    from: Next,
 ) -> Next {
-    let code = c.code;
-    let words = c.words;
-    let r = engine::call(head, subs, rows, events, c);
-    let kept = keep(r.refusal, code, words, head, subs, rows, blocks, n);
-    if kept.refusal != 0 {
-        io::write_all(STDERR_FILENO, b"blockfates: more blocks than it can keep\n");
-        return Next {
-            index,
-            count: n,
-            goes_on: false,
-        };
-    }
-    let at = put_turn(out, index, code, r.refusal, blocks, kept.count);
-    let end = put_events(out, at, events, r.events);
+    let index = from.index;
+    let anew = c.code == Call::OPEN;
+    let r = report::call(head, subs, rows, events, held, from.count, left, c);
+    let end = put_lines(out, head, events, held, left, index, c, r);
+    keep_gone(gone, left, r.left, anew & (r.refusal == 0));
     let goes_on = write_out(out, end);
     Next {
         index: stats::more_of(index),
-        count: kept.count,
+        count: r.held,
         goes_on,
     }
 }
@@ -199,29 +247,33 @@ fn run_calls(
     subs: &mut [SubRow],
     rows: &mut [Row],
     events: &mut [Event],
-    blocks: &mut [Block],
+    held: &mut [Block],
+    left: &mut [Block],
+    gone: &mut [u64],
     out: &mut [u8],
     part: &[u8],
     calls: usize,
     from: Next,
 ) -> Next {
-    let mut index = from.index;
-    let mut count = from.count;
+    let mut next = from;
     let mut k = 0;
     while k < calls {
         let c = callfile::call_at(part, k);
-        let r = next_call(head, subs, rows, events, blocks, out, c, index, count);
-        if !r.goes_on {
-            return r;
-        }
-        index = r.index;
-        count = r.count;
         k += 1;
+        next = next_call(head, subs, rows, events, held, left, gone, out, c, next);
+        if !next.goes_on {
+            return next;
+        }
     }
+    next
+}
+
+// The run has ended.
+fn ended(from: Next) -> Next {
     Next {
-        index,
-        count,
-        goes_on: true,
+        index: from.index,
+        count: from.count,
+        goes_on: false,
     }
 }
 
@@ -232,150 +284,122 @@ fn next_part(
     subs: &mut [SubRow],
     rows: &mut [Row],
     events: &mut [Event],
-    blocks: &mut [Block],
+    held: &mut [Block],
+    left: &mut [Block],
+    gone: &mut [u64],
     out: &mut [u8],
     from: Next,
     number: u64,
 ) -> Next {
     let mut part = [0u8; 512];
-    let g = reading::read_on(fd, &mut part, 0);
-    let index = from.index;
-    let count = from.count;
-    if g.how == reading::FAILED {
-        os::fail(b"blockfates: input");
-    } else if g.n == 0 {
-        return Next {
-            index,
-            count,
-            goes_on: false,
-        };
+    let g = program::read(b"blockfates", fd, &mut part, 0);
+    if (g.n == 0) & (g.how != reading::FAILED) {
+        return ended(from);
     }
     let calls = callfile::calls_in(&part, g.n);
     if calls == 0 {
         let end = callfile::put_bad(out, 0, number);
         write_out(out, end);
-        return Next {
-            index,
-            count,
-            goes_on: false,
-        };
+        return ended(from);
     }
-    run_calls(head, subs, rows, events, blocks, out, &part, calls, from)
+    run_calls(
+        head,
+        subs,
+        rows,
+        events,
+        held,
+        left,
+        gone,
+        out,
+        &part,
+        calls,
+        from,
+    )
 }
 
-// All of the file; how many blocks are kept.
+// All of the file; what is held then, and what is gone.
 fn run_all(
     fd: i32,
     head: &mut [u64],
     subs: &mut [SubRow],
     rows: &mut [Row],
     events: &mut [Event],
-    blocks: &mut [Block],
+    held: &mut [Block],
+    left: &mut [Block],
+    gone: &mut [u64],
     out: &mut [u8],
-) -> usize {
-    let mut index = 0;
-    let mut count = 0;
+) -> Next {
+    let mut next = Next {
+        index: 0,
+        count: 0,
+        goes_on: true,
+    };
     let mut number = 0;
     let mut turns = 18446744073709551615u64;
     while 0 < turns {
-        let from = Next {
-            index,
-            count,
-            goes_on: true,
-        };
-        let r = next_part(fd, head, subs, rows, events, blocks, out, from, number);
-        count = r.count;
-        if !r.goes_on {
-            return count;
+        next = next_part(
+            fd,
+            head,
+            subs,
+            rows,
+            events,
+            held,
+            left,
+            gone,
+            out,
+            next,
+            number,
+        );
+        if !next.goes_on {
+            return next;
         }
-        index = r.index;
         number = stats::more_of(number);
         turns -= 1;
     }
-    count
+    next
 }
 
-fn text() -> [u8; 71680] {
-    [0; 71680]
+fn text() -> [u8; 135680] {
+    [0; 135680]
 }
 
-// Room for 131,072 blocks.
-fn list() -> [[u64; 2]; 131072] {
-    [[0; 2]; 131072]
-}
-
-// The whole run, from a state of zeros.
+// The whole run, from a state of zeros: at its end what is held, the totals and the counters.
 fn run(fd: i32) {
     let mut head = [0u64; 8347];
     let mut subs = [[0u64; 16]; 32];
     let mut rows = [[0u64; 10]; 512];
     let mut events = [[0u64; 6]; 545];
-    let mut blocks = list();
+    let mut held = [[0u64; 3]; 512];
+    let mut left = [[0u64; 3]; 513];
+    let mut gone = [0u64; 8];
     let mut out = text();
-    let n = run_all(
+    let r = run_all(
         fd,
         &mut head,
         &mut subs,
         &mut rows,
         &mut events,
-        &mut blocks,
+        &mut held,
+        &mut left,
+        &mut gone,
         &mut out,
     );
-    if !write_blocks(&blocks, n) {
-        return;
-    }
-    if write_totals(&blocks, n) {
-        write_counters(&head);
-    }
-}
-
-// ---- the argument
-
-fn usage(fd: i32) {
-    io::write_all(
-        fd,
-        b"usage: blockfates [FILE]: runs a call file, standard input without FILE, and says where each block ended\n",
-    );
-}
-
-fn run_file(name: &[u8]) {
-    let fd = os::open_read(name);
-    if fd < 0 {
-        os::fail(name);
-        return;
-    }
-    run(fd);
-    libc::close(fd);
-}
-
-// An argument that begins with `-` is no file.
-fn run_named(name: &[u8]) {
-    if name.len() == 0 {
-        usage(STDERR_FILENO);
-    } else if name[0] != b'-' {
-        run_file(name);
-    } else if textwords::same(name, b"--help") {
-        usage(STDOUT_FILENO);
-    } else {
-        usage(STDERR_FILENO);
-    }
+    let n = r.count;
+    let a = put_blocks(&mut out, 0, &held, n);
+    let b = put_totals(&mut out, a, &held, n, &gone);
+    let d = state::load(&head, &[]);
+    let s: Stats = d.stats;
+    let end = callfile::put_counters(&mut out, b, s);
+    write_out(&out, end);
 }
 
 fn main() {
-    let n = os::arg_count();
-    if n < 2 {
-        run(STDIN_FILENO);
-        return;
+    let s = program::open_argument(
+        b"blockfates",
+        b"usage: blockfates [FILE]: runs a call file, standard input without FILE, and says where each block ended\n",
+    );
+    if s.how == program::OPENED {
+        run(s.fd);
+        libc::close(s.fd);
     }
-    if 2 < n {
-        usage(STDERR_FILENO);
-        return;
-    }
-    let mut name = io::buffer();
-    let length = os::arg(1, &mut name);
-    if os::errno() != 0 {
-        os::fail(b"blockfates: argument");
-        return;
-    }
-    run_named(&name[..length]);
 }

@@ -3,12 +3,12 @@ ghost use mathlib.Core.Path.{_≡_};
 ghost use lib.ListN.{length};
 ghost use Rattle.definition.specs.Calls.{discarding, missing};
 ghost use Rattle.definition.specs.Queries.{ofKind, consumers, expirations, messages, bytes, idle, sequence};
-ghost use Rattle.definition.specs.Layout.{bufferStep, bufferCall, bufferQuery, bufferCounters, bufferPage};
-ghost use Rattle.sound.specs.Sound.{lent};
+ghost use Rattle.definition.specs.Layout.{bufferStep, bufferCall, bufferQuery, bufferCounters, bufferPage, lent};
 ghost use Rattle.queries.specs.Answers.{asAsked, asCounted};
 ghost use Rattle.queries.specs.Pages.{asPaged, written};
 ghost use Rattle.engine.specs.Called.{Called};
 ghost use Rattle.engine.specs.Batch.{bufferBatch, Batched};
+ghost use Rattle.report.specs.Report.{notedStep, NotedCall};
 ghost use Rattle.destination.specs.Exported.{asCounters};
 use calls::Call;
 use consumers::SubRow;
@@ -18,6 +18,8 @@ use entry::Row;
 use queries::Asked;
 use queries::PageLine;
 use queries::Paged;
+use report::Block;
+use report::Noted;
 use state::Event;
 
 // ---- how much each buffer must hold
@@ -57,6 +59,20 @@ pub extern "C" fn destination_page_lines() -> usize
     queries::PAGE_MAX
 }
 
+#[no_mangle]
+pub extern "C" fn destination_held_blocks() -> usize
+    ensures { λ r. ⌜ r ≡ 512 ⌝ }
+{
+    report::HELD_MOST
+}
+
+#[no_mangle]
+pub extern "C" fn destination_left_blocks() -> usize
+    ensures { λ r. ⌜ r ≡ 513 ⌝ }
+{
+    report::LEFT_MOST
+}
+
 // ---- calls
 
 // A call of document 01, by its code and its eight words.
@@ -71,6 +87,23 @@ pub extern "C" fn destination_call(
     ensures { λ r. ⌜ Called (bufferStep (lent (now (head .entry)) (now (subs .entry)) (now (rows .entry))) (length (now (events .entry))) (c .code) (c .words)) (lent (now (head .entry)) (now (subs .entry)) (now (rows .entry))) (lent (now (head .exit)) (now (subs .exit)) (now (rows .exit))) (now (events .entry)) (now (events .exit)) r ⌝ }
 {
     engine::call(head, subs, rows, events, c)
+}
+
+// A call with the account of a queue's blocks: held has the n that the destination holds, left gets those that leave.
+#[no_mangle]
+pub extern "C" fn destination_call_noted(
+    head: &mut [u64],
+    subs: &mut [SubRow],
+    rows: &mut [Row],
+    events: &mut [Event],
+    held: &mut [Block],
+    n: usize,
+    left: &mut [Block],
+    c: Call,
+) -> Noted
+    ensures { λ r. ⌜ NotedCall (notedStep (lent (now (head .entry)) (now (subs .entry)) (now (rows .entry))) (length (now (events .entry))) n (length (now (held .entry))) (length (now (left .entry))) c) c n (lent (now (head .entry)) (now (subs .entry)) (now (rows .entry))) (lent (now (head .exit)) (now (subs .exit)) (now (rows .exit))) (now (events .entry)) (now (events .exit)) (now (held .entry)) (now (held .exit)) (now (left .entry)) (now (left .exit)) r ⌝ }
+{
+    report::call(head, subs, rows, events, held, n, left, c)
 }
 
 // `Dest::add_discarded`.

@@ -2,7 +2,6 @@
 ghost use mathlib.Core.Path.{_≡_};
 ghost use lib.ListN.{length};
 ghost use Rattle.outlook.specs.Outlook.{bufferOutlook};
-ghost use Rattle.sound.specs.Sound.{lent};
 ghost use Rattle.queries.specs.Pages.{written};
 ghost use Rattle.outlooks.specs.Plans.{asOutlooked};
 use consumers::SubRow;
@@ -10,6 +9,7 @@ use entry::Row;
 use outlooks::Outlooked;
 use outlooks::Span;
 use queries::PageLine;
+ghost use Rattle.definition.specs.Layout.{lent};
 
 #[no_mangle]
 pub extern "C" fn destination_outlook_lines() -> usize

@@ -64,7 +64,7 @@ pub record Takes (y : AckType) (own : List Entry) (s : Sub) (r : Step) : Type 0 
   pub sums : (f : Entry → ℕ) → Steady f → countM f s ≡ countM f (r .sub) + sum f own
   pub grows : Grows y own (r .counts)
 
-keep-no : {A : Type 0} (l : List A) → keep (λ x. false) l ≡ []
+pub keep-no : {A : Type 0} (l : List A) → keep (λ x. false) l ≡ []
 keep-no [] = refl
 keep-no (x ∷ l) = keep-no l
 
@@ -94,7 +94,7 @@ unfolding isBrowser
 removed-browser hit s = refl
 
 -- two ifs of one test
-by-ifs : {A B : Type 0} (Q : A → B → Type 0) (b : Bool) (x y : A) (u v : B) → (b ≡ true → Q x u) → (b ≡ false → Q y v) → Q (if b then x else y) (if b then u else v)
+pub by-ifs : {A B : Type 0} (Q : A → B → Type 0) (b : Bool) (x y : A) (u v : B) → (b ≡ true → Q x u) → (b ≡ false → Q y v) → Q (if b then x else y) (if b then u else v)
 by-ifs Q true x y u v f g = f refl
 by-ifs Q false x y u v f g = g refl
 

@@ -1,25 +1,24 @@
--- The claims of specs/Account but that on the clock, which `Expiry` proves. Assumes nothing.
+-- The claims of specs/Account but that on the clock (`Expiry`) and that on what an acknowledgement names (`Named`). Assumes nothing.
 use Prim.Native.Nat.{ℕ, _+_, _≤_}
 use native.Mathlib.Omega.{arith}
-use mathlib.Core.Path.{_≡_, refl, sym, _∙_, ap, subst⁻¹}
+use mathlib.Core.Path.{_≡_, refl, sym, _∙_, ap}
 use mathlib.Core.Option.{Option, none, some}
 use mathlib.Core.Bool.{true, false}
 use mathlib.Core.List.{List, [], _∷_, _++_, map}
-use Rattle.definition.specs.Base.{if_then_else_, keep, tally, empty, member}
+use Rattle.definition.specs.Base.{if_then_else_, tally, empty, member}
 use Rattle.definition.specs.Types.{Entry, Sub, Dest}
-use Rattle.definition.specs.Consumer.{isBrowser, AckType, Delivered, Poison, Standard, Redelivered, Individual, Unmatched, Expired, Other, ackType}
-use Rattle.definition.specs.Calls.{seqs, flying, taken, held, Lengths, acknowledge, Call, asking, Result, call, brought}
+use Rattle.definition.specs.Consumer.{isBrowser, AckType, Delivered, Poison, Standard, Redelivered, Individual, Unmatched, Expired, Other}
+use Rattle.definition.specs.Calls.{seqs, flying, taken, held, Lengths, Call, Result, brought}
 use Rattle.definition.specs.Words.{decode, callStep, step}
 use Rattle.definition.proofs.Tests.{by-test, by-if}
 use Rattle.definition.proofs.Sums.{sum, one, occ, sum-one, sum-once, occ-member, occ-no-member}
 use Rattle.definition.proofs.Whole.{sums, countM, sums-taken}
 use Rattle.definition.proofs.Dispatch.{count-browser, count-plain}
-use Rattle.fates.proofs.Measures.{Steady, only, sum-only, one-steady, occ-steady, occ-times, member-occ, yes-member}
-use Rattle.fates.proofs.Run.{Kept, kept, called, moved, leavers-sum}
-use Rattle.fates.proofs.Calls.{decode-coded}
+use Rattle.fates.proofs.Measures.{one-steady, occ-steady, occ-times, member-occ}
+use Rattle.fates.proofs.Run.{Kept, kept}
 use Rattle.definition.proofs.Made.{none-refused, step-call}
-use Rattle.fates.specs.Fates.{Fate, dequeued, expired, discarded, deadLettered, cleared, sameFate, Departure, ackFate, Means, acks, clears, expires, means, waits, removal, fateBy, namedBy, leavers, departing}
-use Rattle.fates.specs.Account.{opening, calling, Place, waiting, inFlight, reserved, left, leftAs, entriesAt, numbersAt, carries, InOnePlace, EachInOnePlace, EnqueuedIsTheTotal, CountersAreTheParts, NoneIsDiscarded, RemovalsAreNamed, AcceptedIsACall}
+use Rattle.fates.specs.Fates.{Fate, dequeued, expired, discarded, deadLettered, cleared, sameFate, Departure, ackFate, Means, acks, clears, expires, means, waits, fateBy, leavers, departing}
+use Rattle.fates.specs.Account.{opening, calling, Place, waiting, inFlight, reserved, left, leftAs, entriesAt, numbersAt, carries, InOnePlace, EachInOnePlace, EnqueuedIsTheTotal, CountersAreTheParts, NoneIsDiscarded, AcceptedIsACall}
 
 -- ---- all departures, by fate
 
@@ -30,10 +29,10 @@ shares discarded n = omega arith
 shares deadLettered n = omega arith
 shares cleared n = omega arith
 
-left-next : (x : Fate) (f : Entry → ℕ) (d : Departure) (l : List Departure) → sum f (leftAs x (d ∷ l)) ≡ (if sameFate x (d .fate) then f (d .entry) else 0) + sum f (leftAs x l)
+pub left-next : (x : Fate) (f : Entry → ℕ) (d : Departure) (l : List Departure) → sum f (leftAs x (d ∷ l)) ≡ (if sameFate x (d .fate) then f (d .entry) else 0) + sum f (leftAs x l)
 left-next x f d l = by-test (sameFate x (d .fate)) (λ c. rw c) (λ c. rw c (omega arith))
 
-all-left : (f : Entry → ℕ) (l : List Departure) → sum f (map (λ d. d .entry) l) ≡ sum f (leftAs dequeued l) + (sum f (leftAs expired l) + (sum f (leftAs discarded l) + (sum f (leftAs deadLettered l) + sum f (leftAs cleared l))))
+pub all-left : (f : Entry → ℕ) (l : List Departure) → sum f (map (λ d. d .entry) l) ≡ sum f (leftAs dequeued l) + (sum f (leftAs expired l) + (sum f (leftAs discarded l) + (sum f (leftAs deadLettered l) + sum f (leftAs cleared l))))
 all-left f [] = refl
 all-left f (d ∷ l) = omega (arith, all-left f l, shares (d .fate) (f (d .entry)), left-next dequeued f d l, left-next expired f d l, left-next discarded f d l, left-next deadLettered f d l, left-next cleared f d l)
 
@@ -120,31 +119,6 @@ none-more t m (d ∷ l) k = by-test (sameFate discarded (d .fate))
 pub none-is-discarded : NoneIsDiscarded
 none-is-discarded a l t (opening lent ws u h k) = refl
 none-is-discarded a l t (calling {a = b} {l = m} {t = u} lent code ws c low e r h n) = none-more u (means c) m (leavers (brought c) u (step lent code ws u .dest)) (none-is-discarded b m u r)
-
--- ---- what an acknowledgement names
-
-removal-steady : (t : Dest) (y : AckType) (x : ℕ) → Steady (only (λ e. removal t e (acks y)) (occ x))
-unfolding removal occ
-removal-steady t y x e = refl
-
-same-member : (x : ℕ) (l m : List Entry) → sum (occ x) l ≡ sum (occ x) m → member x (seqs l) ≡ member x (seqs m)
-same-member x l m h = by-test (member x (seqs l))
-    (λ c. c ∙ sym (yes-member x m (omega (arith, member-occ x l c))))
-    (λ c. c ∙ sym (occ-no-member x m (omega (arith, occ-member x l c))))
-
-pub removals-are-named : RemovalsAreNamed
-removals-are-named a l t r lent code ws i b now low e h x =
-    let k = kept a l t r in
-    let c : Call = asking i (acknowledge b now) in
-    let s = called lent code ws c t low e in
-    let z : call lent c t .refusal ≡ 0 = sym (ap (λ (v : Result). v .refusal) s) ∙ h in
-    let m = moved lent c t (decode-coded code ws c e) (k .kind) z .0 in
-    let y = ackType (b .type) in
-    subst⁻¹ (λ (v : Result). member x (seqs (keep (λ f. removal t f (acks (ackType (b .type)))) (leavers [] t (v .dest)))) ≡ member x (seqs (namedBy i b t))) s
-    (same-member x (keep (λ f. removal t f (acks (ackType (b .type)))) (leavers [] t (call lent c t .dest))) (namedBy i b t)
-    (sym (sum-only (occ x) (λ f. removal t f (acks (ackType (b .type)))) (leavers [] t (call lent c t .dest)))
-    ∙ leavers-sum [] (m .gone) t (call lent c t .dest) (λ v. omega (arith, k .once v, k .sums (occ v) (occ-steady v))) (m .sums) (only (λ f. removal t f (acks (ackType (b .type)))) (occ x)) (removal-steady t (ackType (b .type)) x)
-    ∙ m .removes (occ x)))
 
 -- ---- accepted calls
 

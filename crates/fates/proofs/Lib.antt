@@ -7,8 +7,12 @@ pub mod Steps
 pub mod Calls
 pub mod Run
 pub mod Claims
+pub mod Named
 pub mod Copies
 pub mod Expiry
 pub mod Report
 pub mod Blocks
+pub mod Books
 pub mod Totals
+pub mod Fields
+pub mod Letters

@@ -200,6 +200,10 @@ call-made lent c t z = rw z
 pub fine-queue : (t : Dest) → t .kind ≡ queue → sound t ≡ true → Fine (t .callLimit) (t .callsUsed) queue (bound (t .callsUsed)) t
 fine-queue t k s = subst (λ (j : Kind). Fine (t .callLimit) (t .callsUsed) j (bound (t .callsUsed)) t) k (fine t s)
 
+-- a queue that accepts a call has no number twice
+pub queue-once : (lent : Lengths) (c : Call) (t : Dest) → t .kind ≡ queue → call lent c t .refusal ≡ 0 → (x : ℕ) → queueSum (occ x) t ≤ 1
+queue-once lent c t k h = fine-queue t k (accepted lent c t (call-accepted lent c t h) .is-sound) .once
+
 pub moved : (lent : Lengths) (c : Call) (t : Dest) → Coded c → t .kind ≡ queue → call lent c t .refusal ≡ 0 → Moves (Ready t c) (clockReading c t) (means c) (takes t c) (brought c) t (call lent c t .dest) × (call lent c t .dest .kind ≡ queue)
 moved lent c t w k h =
     let z = call-accepted lent c t h in

@@ -1,114 +1,120 @@
--- The blocks that say a place are as many as the entries there. Assumes nothing.
-use Prim.Native.Nat.{ℕ, zero, suc, _+_, _≤_}
+-- How many blocks there are: at most 512, as many as entries in each place, and one for each accepted number. Assumes nothing.
+use Prim.Native.Nat.{ℕ, _+_, _≤_}
 use native.Mathlib.Omega.{arith}
-use mathlib.Core.Path.{_≡_, refl, sym, _∙_, ap}
-use mathlib.Core.Bool.{Bool, true, true≢false}
-use mathlib.Core.List.{List, [], _∷_, map}
-use mathlib.Core.Option.{some}
+use mathlib.Core.Path.{_≡_, refl, sym, _∙_}
+use mathlib.Core.Bool.{Bool, true, not, _||_}
+use mathlib.Core.List.{List, [], _∷_, _++_, map}
 use lib.Dec.{eqb}
-use lib.ListN.{length}
+use lib.ListN.{length, length-append, length-map}
 use borrow.Author.Tests.{eqb-true, eqb-false, eq-eqb, ne-eqb}
-use Rattle.definition.specs.Base.{if_then_else_, tally, nth, member}
+use Rattle.definition.specs.Base.{if_then_else_, keep, tally}
 use Rattle.definition.specs.Types.{Entry, Dest}
-use Rattle.definition.specs.Calls.{seqs}
+use Rattle.definition.specs.Calls.{taken, held, sound}
+use Rattle.definition.specs.Queries.{isQueue}
 use Rattle.definition.specs.Words.{at}
-use Rattle.definition.proofs.Tests.{by-test, if-true}
-use Rattle.definition.proofs.Lists.{none-some, some-inj}
-use Rattle.definition.proofs.Sums.{sum, occ, occ-yes, occ-no}
-use Rattle.fates.proofs.Measures.{sum-same, mine-occ, yes-member}
-use Rattle.fates.proofs.Run.{Kept, kept}
-use Rattle.fates.proofs.Claims.{there, parts, each-in-one-place}
-use Rattle.fates.proofs.Blocks.{blocks-are-right}
-use Rattle.fates.specs.Fates.{Departure, dequeued, expired, discarded, deadLettered, cleared}
-use Rattle.fates.specs.Account.{Account, Place, waiting, inFlight, reserved, left, places, entriesAt, numbersAt}
-use Rattle.fates.specs.Blocks.{Block, blockOf, placeNumber, blockPlace, blocksOf, TotalsAreTheParts}
+use Rattle.definition.proofs.Tests.{by-test, by-if}
+use Rattle.definition.proofs.Lists.{keep-length}
+use Rattle.definition.proofs.Thin.{tally-append}
+use Rattle.definition.proofs.Sums.{sum, one, occ, sum-one}
+use Rattle.definition.proofs.Whole.{sums-taken, fine}
+use Rattle.definition.proofs.Reach.{counts-rows}
+use Rattle.fates.proofs.Measures.{occ-steady}
+use Rattle.fates.proofs.Run.{kept}
+use Rattle.fates.proofs.Claims.{there}
+use Rattle.fates.specs.Fates.{Fate, rank, sameFate, Departure}
+use Rattle.fates.specs.Account.{waiting, inFlight, reserved, left, leftAs}
+use Rattle.fates.specs.Blocks.{Block, blockAt, heldBlocks, accountOf, comes, wentAs, isGone, leftBlocks}
+use Rattle.fates.specs.Books.{leftBlock, allBlocks, BlocksAreFew, TotalsAreTheParts, OneBlockEach}
 
--- ---- one of a list
+-- ---- parts of the blocks
 
-module _ {A : Type 0} (f : A → Bool) where
-  has-one : (i : ℕ) (l : List A) (x : A) → nth i l ≡ some x → f x ≡ true → 1 ≤ tally f l
-  has-one i [] x e h = absurd (none-some e)
-  has-one zero (a ∷ l) x e h = omega (arith, if-true {A = ℕ} 1 0 (ap f (some-inj e) ∙ h))
-  has-one (suc i) (a ∷ l) x e h = omega (arith, has-one i l x e h)
+in-parts : (q : Block → Bool) (l : List Departure) (t : Dest) → tally q (allBlocks l t) ≡ tally q (map (blockAt 0) (t .pending)) + (tally q (map (blockAt 2) (held t)) + (tally q (map (blockAt 1) (taken (t .subs))) + tally q (map leftBlock l)))
+in-parts q l t = omega (
+  arith,
+  tally-append q (heldBlocks t) (map leftBlock l),
+  tally-append q (map (blockAt 0) (t .pending)) (map (blockAt 2) (held t) ++ map (blockAt 1) (taken (t .subs))),
+  tally-append q (map (blockAt 2) (held t)) (map (blockAt 1) (taken (t .subs))),
+)
 
-  -- where only one passes, two that pass stand at one place
-  one-place : (i j : ℕ) (l : List A) (x y : A) → tally f l ≡ 1 → nth i l ≡ some x → nth j l ≡ some y → f x ≡ true → f y ≡ true → i ≡ j
-  one-place i j [] x y o e d h g = absurd (none-some e)
-  one-place zero zero (a ∷ l) x y o e d h g = refl
-  one-place zero (suc j) (a ∷ l) x y o e d h g = absurd (omega (arith, o, if-true {A = ℕ} 1 0 (ap f (some-inj e) ∙ h), has-one j l y d g))
-  one-place (suc i) zero (a ∷ l) x y o e d h g = absurd (omega (arith, o, if-true {A = ℕ} 1 0 (ap f (some-inj d) ∙ g), has-one i l x e h))
-  one-place (suc i) (suc j) (a ∷ l) x y o e d h g = ap suc (one-place i j l x y (omega (arith, o, has-one i l x e h)) e d h g)
+-- ---- by place
 
-stands : (p : Place) → nth (placeNumber p) places ≡ some p
-stands waiting = refl
-stands inFlight = refl
-stands reserved = refl
-stands (left dequeued) = refl
-stands (left expired) = refl
-stands (left discarded) = refl
-stands (left deadLettered) = refl
-stands (left cleared) = refl
+abbrev says : ℕ → Block → Bool
+says n b = eqb (at 1 b) n
 
--- ---- counted twice
+held-says : (n p : ℕ) (l : List Entry) → tally (says n) (map (blockAt p) l) ≡ (if eqb p n then length l else 0)
+held-says n p [] = by-test (eqb p n) (λ c. rw c) (λ c. rw c)
+held-says n p (e ∷ l) = by-test (eqb p n) (λ c. let k = held-says n p l in rw c (omega (arith, rw c at k))) (λ c. let k = held-says n p l in rw c (omega (arith, rw c at k)))
 
-none-sum : (f : Entry → ℕ) (a : List Entry) → ((e : Entry) → f e ≡ 0) → sum f a ≡ 0
-none-sum f [] h = refl
-none-sum f (e ∷ a) h = omega (arith, h e, none-sum f a h)
+same-rank : (f g : Fate) → eqb (3 + rank g) (3 + rank f) ≡ sameFate f g
+same-rank f g = by-test (sameFate f g)
+    (λ c. eq-eqb (3 + rank g) (3 + rank f) (omega (arith, eqb-true (rank f) (rank g) c)) ∙ sym c)
+    (λ c. ne-eqb (3 + rank g) (3 + rank f) (λ h. eqb-false (rank f) (rank g) c (omega (arith, h))) ∙ sym c)
 
-both-sum : (f g : Entry → ℕ) (a : List Entry) → sum (λ e. f e + g e) a ≡ sum f a + sum g a
-both-sum f g [] = refl
-both-sum f g (e ∷ a) = omega (arith, both-sum f g a)
+left-says : (f : Fate) (l : List Departure) → tally (says (3 + rank f)) (map leftBlock l) ≡ length (leftAs f l)
+left-says f [] = refl
+left-says f (d ∷ l) = by-test (sameFate f (d .fate))
+    (λ c. rw (same-rank f (d .fate), c) (omega (arith, left-says f l)))
+    (λ c. rw (same-rank f (d .fate), c) (omega (arith, left-says f l)))
 
-occ-both : (e x : Entry) → occ (e .seq) x ≡ occ (x .seq) e
-occ-both e x = by-test (eqb (e .seq) (x .seq))
-    (λ c. occ-yes (e .seq) x c ∙ sym (occ-yes (x .seq) e (eq-eqb (x .seq) (e .seq) (sym (eqb-true (e .seq) (x .seq) c)))))
-    (λ c. occ-no (e .seq) x c ∙ sym (occ-no (x .seq) e (ne-eqb (x .seq) (e .seq) (λ h. eqb-false (e .seq) (x .seq) c (sym h)))))
+left-not : (n : ℕ) (l : List Departure) → n ≤ 2 → tally (says n) (map leftBlock l) ≡ 0
+left-not n [] h = refl
+left-not n (d ∷ l) h = rw (ne-eqb (3 + rank (d .fate)) n (λ e. omega (arith, e, h))) (omega (arith, left-not n l h))
 
-occ-flip : (x : Entry) (a : List Entry) → sum (λ e. occ (e .seq) x) a ≡ sum (occ (x .seq)) a
-occ-flip x [] = refl
-occ-flip x (e ∷ a) = omega (arith, occ-both e x, occ-flip x a)
-
-crossed : (a m : List Entry) → ((x : ℕ) → 1 ≤ sum (occ x) m → sum (occ x) a ≡ 1) → length m ≡ sum (λ e. sum (occ (e .seq)) m) a
-crossed a [] h = sym (none-sum (λ e. 0) a (λ e. refl))
-crossed a (x ∷ m) h = omega (arith, both-sum (λ e. occ (e .seq) x) (λ e. sum (occ (e .seq)) m) a, occ-flip x a, h (x .seq) (omega (arith, occ-yes (x .seq) x (eq-eqb (x .seq) (x .seq) refl))), crossed a m (λ y g. h y (omega arith)))
-
-said : (g : ℕ → Block) (q : Block → Bool) (a : List Entry) → tally q (map (λ e. g (e .seq)) a) ≡ sum (λ e. if q (g (e .seq)) then 1 else 0) a
-said g q [] = refl
-said g q (e ∷ a) = omega (arith, said g q a)
-
--- ---- an account
-
-module _ (a : List Entry) (l : List Departure) (t : Dest) (r : Account a l t) where
-  k : Kept a l t
-  k = kept a l t r
-
-  few : (s : ℕ) (p : Place) → sum (occ s) (entriesAt p l t) ≤ sum (occ s) a
-  few s waiting = omega (arith, parts a l t k s)
-  few s inFlight = omega (arith, parts a l t k s)
-  few s reserved = omega (arith, parts a l t k s)
-  few s (left dequeued) = omega (arith, parts a l t k s)
-  few s (left expired) = omega (arith, parts a l t k s)
-  few s (left discarded) = omega (arith, parts a l t k s)
-  few s (left deadLettered) = omega (arith, parts a l t k s)
-  few s (left cleared) = omega (arith, parts a l t k s)
-
-  -- a block says the place exactly if its number is there
-  says : (s : ℕ) → member s (seqs a) ≡ true → (p : Place) → eqb (blockPlace s l t) (placeNumber p) ≡ member s (numbersAt p l t)
-  says s h p =
-      let y = blocks-are-right a l t r s h in
-      let o = each-in-one-place a l t r .each s h .one in
-      by-test (member s (numbersAt p l t))
-      (λ c. eq-eqb (blockPlace s l t) (placeNumber p) (y .1 ∙ one-place (λ q. member s (numbersAt q l t)) (placeNumber (y .0)) (placeNumber p) places (y .0) p o (stands (y .0)) (stands p) (y .2) c) ∙ sym c)
-      (λ c. ne-eqb (blockPlace s l t) (placeNumber p) (λ e. true≢false (sym (y .2) ∙ ap (λ q. member s (numbersAt q l t)) (some-inj (sym (stands (y .0)) ∙ ap (λ n. nth n places) (sym (y .1) ∙ e) ∙ stands p)) ∙ c)) ∙ sym c)
-
-  counts : (p : Place) (s : ℕ) → 1 ≤ sum (occ s) a → (if eqb (blockPlace s l t) (placeNumber p) then 1 else 0) ≡ sum (occ s) (entriesAt p l t)
-  counts p s h = ap (λ (b : Bool). if b then 1 else 0) (says s (yes-member s a h) p) ∙ there s (entriesAt p l t) (omega (arith, few s p, k .once s))
-
-  total : (p : Place) → tally (λ b. eqb (at 1 b) (placeNumber p)) (blocksOf a l t) ≡ length (entriesAt p l t)
-  total p =
-      said (λ s. blockOf s (blockPlace s l t)) (λ b. eqb (at 1 b) (placeNumber p)) a
-      ∙ sum-same (λ e. if eqb (blockPlace (e .seq) l t) (placeNumber p) then 1 else 0) (λ e. sum (occ (e .seq)) (entriesAt p l t)) a (mine-occ (λ s. (if eqb (blockPlace s l t) (placeNumber p) then 1 else 0) ≡ sum (occ s) (entriesAt p l t)) a (counts p))
-      ∙ sym (crossed a (entriesAt p l t) (λ x h. omega (arith, few x p, k .once x)))
+held-not : (f : Fate) (p : ℕ) (l : List Entry) → p ≤ 2 → tally (says (3 + rank f)) (map (blockAt p) l) ≡ 0
+held-not f p [] h = refl
+held-not f p (e ∷ l) h = rw (ne-eqb p (3 + rank f) (λ e. omega (arith, e, h))) (omega (arith, held-not f p l h))
 
 pub totals-are-the-parts : TotalsAreTheParts
-totals-are-the-parts a l t r p = total a l t r p
+totals-are-the-parts l t waiting = omega (arith, in-parts (says 0) l t, held-says 0 0 (t .pending), held-says 0 2 (held t), held-says 0 1 (taken (t .subs)), left-not 0 l (omega arith))
+totals-are-the-parts l t inFlight = omega (arith, in-parts (says 1) l t, held-says 1 0 (t .pending), held-says 1 2 (held t), held-says 1 1 (taken (t .subs)), left-not 1 l (omega arith))
+totals-are-the-parts l t reserved = omega (arith, in-parts (says 2) l t, held-says 2 0 (t .pending), held-says 2 2 (held t), held-says 2 1 (taken (t .subs)), left-not 2 l (omega arith))
+totals-are-the-parts l t (left f) = omega (arith, in-parts (says (3 + rank f)) l t, held-not f 0 (t .pending) (omega arith), held-not f 2 (held t) (omega arith), held-not f 1 (taken (t .subs)) (omega arith), left-says f l)
+
+-- ---- by number
+
+numbered : (s p : ℕ) (l : List Entry) → tally (λ b. eqb s (at 0 b)) (map (blockAt p) l) ≡ sum (occ s) l
+unfolding occ
+numbered s p [] = refl
+numbered s p (e ∷ l) = omega (arith, numbered s p l)
+
+left-numbered : (s : ℕ) (l : List Departure) → tally (λ b. eqb s (at 0 b)) (map leftBlock l) ≡ sum (occ s) (map (λ d. d .entry) l)
+unfolding occ
+left-numbered s [] = refl
+left-numbered s (d ∷ l) = omega (arith, left-numbered s l)
+
+pub one-block-each : OneBlockEach
+one-block-each a l t r s = let k = kept a l t r in
+    omega (arith, in-parts (λ b. eqb s (at 0 b)) l t, numbered s 0 (t .pending), numbered s 2 (held t), numbered s 1 (taken (t .subs)), left-numbered s l, sums-taken (occ s) (t .subs), k .sums (occ s) (occ-steady s), there s a (k .once s))
+
+-- ---- in all
+
+comes-one : (code : ℕ) (ws : List ℕ) → length (comes code ws) ≤ 1
+comes-one code ws = by-if (λ (l : List Block). length l ≤ 1) (eqb code 1) _ [] (λ c. omega arith) (λ c. omega arith)
+
+left-few : (code : ℕ) (ws : List ℕ) (u : Dest) (bs : List Block) → length (leftBlocks code ws u bs) ≤ length bs + 1
+unfolding leftBlocks
+left-few code ws u bs = by-if (λ (l : List Block). length l ≤ length bs + 1) (eqb code 0 || not (isQueue (u .kind))) [] _ (λ c. omega arith)
+    (λ c. omega (arith, length-map (keep (isGone u) (bs ++ comes code ws)) (wentAs code ws), keep-length (isGone u) (bs ++ comes code ws), length-append bs (comes code ws), comes-one code ws))
+
+held-few : (t : Dest) → sound t ≡ true → length (heldBlocks t) ≤ 512
+held-few t s = omega (
+  arith,
+  length-append (map (blockAt 0) (t .pending)) (map (blockAt 2) (held t) ++ map (blockAt 1) (taken (t .subs))),
+  length-append (map (blockAt 2) (held t)) (map (blockAt 1) (taken (t .subs))),
+  length-map (t .pending) (blockAt 0),
+  length-map (held t) (blockAt 2),
+  length-map (taken (t .subs)) (blockAt 1),
+  sum-one (t .pending),
+  sum-one (held t),
+  sum-one (taken (t .subs)),
+  sums-taken one (t .subs),
+  counts-rows one (t .subs),
+  fine t s .rows,
+)
+
+kept-few : (t : Dest) → sound t ≡ true → length (accountOf t) ≤ 512
+unfolding accountOf
+kept-few t s = by-if (λ (l : List Block). length l ≤ 512) (isQueue (t .kind)) (heldBlocks t) [] (λ c. held-few t s) (λ c. omega arith)
+
+pub blocks-are-few : BlocksAreFew
+blocks-are-few t s = (kept-few t s, λ code ws u. omega (arith, left-few code ws u (accountOf t), kept-few t s))

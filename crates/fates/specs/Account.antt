@@ -11,8 +11,9 @@ use Rattle.definition.specs.Base.{keep, tally, all, member, distinct}
 use Rattle.definition.specs.Types.{queue, Id, Entry, Sub, Dest}
 use Rattle.definition.specs.Consumer.{isBrowser, ackType, Ack}
 use Rattle.definition.specs.Consumer as Consumer
-use Rattle.definition.specs.Calls.{Lengths, acknowledge, pulling, timedOut, prefetching, Call, enqueuing, joining, leaving, asking, unmarking, releasing, sweeping, clearing, adding, removing, testing, forgetting, discarding, missing, seqs, flying, taken, held, brought}
+use Rattle.definition.specs.Calls.{Lengths, acknowledge, Call, asking, seqs, flying, taken, held, brought}
 use Rattle.definition.specs.Destination.{due}
+use Rattle.definition.specs.Histories.{callClock}
 use Rattle.definition.specs.Words.{decode, step}
 use Rattle.fates.specs.Fates.{Fate, dequeued, expired, discarded, deadLettered, cleared, sameFate, Departure, acks, means, removal, namedBy, leavers, departures}
 
@@ -94,29 +95,9 @@ CountersAreTheParts = (a : List Entry) (l : List Departure) (t : Dest) → Accou
 abbrev pub NoneIsDiscarded : Type 0
 NoneIsDiscarded = (a : List Entry) (l : List Departure) (t : Dest) → Account a l t → leftAs discarded l ≡ []
 
--- a call's clock, 0 for one that has none: nothing is expired then
-abbrev pub clockOf : Call → ℕ
-clockOf (enqueuing e now) = now
-clockOf (joining p now) = now
-clockOf (leaving i last now) = now
-clockOf (asking i (acknowledge a now)) = now
-clockOf (asking i (pulling timeout now)) = now
-clockOf (asking i (timedOut generation)) = 0
-clockOf (asking i (prefetching p now)) = now
-clockOf (unmarking i) = 0
-clockOf (releasing i now) = now
-clockOf (sweeping now most) = now
-clockOf clearing = 0
-clockOf (adding i) = 0
-clockOf (removing i now) = now
-clockOf (testing i q) = 0
-clockOf (forgetting conn) = 0
-clockOf discarding = 0
-clockOf missing = 0
-
 -- the clock that entries expire by in a call on t: the call's less the allowance
 abbrev pub clockReading : Call → Dest → ℕ
-clockReading c t = due (clockOf c) t
+clockReading c t = due (callClock c) t
 
 -- what leaves as expired in a call on t was expired at the call's clock less the allowance, unless an EXPIRED acknowledgement removed it
 abbrev pub truly : Call → Dest → Departure → Bool
@@ -129,12 +110,12 @@ ExpiredHadExpired =
     → all (λ e. not (member (e .seq) (seqs a))) (brought c) ≡ true
     → all (truly c t) (departures c t (step lent code words t .dest)) ≡ true
 
--- an acknowledgement's own removals are exactly what it names: in range and in flight at its consumer, which is no browser, or reserved for it
+-- an acknowledgement's own removals, of any queue, are exactly what it names, in order: in range and in flight at its consumer, which is no browser, or reserved for it
 abbrev pub RemovalsAreNamed : Type 0
 RemovalsAreNamed =
-    (a : List Entry) (l : List Departure) (t : Dest) → Account a l t
-    → (lent : Lengths) (code : ℕ) (words : List ℕ) (i : Id) (k : Ack) (now : ℕ) → 1 ≤ code → decode code words ≡ some (asking i (acknowledge k now)) → step lent code words t .refusal ≡ 0
-    → (s : ℕ) → member s (seqs (keep (λ e. removal t e (acks (ackType (k .type)))) (leavers [] t (step lent code words t .dest)))) ≡ member s (seqs (namedBy i k t))
+    (lent : Lengths) (code : ℕ) (words : List ℕ) (i : Id) (k : Ack) (now : ℕ) (t : Dest)
+    → t .kind ≡ queue → 1 ≤ code → decode code words ≡ some (asking i (acknowledge k now)) → step lent code words t .refusal ≡ 0
+    → keep (λ e. removal t e (acks (ackType (k .type)))) (leavers [] t (step lent code words t .dest)) ≡ namedBy i k t
 
 -- every accepted call is one that `Account` can take
 abbrev pub AcceptedIsACall : Type 0

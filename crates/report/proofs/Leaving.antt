@@ -1,13 +1,9 @@
--- How a block leaves and moves, by the tests that the code makes. Assumes nothing.
-use mathlib.Core.Path.{_≡_, sym, ap, _∙_}
+-- How a block leaves, by the tests that the code makes. Assumes nothing.
+use mathlib.Core.Path.{_≡_}
 use mathlib.Core.Bool.{Bool, true, false}
-use Prim.Native.Nat.{ℕ, _≤_, _<_, _%_}
-use lib.Dec.{eqb}
-use borrow.Author.Tests.{eq-eqb, ne-eqb, le-leb, lt-leb}
-use Rattle.definition.specs.Types.{Dest}
-use Rattle.definition.specs.Words.{at}
-use Rattle.definition.proofs.Tests.{if-true, if-false}
-use Rattle.fates.specs.Blocks.{Block, blockOf, heldAs, ackedAs, leavesAs, blockMoved}
+use Prim.Native.Nat.{ℕ, _%_}
+use borrow.Author.Tests.{eq-eqb, ne-eqb}
+use Rattle.fates.specs.Blocks.{ackedAs, leavesAs}
 
 pub acked-letter : (k : ℕ) → k ≡ 1 → 6 ≡ ackedAs k
 acked-letter k e = rw (eq-eqb k 1 e)
@@ -34,14 +30,3 @@ module _ (code k : ℕ) (w : Bool) where
   pub leaves-acked : (code ≡ 10 → ⊥) → code ≡ 4 → w ≡ false → ackedAs (k % 256) ≡ leavesAs code k w
   unfolding leavesAs
   leaves-acked n m e = rw (ne-eqb code 10 n, eq-eqb code 4 m, e)
-
--- ---- a block
-
-module _ (code k : ℕ) (u : Dest) (b : Block) where
-  pub moved-stays : 3 ≤ at 1 b → blockOf (at 0 b) (at 1 b) ≡ blockMoved code k u b
-  unfolding blockMoved
-  moved-stays h = sym (ap (blockOf (at 0 b)) (if-true _ _ (le-leb 3 (at 1 b) h)))
-
-  pub moved-goes : at 1 b < 3 → (g p : ℕ) → g ≡ leavesAs code k (eqb (at 1 b) 0) → p ≡ heldAs (at 0 b) u g → blockOf (at 0 b) p ≡ blockMoved code k u b
-  unfolding blockMoved
-  moved-goes h g p e q = ap (blockOf (at 0 b)) (q ∙ ap (heldAs (at 0 b) u) e ∙ sym (if-false _ _ (lt-leb 3 (at 1 b) h)))

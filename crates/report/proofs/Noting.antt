@@ -1,213 +1,164 @@
--- A call noted: what the code leaves in the list is what the definition has. Assumes nothing.
+-- A call with its account: what the code leaves is what the definition has. Assumes nothing.
 use mathlib.Core.Path.{_≡_, refl, sym, ap, ap₂, _∙_, subst⁻¹}
 use mathlib.Core.Bool.{Bool, true, false, not, _||_}
-use mathlib.Core.List.{List, [], _∷_, _++_, map, append-assoc}
-use Prim.Native.Nat.{ℕ, suc, _+_, _≤_, _<_}
+use mathlib.Core.List.{List, [], _++_, map}
+use Prim.Native.Nat.{ℕ, _≤_}
 use native.Mathlib.Omega.{arith}
-use borrow.Author.Tests.{eq-eqb, ne-eqb, le-leb, lt-leb, ltb-true, ltb-false, leb-true, leb-false, le-ltb, lt-ltb}
-use lib.Dec.{leb, ltb, eqb}
-use lib.ListN.{length, take, drop, set, length-append, length-map, take-append-drop}
-use lib.Seq.{set-split, length-take-le, take-at, drop-at}
+use borrow.Author.Tests.{eq-eqb, ne-eqb}
+use lib.Dec.{eqb}
+use lib.ListN.{length, take}
+use Rattle.definition.specs.Base.{if_then_else_, keep, member}
 use Rattle.definition.specs.Types.{Dest}
-use Rattle.definition.specs.Calls.{stateShort, short}
+use Rattle.definition.specs.Calls.{short, Result, refused, seqs}
 use Rattle.definition.specs.Queries.{isQueue}
 use Rattle.definition.specs.Words.{at}
-use Rattle.definition.specs.Layout.{Row, Buffers, idsAt, auditsAt, usedRows, view, soundBuffers, lengthsOf}
+use Rattle.definition.specs.Layout.{Row, Buffers, view, soundBuffers, lengthsOf, bufferStep}
 use Rattle.definition.proofs.Tests.{by-test, if-true, if-false}
-use Rattle.sound.specs.Sound.{lent}
-use Rattle.consumers.specs.Table.{onFirst}
 use Rattle.state.specs.declared.Head.{Head}
-use Rattle.state.specs.State.{headOf, headView, loaded}
-use Rattle.state.specs.Fits.{Fits}
-use Rattle.state.proofs.View.{loaded-view, is-queue}
-use Rattle.state.proofs.Fitting.{Long, not-short, sound-facts, sound-loaded}
-use Rattle.fates.specs.Blocks.{Block, blockOf, heldAs, blockMoved, comes, noted}
+use Rattle.state.specs.State.{headView, loaded}
+use Rattle.state.proofs.Fitting.{Long, not-short}
+use Rattle.calls.specs.declared.Call.{Call}
+use Rattle.engine.specs.Called.{outcome, Called}
+use Rattle.engine.proofs.Refusing.{step-short}
+use Rattle.engine.proofs.Called.{refused-called}
+use Rattle.fates.specs.Fates.{holding}
+use Rattle.fates.specs.Blocks.{Block, heldBlocks, accountOf, wentAs, comes, leftBlocks}
 use Rattle.report.specs.declared.Noted.{Noted}
-use Rattle.report.specs.Report.{newBlocks, reportBarred, blocksAfter, asNoted, notedIn, HeldNumbers}
+use Rattle.report.specs.Report.{listsShort, notedStep, isAccepted, holdsNow, leavesNow, listWith, leaversOf, allLeavers, HeldNumbers, AccountKept, NotedCall}
+use Rattle.report.proofs.Accounting.{numbers-are, as-long, long-lists}
+use Rattle.report.proofs.Loaded.{kind-is, queue-numbers, holds-are}
 
--- ---- room
+abbrev noted : ℕ → ℕ → ℕ → ℕ → ℕ → Noted
+noted refusal answer events held left = record { refusal = refusal; answer = answer; events = events; held = held; left = left }
 
-pub comes-many : (code : ℕ) (ws : List ℕ) → length (comes code ws) ≡ newBlocks code
-comes-many code ws = by-test (eqb code 1) (λ e. rw e) (λ e. rw e)
+or-false : (x : Bool) → (x || false) ≡ x
+or-false true = refl
+or-false false = refl
 
-pub coming-none : (code : ℕ) → (code ≡ 1 → ⊥) → newBlocks code ≡ 0
-coming-none code h = if-false 1 0 (ne-eqb code 1 h)
+or-true : (x : Bool) → (x || true) ≡ true
+or-true true = refl
+or-true false = refl
 
-pub coming-one : (code : ℕ) → code ≡ 1 → newBlocks code ≡ 1
-coming-one code h = if-true 1 0 (eq-eqb code 1 h)
+module _ (c : Call) (n : ℕ) (b : Buffers) (events : List Row) (held left : List Block) where
+  abbrev q : Result
+  q = notedStep b (length events) n (length held) (length left) c
 
-pub no-room : (code n room : ℕ) → room < n → false ≡ leb (n + newBlocks code) room
-no-room code n room h = sym (lt-leb (n + newBlocks code) room (omega (arith, h)))
+  -- ---- refused
+  pub refused-noted : (b′ : Buffers) (events′ : List Row) (k a e : ℕ) → Called q b b′ events events′ (outcome k a e) → (k ≡ 0 → ⊥) → NotedCall q c n b b′ events events′ held held left left (noted k a e n 0)
+  refused-noted b′ events′ k a e called z =
+      let no : isAccepted q ≡ false = ne-eqb (q .refusal) 0 (λ p. z (called .refusal ∙ p)) in
+      record {
+        called = called;
+        held-count = sym (if-false _ n no);
+        left-count = sym (if-false _ 0 no);
+        holds = sym (if-false _ held no);
+        leaves = sym (if-false _ left no);
+        held-few = λ p. absurd (z (called .refusal ∙ p));
+        left-few = omega arith;
+        held-length = refl;
+        left-length = refl;
+      }
 
-pub room-none : (code n room : ℕ) → (code ≡ 1 → ⊥) → n ≤ room → true ≡ leb (n + newBlocks code) room
-room-none code n room c h = sym (le-leb (n + newBlocks code) room (omega (arith, h, coming-none code c)))
+  pub short-noted : listsShort n (length held) (length left) ≡ true → NotedCall q c n b b events events held held left left (noted 1 0 0 n 0)
+  unfolding notedStep
+  short-noted s = refused-noted b events 1 0 0 (refused-called 0 b events q (if-true _ _ s)) (λ z. absurd (omega (arith, z)))
 
-pub room-one : (code n room : ℕ) → code ≡ 1 → ltb n room ≡ leb (n + newBlocks code) room
-room-one code n room c = by-test (ltb n room)
-    (λ e. e ∙ sym (le-leb (n + newBlocks code) room (omega (arith, ltb-true n room e, coming-one code c))))
-    (λ e. e ∙ sym (lt-leb (n + newBlocks code) room (omega (arith, ltb-false n room e, coming-one code c))))
+  -- ---- made
+  module _ (s : listsShort n (length held) (length left) ≡ false) where
+    q-is : q ≡ bufferStep b (length events) (c .code) (c .words)
+    unfolding notedStep
+    q-is = if-false _ _ s
 
--- an enqueue's block in its place, or none
-pub brought-one : (code n seq : ℕ) (bs : List Block) → code ≡ 1 → n + newBlocks code ≤ length bs → set bs n (blockOf seq 0) ≡ take n bs ++ (comes code (seq ∷ []) ++ drop (n + newBlocks code) bs)
-brought-one code n seq bs c h =
-    let e = coming-one code c in
-    let m : suc n ≡ n + newBlocks code = omega (arith, e) in
-    set-split bs n (blockOf seq 0) (omega (arith, h, e))
-    ∙ ap₂ (λ (k : ℕ) (l : List Block). take n bs ++ (l ++ drop k bs)) m (sym (if-true (blockOf seq 0 ∷ []) [] (eq-eqb code 1 c)))
+    module _ (b′ : Buffers) (events′ : List Row) (k a e : ℕ) (made : Called (bufferStep b (length events) (c .code) (c .words)) b b′ events events′ (outcome k a e)) where
+      called : Called q b b′ events events′ (outcome k a e)
+      called = subst⁻¹ (λ (x : Result). Called x b b′ events events′ (outcome k a e)) q-is made
 
-pub brought-none : (code n seq : ℕ) (bs : List Block) → (code ≡ 1 → ⊥) → bs ≡ take n bs ++ (comes code (seq ∷ []) ++ drop (n + newBlocks code) bs)
-brought-none code n seq bs c =
-    let m : n ≡ n + newBlocks code = omega (arith, coming-none code c) in
-    sym (take-append-drop n bs) ∙ ap₂ (λ (k : ℕ) (l : List Block). take n bs ++ (l ++ drop k bs)) m (sym (if-false (blockOf seq 0 ∷ []) [] (ne-eqb code 1 c)))
+      pub not-made : (k ≡ 0 → ⊥) → NotedCall q c n b b′ events events′ held held left left (noted k a e n 0)
+      not-made z = refused-noted b′ events′ k a e called z
 
--- ---- what is met first
+      module _ (z : k ≡ 0) (d : Head) (l : d ≡ loaded (b′ .head) (b′ .subs)) where
+        taken-on : q .refusal ≡ 0
+        taken-on = sym (called .refusal) ∙ z
 
-module _ (code n room : ℕ) (b : Buffers) where
-  pub barred-room : leb (n + newBlocks code) room ≡ false → reportBarred code n room b ≡ 1
-  unfolding reportBarred
-  barred-room h = rw (lt-ltb room (n + newBlocks code) (leb-false (n + newBlocks code) room h))
+        yes : isAccepted q ≡ true
+        yes = eq-eqb (q .refusal) 0 taken-on
 
-  pub barred-short : leb (n + newBlocks code) room ≡ true → stateShort (lengthsOf b 0) ≡ true → reportBarred code n room b ≡ 1
-  unfolding reportBarred
-  barred-short h s = rw (le-ltb room (n + newBlocks code) (leb-true (n + newBlocks code) room h), s)
+        enough : short (lengthsOf b (length events)) ≡ false
+        enough = by-test (short (lengthsOf b (length events)))
+            (λ h. absurd (omega (arith, taken-on, ap (λ (x : Result). x .refusal) (q-is ∙ step-short b (length events) (c .code) (c .words) h))))
+            (λ h. h)
 
-  pub barred-unsound : leb (n + newBlocks code) room ≡ true → stateShort (lengthsOf b 0) ≡ false → soundBuffers b ≡ false → reportBarred code n room b ≡ 2
-  unfolding reportBarred
-  barred-unsound h s u = rw (le-ltb room (n + newBlocks code) (leb-true (n + newBlocks code) room h), s, u)
+        long : Long b′ (length events)
+        long =
+            let f = not-short b (length events) enough in
+            record {
+              head = omega (arith, f .head, called .past .head-length);
+              subs = omega (arith, f .subs, called .past .subs-length);
+              rows = omega (arith, f .rows, called .past .rows-length);
+              events = f .events;
+            }
 
-  pub barred-none : leb (n + newBlocks code) room ≡ true → stateShort (lengthsOf b 0) ≡ false → soundBuffers b ≡ true → reportBarred code n room b ≡ 0
-  unfolding reportBarred
-  barred-none h s u = rw (le-ltb room (n + newBlocks code) (leb-true (n + newBlocks code) room h), s, u)
+        is-sound : soundBuffers b′ ≡ true
+        is-sound = called .leaves-sound taken-on
 
-  -- and back
-  pub record Clear : Type 0 where
-    pub fits : n + newBlocks code ≤ room
-    pub long : stateShort (lengthsOf b 0) ≡ false
-    pub is-sound : soundBuffers b ≡ true
+        dest-kind : isQueue (q .dest .kind) ≡ d .queue
+        dest-kind = ap (λ (t : Dest). isQueue (t .kind)) (sym (called .shows)) ∙ kind-is b′ (length events) long is-sound d l
 
-  pub clear : reportBarred code n room b ≡ 0 → Clear
-  clear z = by-test (leb (n + newBlocks code) room)
-      (λ h. by-test (stateShort (lengthsOf b 0))
-      (λ s. absurd (omega (arith, barred-short h s, z)))
-      (λ s. by-test (soundBuffers b)
-      (λ u. record { fits = leb-true (n + newBlocks code) room h; long = s; is-sound = u })
-      (λ u. absurd (omega (arith, barred-unsound h s u, z)))))
-      (λ h. absurd (omega (arith, barred-room h, z)))
+        -- a topic
+        topic-holds : d .queue ≡ false → holdsNow q ≡ []
+        unfolding accountOf
+        topic-holds t = if-false _ [] (dest-kind ∙ t)
 
--- ---- a call
+        topic-leaves : d .queue ≡ false → leavesNow q c n held ≡ []
+        unfolding leftBlocks
+        topic-leaves t = if-true [] _ (ap (λ (x : Bool). eqb (c .code) 0 || not x) (dest-kind ∙ t) ∙ or-true (eqb (c .code) 0))
 
-map-same : (f g : Block → Block) (l : List Block) → ((b : Block) → f b ≡ g b) → map f l ≡ map g l
-map-same f g [] h = refl
-map-same f g (b ∷ l) h = ap₂ (λ (x : Block) (m : List Block). x ∷ m) (h b) (map-same f g l h)
+        pub topic-noted : d .queue ≡ false → NotedCall q c n b b′ events events′ held held left left (noted k a e 0 0)
+        topic-noted t = record {
+          called = called;
+          held-count = sym (if-true _ n yes ∙ ap length (topic-holds t));
+          left-count = sym (if-true _ 0 yes ∙ ap length (topic-leaves t));
+          holds = sym (if-true _ held yes ∙ ap (λ (v : List Block). listWith v held) (topic-holds t));
+          leaves = sym (if-true _ left yes ∙ ap (λ (v : List Block). listWith v left) (topic-leaves t));
+          held-few = λ p. omega arith;
+          left-few = omega arith;
+          held-length = refl;
+          left-length = refl;
+        }
 
--- blocks that moved, after those that came
-moved-list : (f : Block → Block) (m : ℕ) (a c rest : List Block) → length (a ++ c) ≡ m → onFirst f m (a ++ (c ++ rest)) ≡ map f (a ++ c) ++ rest
-unfolding onFirst
-moved-list f m a c rest e =
-    ap (onFirst f m) (sym (append-assoc a c rest))
-    ∙ ap₂ (λ (x y : List Block). map f x ++ y) (take-at (a ++ c) rest m e) (drop-at (a ++ c) rest m e)
+        -- a queue
+        pub made-numbers : d .queue ≡ true → HeldNumbers d (b′ .subs) (b′ .rows)
+        made-numbers t = queue-numbers b′ (length events) long is-sound d l t
 
-module _ (h : List ℕ) (subs rows : List Row) (code : ℕ) (ws : List ℕ) (n : ℕ) (bs : List Block) where
-  abbrev b : Buffers
-  b = lent h subs rows
+        abbrev holds : List Block
+        holds = heldBlocks (headView d (b′ .subs) (b′ .rows) [] [])
 
-  pub refused : (r : ℕ) → r ≡ reportBarred code n (length bs) b → (r ≡ 0 → ⊥) → _≡_ {A = Noted} (record { refusal = r; count = 0 }) (asNoted b code ws n bs)
-  unfolding asNoted
-  refused r e z = ap₂ (λ (x y : ℕ). record { refusal = x; count = y }) e (sym (if-false _ 0 (ne-eqb (reportBarred code n (length bs) b) 0 (λ k. z (e ∙ k)))))
+        holds-is : heldBlocks (q .dest) ≡ holds
+        holds-is = ap heldBlocks (sym (called .shows)) ∙ holds-are b′ (length events) long is-sound d l
 
-  pub untouched : (r : ℕ) → r ≡ reportBarred code n (length bs) b → (r ≡ 0 → ⊥) → bs ≡ notedIn b code ws n bs
-  unfolding notedIn
-  untouched r e z = sym (if-false _ bs (ne-eqb (reportBarred code n (length bs) b) 0 (λ k. z (e ∙ k))))
+        queue-holds : d .queue ≡ true → holdsNow q ≡ holds
+        unfolding accountOf
+        queue-holds t = if-true _ [] (dest-kind ∙ t) ∙ holds-is
 
-  module _ (z : reportBarred code n (length bs) b ≡ 0) where
-    noted-as : (l : List Block) → blocksAfter b code ws n bs ≡ l → _≡_ {A = Noted} (record { refusal = 0; count = length l }) (asNoted b code ws n bs)
-    unfolding asNoted
-    noted-as l e = ap₂ (λ (x y : ℕ). record { refusal = x; count = y }) (sym z) (sym (if-true _ 0 (eq-eqb (reportBarred code n (length bs) b) 0 z) ∙ ap length e))
+        numbers : seqs (holding (q .dest)) ≡ map (at 0) holds
+        numbers = sym (numbers-are (q .dest)) ∙ ap (map (at 0)) holds-is
 
-    noted-in : (l : List Block) → blocksAfter b code ws n bs ≡ l → l ++ drop (length l) bs ≡ notedIn b code ws n bs
-    unfolding notedIn
-    noted-in l e = sym (if-true _ bs (eq-eqb (reportBarred code n (length bs) b) 0 z) ∙ ap (λ (m : List Block). m ++ drop (length m) bs) e)
+        queue-leaves : d .queue ≡ true → leavesNow q c n held ≡ allLeavers (c .code) (c .words) holds (take n held)
+        unfolding leftBlocks allLeavers leaversOf
+        queue-leaves t = ap₂ (λ (x : Bool) (y : List ℕ). if x then [] else map (wentAs (c .code) (c .words)) (keep (λ (w : Block). not (member (at 0 w) y)) (take n held ++ comes (c .code) (c .words))))
+            (ap (λ (x : Bool). eqb (c .code) 0 || not x) (dest-kind ∙ t) ∙ or-false (eqb (c .code) 0))
+            numbers
 
-    c : Clear code n (length bs) b
-    c = clear code n (length bs) b z
-
-    -- none
-    open-none : code ≡ 0 → blocksAfter b code ws n bs ≡ []
-    unfolding noted
-    open-none e = rw (eq-eqb code 0 e)
-
-    pub open-noted : code ≡ 0 → _≡_ {A = Noted} (record { refusal = 0; count = 0 }) (asNoted b code ws n bs)
-    open-noted e = noted-as [] (open-none e)
-
-    pub open-list : code ≡ 0 → bs ≡ notedIn b code ws n bs
-    open-list e = noted-in [] (open-none e)
-
-    -- the numbers that are loaded
-    module _ (d : Head) (l : d ≡ loaded h subs) where
-      long : Long b 545
-      unfolding short stateShort
-      long = not-short b 545 (rw (c .long))
-
-      d-is : d ≡ headOf h (usedRows b)
-      d-is = l ∙ sound-loaded b 545 long (c .is-sound)
-
-      facts : Fits subs d (length rows) 545
-      facts = subst⁻¹ (λ (x : Head). Fits subs x (length rows) 545) d-is (sound-facts b 545 long (c .is-sound))
-
-      abbrev u : Dest
-      u = headView d subs rows (idsAt (at 13 h) (drop 17 h)) (auditsAt (at 14 h) (drop 113 h))
-
-      shown : view b ≡ u
-      shown = sym (ap (λ (x : Head). headView x subs rows (idsAt (at 13 h) (drop 17 h)) (auditsAt (at 14 h) (drop 113 h))) d-is ∙ loaded-view subs rows h (usedRows b))
-
-      kind-is : isQueue (view b .kind) ≡ d .queue
-      unfolding headView
-      kind-is = ap (λ (t : Dest). isQueue (t .kind)) shown ∙ is-queue (d .queue)
-
-      topic-none : d .queue ≡ false → blocksAfter b code ws n bs ≡ []
-      unfolding noted
-      topic-none q = if-true [] _ (or-not (eqb code 0) (kind-is ∙ q))
-        where
-          or-not : (x : Bool) {y : Bool} → y ≡ false → (x || not y) ≡ true
-          or-not true e = refl
-          or-not false e = ap not e
-
-      pub topic-noted : d .queue ≡ false → _≡_ {A = Noted} (record { refusal = 0; count = 0 }) (asNoted b code ws n bs)
-      topic-noted q = noted-as [] (topic-none q)
-
-      pub topic-list : d .queue ≡ false → bs ≡ notedIn b code ws n bs
-      topic-list q = noted-in [] (topic-none q)
-
-      pub queue-held : d .queue ≡ true → HeldNumbers d subs rows
-      queue-held q = record { queue = q; consumers = omega (arith, facts .consumers, facts .subs-long); used = facts .rows-used; room = omega (arith, facts .used, facts .rows-long) }
-
-      pub has-room : n + newBlocks code ≤ length bs
-      has-room = c .fits
-
-      -- all blocks
-      abbrev moves : Block → Block
-      moves = blockMoved code (at 3 ws) (headView d subs rows [] [])
-
-      moves-same : (x : Block) → blockMoved code (at 3 ws) u x ≡ moves x
-      unfolding blockMoved heldAs headView
-      moves-same x = refl
-
-      moves-is : (x : Block) → blockMoved code (at 3 ws) (view b) x ≡ moves x
-      moves-is x = ap (λ (t : Dest). blockMoved code (at 3 ws) t x) shown ∙ moves-same x
-
-      queue-after : (code ≡ 0 → ⊥) → d .queue ≡ true → blocksAfter b code ws n bs ≡ map moves (take n bs ++ comes code ws)
-      unfolding noted
-      queue-after o q = if-false [] _ (ap₂ (λ (x y : Bool). x || not y) (ne-eqb code 0 o) (kind-is ∙ q)) ∙ map-same (blockMoved code (at 3 ws) (view b)) moves (take n bs ++ comes code ws) moves-is
-
-      many : length (take n bs ++ comes code ws) ≡ n + newBlocks code
-      many = length-append (take n bs) (comes code ws) ∙ ap₂ _+_ (length-take-le n bs (omega (arith, c .fits))) (comes-many code ws)
-
-      pub queue-noted : (code ≡ 0 → ⊥) → d .queue ≡ true → (m : ℕ) → m ≡ n + newBlocks code → _≡_ {A = Noted} (record { refusal = 0; count = m }) (asNoted b code ws n bs)
-      queue-noted o q m e = ap (λ (k : ℕ). record { refusal = 0; count = k }) (e ∙ sym (length-map (take n bs ++ comes code ws) moves ∙ many)) ∙ noted-as (map moves (take n bs ++ comes code ws)) (queue-after o q)
-
-      pub queue-list : (code ≡ 0 → ⊥) → d .queue ≡ true → (m : ℕ) → m ≡ n + newBlocks code → (x y : List Block) → x ≡ take n bs ++ (comes code ws ++ drop (n + newBlocks code) bs) → y ≡ onFirst moves m x → y ≡ notedIn b code ws n bs
-      queue-list o q m e x y p r =
-          r ∙ ap₂ (λ (k : ℕ) (v : List Block). onFirst moves k v) e p
-          ∙ moved-list moves (n + newBlocks code) (take n bs) (comes code ws) (drop (n + newBlocks code) bs) many
-          ∙ ap (λ (k : ℕ). map moves (take n bs ++ comes code ws) ++ drop k bs) (sym (length-map (take n bs ++ comes code ws) moves ∙ many))
-          ∙ noted-in (map moves (take n bs ++ comes code ws)) (queue-after o q)
+        pub queue-noted : d .queue ≡ true → (held′ left′ : List Block) (h g : ℕ) → AccountKept d (b′ .subs) (b′ .rows) (c .code) (c .words) n held held′ left left′ h g → NotedCall q c n b b′ events events′ held held′ left left′ (noted k a e h g)
+        queue-noted t held′ left′ h g r =
+            let f = long-lists n (length held) (length left) s in record {
+              called = called;
+              held-count = r .held-count ∙ sym (if-true _ n yes ∙ ap length (queue-holds t));
+              left-count = r .left-count ∙ sym (if-true _ 0 yes ∙ ap length (queue-leaves t));
+              holds = r .holds ∙ sym (if-true _ held yes ∙ ap (λ (v : List Block). listWith v held) (queue-holds t));
+              leaves = r .leaves ∙ sym (if-true _ left yes ∙ ap (λ (v : List Block). listWith v left) (queue-leaves t));
+              held-few = λ p. r .held-few;
+              left-few = r .left-few;
+              held-length = ap length (r .holds) ∙ as-long holds held (omega (arith, r .held-count, r .held-few, f .held-long));
+              left-length = ap length (r .leaves) ∙ as-long (allLeavers (c .code) (c .words) holds (take n held)) left (omega (arith, r .left-count, r .left-few, f .left-long));
+            }

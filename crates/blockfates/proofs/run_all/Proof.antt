@@ -1,4 +1,5 @@
 -- `blockfates::run_all` is safe and ends. Assumes nothing.
+use Prim.Native.Nat.{_-_, _≤_}
 use mathlib.Core.Path.{_≡_}
 use lib.ListN.{length}
 use borrow.Author.Needs.{needs}
@@ -6,11 +7,10 @@ use Rattle.blockfates.proofs.run_all.Statement.{statement}
 use Rattle.blockfates.proofs.run_all.Tie as tie
 
 abbrev Inv-loop : tie.InvT-loop
-Inv-loop fd head₀ subs₀ rows₀ events₀ blocks₀ out₀ index₀ count₀ number₀ turns₀ head subs rows events blocks out index count number turns =
-    (length head ≡ length head₀) × (length subs ≡ length subs₀) × (length rows ≡ length rows₀) × (length events ≡ length events₀) × (length blocks ≡ length blocks₀) × (length out ≡ length out₀)
+Inv-loop fd head₀ subs₀ rows₀ events₀ held₀ left₀ gone₀ out₀ next₀ number₀ turns₀ head subs rows events held left gone out next number turns = (length head ≡ length head₀) × (length subs ≡ length subs₀) × (length rows ≡ length rows₀) × (length events ≡ length events₀) × (length held ≡ length held₀) × (length left ≡ length left₀) × (length gone ≡ length gone₀) × (length out ≡ length out₀)
 
 abbrev μ-loop : tie.MeasureT-loop
-μ-loop fd head₀ subs₀ rows₀ events₀ blocks₀ out₀ index₀ count₀ number₀ turns₀ head subs rows events blocks out index count number turns = turns
+μ-loop fd head₀ subs₀ rows₀ events₀ held₀ left₀ gone₀ out₀ next₀ number₀ turns₀ head subs rows events held left gone out next number turns = turns
 
 loop-holds : tie.Need-loop-holds Inv-loop μ-loop
 loop-holds c = search needs
@@ -36,6 +36,12 @@ same-length-5 c = search needs
 same-length-6 : tie.Need-same-length-6 Inv-loop μ-loop
 same-length-6 c = search needs
 
+same-length-7 : tie.Need-same-length-7 Inv-loop μ-loop
+same-length-7 c = search needs
+
+same-length-8 : tie.Need-same-length-8 Inv-loop μ-loop
+same-length-8 c = search needs
+
 returns : tie.Need-returns Inv-loop μ-loop
 returns c = search needs
 
@@ -51,12 +57,6 @@ loop-less c = search needs
 loop-again : tie.Need-loop-again Inv-loop μ-loop
 loop-again c = search needs
 
-same-length-7 : tie.Need-same-length-7 Inv-loop μ-loop
-same-length-7 c = search needs
-
-same-length-8 : tie.Need-same-length-8 Inv-loop μ-loop
-same-length-8 c = search needs
-
 same-length-9 : tie.Need-same-length-9 Inv-loop μ-loop
 same-length-9 c = search needs
 
@@ -68,6 +68,18 @@ same-length-11 c = search needs
 
 same-length-12 : tie.Need-same-length-12 Inv-loop μ-loop
 same-length-12 c = search needs
+
+same-length-13 : tie.Need-same-length-13 Inv-loop μ-loop
+same-length-13 c = search needs
+
+same-length-14 : tie.Need-same-length-14 Inv-loop μ-loop
+same-length-14 c = search needs
+
+same-length-15 : tie.Need-same-length-15 Inv-loop μ-loop
+same-length-15 c = search needs
+
+same-length-16 : tie.Need-same-length-16 Inv-loop μ-loop
+same-length-16 c = search needs
 
 returns-2 : tie.Need-returns-2 Inv-loop μ-loop
 returns-2 c = search needs
@@ -86,15 +98,19 @@ run-all-spec =
     same-length-4
     same-length-5
     same-length-6
+    same-length-7
+    same-length-8
     returns
     more-of-requires
     sub-turns
     loop-less
     loop-again
-    same-length-7
-    same-length-8
     same-length-9
     same-length-10
     same-length-11
     same-length-12
+    same-length-13
+    same-length-14
+    same-length-15
+    same-length-16
     returns-2)

@@ -52,8 +52,7 @@ use denote.Triple.Clauses.{ensured, lasts}
 use denote.Triple.Walked.{says, Stays, stay-slice, stay-none, stay-none-slice, walkOf, goes-slice, goes-none, goes-none-slice, Walks, ends-at, walked, walk-meets}
 use denote.Exit.{yes}
 use Rattle.definition.specs.Queries.{Page}
-use Rattle.definition.specs.Layout.{Buffers, bufferPage}
-use Rattle.sound.specs.Sound.{lent}
+use Rattle.definition.specs.Layout.{Buffers, bufferPage, lent}
 use Rattle.queries.specs.declared.PagePlan.{PagePlan}
 use Rattle.queries.specs.declared.Paged.{Paged}
 use Rattle.queries.specs.declared.PageLine.{PageLine}

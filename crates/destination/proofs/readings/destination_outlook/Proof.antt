@@ -51,9 +51,8 @@ use denote.Triple.Table.{entered, cited}
 use denote.Triple.Clauses.{ensured, lasts}
 use denote.Triple.Walked.{says, Stays, stay-slice, stay-none, stay-none-slice, walkOf, goes-slice, goes-none, goes-none-slice, Walks, ends-at, walked, walk-meets}
 use denote.Exit.{yes}
-use Rattle.definition.specs.Layout.{Buffers}
+use Rattle.definition.specs.Layout.{Buffers, lent}
 use Rattle.outlook.specs.Outlook.{Outlook, bufferOutlook}
-use Rattle.sound.specs.Sound.{lent}
 use Rattle.queries.specs.declared.PageLine.{PageLine}
 use Rattle.queries.proofs.Filled.{filled, filled-none, filled-more, length-filled}
 use Rattle.outlooks.specs.declared.Span.{Span}
