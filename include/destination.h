@@ -25,7 +25,7 @@
  * Whose memory. All of it is the caller's. The library keeps no pointer after a call. Each array is passed as a pointer to its first
  * element and its number of elements (words of head; rows of the others). No pointer may be null. Nobody else may read or write the
  * arrays during the call; the queries only read the state, so several may run at once on one state. A length above the array's true
- * one is an error that cannot be seen here. A call takes at most 12 kB of stack, bytes held 14 kB, an outlook 20 kB (DESTINATION_STACK_..;
+ * one is an error that cannot be seen here. A call takes at most 12 kB of stack, one with its account 24 kB, bytes held 14 kB, an outlook 20 kB (DESTINATION_STACK_..;
  * examples/destination/stack.c measures them).
  *
  * Alignment. Each array starts at an address that 8 divides. Arrays of uint64_t and the structs below do, and so does what malloc gives;
@@ -61,6 +61,7 @@ extern "C" {
 
 /* bytes of stack that a function takes at most, as measured: a call or a query; bytes held; an outlook */
 #define DESTINATION_STACK_CALL 12288
+#define DESTINATION_STACK_NOTED 24576 /* a call with its account */
 #define DESTINATION_STACK_BYTES 14336
 #define DESTINATION_STACK_OUTLOOK 20480
 
@@ -355,7 +356,7 @@ struct destination_done destination_calls(uint64_t *head, size_t head_words,
  * call the one has the blocks that it holds now, waiting ones first, then reserved ones, then those in flight; the other those that left
  * in this call, each with the place where it went. What stands after them is as it was, and beside a refusal so are both lists. An open
  * begins a new account; a topic has none. So each block of a run is told once as it leaves, and what is held at the end is in `held`:
- * the number of all is the enqueued counter. A number may come again once it has left, and is then another block. About 24 kB of stack. */
+ * the number of all is the enqueued counter. A number may come again once it has left, and is then another block. */
 struct destination_noted destination_call_noted(uint64_t *head, size_t head_words,
                                                 uint64_t (*subs)[DESTINATION_SUB_WORDS], size_t subs_length,
                                                 uint64_t (*rows)[DESTINATION_ROW_WORDS], size_t rows_length,

@@ -17,7 +17,11 @@ static unsigned char stack[ROOM];
 static ucontext_t here, there;
 static volatile uint64_t seen; /* so that no query is left out */
 
+static struct destination_block held[DESTINATION_HELD_BLOCKS], left[DESTINATION_LEFT_BLOCKS];
+static size_t in_use;
+
 static void call(void) { seen = destination_do(&state, request).refusal; }
+static void noted(void) { in_use = destination_call_noted_of(&state, held, in_use, left, request).held; }
 static void page(void) { seen = destination_page_of(&state, lines, DESTINATION_OUTLOOK_LINES, 0, 50).total; }
 static void bytes(void) { seen = destination_bytes_held_of(&state).answer; }
 static void others(void) { seen = destination_message_count_of(&state).answer + destination_counters_of(&state).enqueued; }
@@ -91,13 +95,16 @@ static int within(const char *what, size_t used, size_t limit, int told)
 
 int main(int argc, char **argv)
 {
-    size_t calls = 0, pages = 0, sizes = 0, outlooks = 0;
+    size_t calls = 0, accounts = 0, pages = 0, sizes = 0, outlooks = 0;
     (void)argv;
     for (uint64_t kind = 0; kind < 2; kind++) {
         destination_open(&state, kind, kind ? 40 : 0, 1000000, 0, 0, kind ? 0 : 400);
         for (uint64_t k = 0; k < CALLS; k++) {
             request = random_call(k);
-            calls = most(calls, taken(call));
+            if (k % 2)
+                calls = most(calls, taken(call));
+            else
+                accounts = most(accounts, taken(noted));
             if (k % 50 == 0) {
                 pages = most(pages, most(taken(page), taken(others)));
                 sizes = most(sizes, taken(bytes));
@@ -105,6 +112,6 @@ int main(int argc, char **argv)
             }
         }
     }
-    return within("a call", calls, DESTINATION_STACK_CALL, argc > 1) | within("a page, a count, the counters", pages, DESTINATION_STACK_CALL, argc > 1) |
+    return within("a call", calls, DESTINATION_STACK_CALL, argc > 1) | within("a call with its account", accounts, DESTINATION_STACK_NOTED, argc > 1) | within("a page, a count, the counters", pages, DESTINATION_STACK_CALL, argc > 1) |
            within("bytes held", sizes, DESTINATION_STACK_BYTES, argc > 1) | within("an outlook", outlooks, DESTINATION_STACK_OUTLOOK, argc > 1);
 }
