@@ -5,3 +5,4 @@ pub mod Events
 pub mod Sets
 pub mod Cutting
 pub mod Filling
+pub mod Texts

@@ -6,8 +6,9 @@ use mathlib.Core.Path.{_≡_, refl, sym, ap, _∙_}
 use mathlib.Core.Bool.{true, false}
 use mathlib.Core.List.{List, [], _∷_, _++_, append-assoc}
 use borrow.Author.Tests.{leb-true, le-leb}
-use lib.ListN.{length, take, drop, set, length-append}
+use lib.ListN.{length, take, drop, set, length-append, take-append-drop}
 use lib.Seq.{sets, sets-eq, length-sets}
+use Rattle.words.proofs.Tests.{by-test}
 use Rattle.callfile.specs.Placed.{Puts, PutLine, lineRoom, linePlaced, placeAfter}
 
 sets-append : (p q l : List ℕ) (i : ℕ) → sets l i (p ++ q) ≡ sets (sets l i p) (i + length p) q
@@ -51,3 +52,10 @@ module _ {most : ℕ} where
       let n : at + length line ≤ length l = omega arith in
       let e : l′ ≡ sets l at line = rw t at (p .text) ∙ sym (sets-eq line l at n ∙ append-assoc (take at l) line (drop (at + length line) l)) in
       record { text = e; next = rw t at (p .next); same = ap length e ∙ length-sets l at line }
+
+  -- no line
+  pub blank : (at : ℕ) (l : List ℕ) → PutLine most [] at l at l
+  unfolding linePlaced placeAfter
+  blank at l = by-test (lineRoom most at l)
+      (λ t. record { text = rw t (sym (ap (λ (k : ℕ). take at l ++ drop k l) (add-zero at) ∙ take-append-drop at l)); next = rw t (sym (add-zero at)) })
+      (λ t. no-room [] l at t)

@@ -79,6 +79,16 @@ eventLineOf (some e) = eventLine e
 abbrev pub wordsLine : List ℕ → List ℕ
 wordsLine ws = eventLineOf (eventAt ws)
 
+-- the lines of events, one after another
+unfoldable pub eventsText : List Event → List ℕ
+eventsText [] = []
+eventsText (e ∷ es) = eventLine e ++ eventsText es
+
+-- and of events in their six words
+unfoldable pub eventRowsText : List (List ℕ) → List ℕ
+eventRowsText [] = []
+eventRowsText (w ∷ ws) = wordsLine w ++ eventRowsText ws
+
 -- `b` and the block's number
 unfoldable pub badLine : ℕ → List ℕ
 badLine k = 98 ∷ (field k ++ newline)

@@ -1,13 +1,13 @@
 // The call file: blocks of 512 bytes, and the lines that a run prints.
 ghost use mathlib.Core.Path.{_≡_};
 ghost use mathlib.Core.List.{[], _∷_};
-ghost use Prim.Native.Nat.{_+_, _≤_, _<_, _^_};
+ghost use Prim.Native.Nat.{_+_, _*_, _≤_, _<_, _^_};
 ghost use lib.Dec.{leb};
-ghost use lib.ListN.{length, drop};
+ghost use lib.ListN.{length, take, drop};
 ghost use Rattle.words.specs.Words.{signed};
 ghost use Rattle.model.specs.Model.{idOf};
 ghost use Rattle.callfile.specs.Blocks.{byteAt, numberAt, wordAt, check, checkIn, callsIn, callAt};
-ghost use Rattle.callfile.specs.Lines.{decimal, field, signedField, wordField, idFields, callLine, eventLine, letterAt, messageAt, nullAt, wordsLine, badLine, countersLine};
+ghost use Rattle.callfile.specs.Lines.{decimal, field, signedField, wordField, idFields, callLine, eventLine, letterAt, messageAt, nullAt, wordsLine, eventRowsText, badLine, countersLine};
 ghost use Rattle.callfile.specs.Placed.{Puts, PutLine};
 ghost use Rattle.callfile.specs.Cutting.{Filled};
 use calls::Call;
@@ -196,6 +196,16 @@ fn room(len: usize, at: usize, most: usize) -> bool
     at <= len - most
 }
 
+// Whether there is room for n of the longest lines.
+pub fn lines_fit(len: usize, at: usize, n: usize) -> bool
+    ensures { λ r. ⌜ r ≡ leb (at + 128 * n) len ⌝ }
+{
+    if len / LINE < n {
+        return false;
+    }
+    room(len, at, LINE * n)
+}
+
 // A byte. Without room for it, nothing is put.
 pub fn put_byte(out: &mut [u8], at: usize, b: u8) -> usize
     ensures { λ r. ⌜ PutLine 1 (b ∷ []) at (now (out .entry)) r (now (out .exit)) ⌝ }
@@ -334,6 +344,32 @@ pub fn put_event(out: &mut [u8], at: usize, e: [u64; 6]) -> usize
         3 => null_line(out, at, e),
         _ => at,
     }
+}
+
+fn each_event(out: &mut [u8], from: usize, events: &[[u64; 6]], n: usize) -> usize
+    requires { ⌜ from + 128 * n ≤ length (now out) ⌝ }
+    ensures { λ r. ⌜ Puts (eventRowsText (take n (now (events .entry)))) from (now (out .entry)) r (now (out .exit)) × (r ≤ from + 128 * n) ⌝ }
+{
+    let mut at = from;
+    let mut i = 0;
+    while i < n {
+        if events.len() <= i {
+            return at;
+        }
+        at = put_event(out, at, events[i]);
+        i += 1;
+    }
+    at
+}
+
+// The lines of the first n events. Without room for so many of the longest, nothing is put.
+pub fn put_events(out: &mut [u8], from: usize, events: &[[u64; 6]], n: usize) -> usize
+    ensures { λ r. ⌜ PutLine (128 * n) (eventRowsText (take n (now (events .entry)))) from (now (out .entry)) r (now (out .exit)) ⌝ }
+{
+    if !lines_fit(out.len(), from, n) {
+        return from;
+    }
+    each_event(out, from, events, n)
 }
 
 fn bad_line(out: &mut [u8], at: usize, block: u64) -> usize

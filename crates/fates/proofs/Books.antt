@@ -86,7 +86,7 @@ books-are-the-report (k ∷ ks) g a f = ap (along ks) (next-books k g a (f .0)) 
 
 -- ---- from an open on
 
-along-append : (l m : List Lent) (b : Books) → along (l ++ m) b ≡ along m (along l b)
+pub along-append : (l m : List Lent) (b : Books) → along (l ++ m) b ≡ along m (along l b)
 along-append [] m b = refl
 along-append (k ∷ l) m b = along-append l m (booksNext k b)
 

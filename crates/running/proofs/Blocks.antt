@@ -11,36 +11,100 @@ use Rattle.definition.specs.Layout.{Row, Buffers, soundBuffers, lengthsOf, buff
 use Rattle.definition.proofs.Tests.{by-test, if-true, if-false, or-no-left, or-no-right}
 use Rattle.stats.specs.Counted.{more}
 use Rattle.calls.specs.declared.Call.{Call}
-use Rattle.engine.specs.Called.{Past, Called}
+use Rattle.engine.specs.Called.{Called}
 use Rattle.callfile.specs.Blocks.{callsIn, callAt}
 use Rattle.callfile.specs.Lines.{badLine}
 use Rattle.callfile.specs.Placed.{Puts, PutLine}
 use Rattle.callfile.proofs.Parts.{then, line-puts, none-put}
 use Rattle.callfile.proofs.Digits.{bad-length}
+use Rattle.callfile.proofs.Texts.{first-next, first-text}
 use Rattle.running.specs.declared.Ran.{Ran}
-use Rattle.running.specs.Running.{callLines, LentState, lentBy, accepted, stepOn, leftBy, outcomeOf, Run, followedRun, runCalls, blockCalls, ends, runBlock, Left, Runs}
-use Rattle.running.proofs.Texts.{first-next, first-text}
-use Rattle.running.proofs.Called.{step-by, sends, text-length, left}
+use Rattle.running.specs.Running.{callLines, LentState, lentBy, accepted, stepOn, leftBy, outcomeOf, Run, Turned, Doing, blockCalls, followedRun, ends, eachCall, eachOfBlock, runCall, Left, Printed, Runs}
+use Rattle.running.proofs.Called.{step-by, sends, text-length, leaves}
 
 -- ---- the definition, a call at a time
-
-abbrev stopped : List ℕ → ℕ → Bool → LentState → Run
-stopped text index changed s = record { text = text; index = index; goesOn = true; changed = changed; lent = s }
-
-run-next : (l : Lengths) (block : List ℕ) (k n m index : ℕ) (s : LentState) → m ≡ suc n
-    → runCalls l (blockCalls k m block) index s ≡ followedRun (callLines index (stepOn l (callAt k block) s)) (accepted (stepOn l (callAt k block) s)) (runCalls l (blockCalls (k + 1) n block) (more index) (leftBy (stepOn l (callAt k block) s) s))
-unfolding runCalls blockCalls
-run-next l block k n m index s e = ap (λ (x : ℕ). runCalls l (blockCalls k x block) index s) e
-
-run-over : (l : Lengths) (block : List ℕ) (k m index : ℕ) (s : LentState) → m ≡ 0 → runCalls l (blockCalls k m block) index s ≡ stopped [] index false s
-unfolding runCalls blockCalls
-run-over l block k m index s e = ap (λ (x : ℕ). runCalls l (blockCalls k x block) index s) e
 
 or-other : (a b : Bool) → b ≡ false → (a || b) ≡ true → a ≡ true
 or-other a b e h = sym (or-false a) ∙ sym (ap (λ (x : Bool). a || x) e) ∙ h
 
-twice : (t u : List ℕ) (a b : Bool) (q : Run) → followedRun t a (followedRun u b q) ≡ followedRun (t ++ u) (a || b) q
-twice t u a b q = sym (λ j. record { text = append-assoc t u (q .text) j; index = q .index; goesOn = q .goesOn; changed = or-assoc a b (q .changed) j; lent = q .lent })
+module _ {S : Type 0} where
+  abbrev pub stopped : List ℕ → ℕ → Bool → S → Run S
+  stopped text index changed s = record { text = text; index = index; goesOn = true; changed = changed; lent = s }
+
+  pub twice : (t u : List ℕ) (a b : Bool) (q : Run S) → followedRun t a (followedRun u b q) ≡ followedRun (t ++ u) (a || b) q
+  twice t u a b q = sym (λ j. record { text = append-assoc t u (q .text) j; index = q .index; goesOn = q .goesOn; changed = or-assoc a b (q .changed) j; lent = q .lent })
+
+  -- the lines that were put
+  pub all-printed : {text : List ℕ} {index at : ℕ} {changed : Bool} {s : S} {out₀ out : List ℕ} → Puts text 0 out₀ at out → length text ≤ length out₀ → Printed S (stopped text index changed s) out₀ out (record { index = index; written = at; «goes_on» = true })
+  all-printed p h = record { index = refl; written = first-next p; goes-on = refl; text = first-text p h }
+
+  pub bad-printed : (index number : ℕ) (s : S) {out out′ : List ℕ} {r : ℕ} → 128 ≤ length out → PutLine 128 (badLine number) 0 out r out′ → Printed S (ends (badLine number) index s) out out′ (record { index = index; written = r; «goes_on» = false })
+  bad-printed index number s {out} {out′} {r} room p =
+      let put : Puts (badLine number) 0 out r out′ = line-puts (omega (arith, room)) (bad-length number) p in
+      record { index = refl; written = first-next put; goes-on = refl; text = first-text put (omega (arith, room, bad-length number)) }
+
+module _ {S : Type 0} (one : Doing S) (block : List ℕ) where
+  pub run-next : (k n m index : ℕ) (s : S) → m ≡ suc n
+      → let t = one index (callAt k block) s in eachCall one (blockCalls k m block) index s ≡ followedRun (t .text) (t .changed) (eachCall one (blockCalls (k + 1) n block) (more index) (t .lent))
+  unfolding eachCall blockCalls
+  run-next k n m index s e = ap (λ (x : ℕ). eachCall one (blockCalls k x block) index s) e
+
+  run-over : (k m index : ℕ) (s : S) → m ≡ 0 → eachCall one (blockCalls k m block) index s ≡ stopped [] index false s
+  unfolding eachCall blockCalls
+  run-over k m index s e = ap (λ (x : ℕ). eachCall one (blockCalls k x block) index s) e
+
+  -- what is printed so far is the whole, once no call is left
+  pub none-left : (q : Run S) (text : List ℕ) (changed : Bool) (k m index : ℕ) (s : S) → m ≡ 0 → q ≡ followedRun text changed (eachCall one (blockCalls k m block) index s) → q ≡ stopped text index changed s
+  none-left q text changed k m index s e h =
+      h ∙ ap (followedRun text changed) (run-over k m index s e) ∙ (λ j. stopped (append-nil text j) index (or-false changed j) s)
+
+  -- a block, by its count
+  pub bad-is : (count index number : ℕ) (s : S) → count ≡ callsIn block (length block) → count ≡ 0 → eachOfBlock one block index number s ≡ ends (badLine number) index s
+  unfolding eachOfBlock
+  bad-is count index number s counted z = if-true _ _ (eq-eqb (callsIn block (length block)) 0 (sym counted ∙ z))
+
+  pub good-is : (count index number : ℕ) (s : S) → count ≡ callsIn block (length block) → (count ≡ 0 → ⊥) → eachCall one (blockCalls 0 count block) index s ≡ eachOfBlock one block index number s
+  unfolding eachOfBlock
+  good-is count index number s counted z =
+      ap (λ (n : ℕ). eachCall one (blockCalls 0 n block) index s) counted
+      ∙ sym (if-false _ _ (ne-eqb (callsIn block (length block)) 0 (λ e. z (counted ∙ e))))
+
+-- two steps leave what each leaves
+pub left-twice : {a c : Bool} {b b₁ b₂ : Buffers} {events events₁ events₂ : List Row} → Left a b b₁ events events₁ → Left c b₁ b₂ events₁ events₂ → Left (a || c) b b₂ events events₂
+left-twice {a} {c} x y = record {
+  leaves-sound = λ h. by-test c
+      (λ e. y .leaves-sound e)
+      (λ e. ap soundBuffers (y .kept e) ∙ x .leaves-sound (or-other a c e h));
+  kept = λ h. y .kept (or-no-right a c h) ∙ x .kept (or-no-left a c h);
+  past = record {
+    head-past = y .past .head-past ∙ x .past .head-past;
+    subs-past = y .past .subs-past ∙ x .past .subs-past;
+    rows-past = y .past .rows-past ∙ x .past .rows-past;
+    head-length = y .past .head-length ∙ x .past .head-length;
+    subs-length = y .past .subs-length ∙ x .past .subs-length;
+    rows-length = y .past .rows-length ∙ x .past .rows-length;
+    events-length = y .past .events-length ∙ x .past .events-length;
+  };
+}
+
+-- what nothing leaves, and what a call leaves
+pub left-none : (b : Buffers) (events : List Row) → Left false b b events events
+left-none b events = record {
+  leaves-sound = λ e. absurd (true≢false (sym e));
+  kept = λ _. refl;
+  past = record { head-past = refl; subs-past = refl; rows-past = refl; head-length = refl; subs-length = refl; rows-length = refl; events-length = refl };
+}
+
+pub left-called : {q : Result} {b b′ : Buffers} {events events′ : List Row} → Called q b b′ events events′ (outcomeOf q) → Left (accepted q) b b′ events events′
+left-called {q} called = record {
+  leaves-sound = λ e. called .leaves-sound (eqb-true (q .refusal) 0 e);
+  kept = λ e. called .kept (eqb-false (q .refusal) 0 e) .0;
+  past = called .past;
+}
+
+-- the lengths stay
+pub same-lengths : {a : Bool} {b b′ : Buffers} {events events′ : List Row} → Left a b b′ events events′ → lengthsOf b′ (length events′) ≡ lengthsOf b (length events)
+same-lengths x = λ j. record { head = x .past .head-length j; subs = x .past .subs-length j; rows = x .past .rows-length j; events = x .past .events-length j }
 
 -- ---- so far
 
@@ -51,13 +115,8 @@ pub record Sofar (block : List ℕ) (count from : ℕ) (b₀ : Buffers) (events�
   pub passed : k ≤ count
   pub put : Puts text 0 out₀ at out
   pub small : at ≤ 69888 * k
-  pub rest : runCalls (lengthsOf b₀ (length events₀)) (blockCalls 0 count block) from (lentBy b₀ events₀) ≡ followedRun text changed (runCalls (lengthsOf b₀ (length events₀)) (blockCalls k (count - k) block) index (lentBy b events))
-  pub leaves-sound : changed ≡ true → soundBuffers b ≡ true
-  pub kept : changed ≡ false → b ≡ b₀
-  pub past : Past b₀ b events₀ events
-
-pub unchanged : (b : Buffers) (events : List Row) → Past b b events events
-unchanged b events = record { head-past = refl; subs-past = refl; rows-past = refl; head-length = refl; subs-length = refl; rows-length = refl; events-length = refl }
+  pub rest : eachCall (runCall (lengthsOf b₀ (length events₀))) (blockCalls 0 count block) from (lentBy b₀ events₀) ≡ followedRun text changed (eachCall (runCall (lengthsOf b₀ (length events₀))) (blockCalls k (count - k) block) index (lentBy b events))
+  pub left : Left changed b₀ b events₀ events
 
 pub none-yet : (block : List ℕ) (count from : ℕ) (b : Buffers) (events : List Row) (out : List ℕ) → Sofar block count from b events out b events out from 0 0
 none-yet block count from b events out = record {
@@ -66,10 +125,8 @@ none-yet block count from b events out = record {
   passed = omega arith;
   put = none-put 0 out;
   small = omega arith;
-  rest = ap (λ (n : ℕ). runCalls (lengthsOf b (length events)) (blockCalls 0 n block) from (lentBy b events)) minus;
-  leaves-sound = λ e. absurd (true≢false (sym e));
-  kept = λ _. refl;
-  past = unchanged b events;
+  rest = ap (λ (n : ℕ). eachCall (runCall (lengthsOf b (length events))) (blockCalls 0 n block) from (lentBy b events)) minus;
+  left = left-none b events;
 }
   where
     minus : count ≡ count - 0
@@ -90,26 +147,20 @@ module _ (block : List ℕ) (count from : ℕ) (b₀ : Buffers) (events₀ : Lis
         abbrev q : Result
         q = bufferStep b (length events) (x .code) (x .words)
 
-        same-lengths : lengthsOf b (length events) ≡ l
-        same-lengths = λ j. record { head = s .past .head-length j; subs = s .past .subs-length j; rows = s .past .rows-length j; events = s .past .events-length j }
-
         by : stepOn l (callAt k block) (lentBy b events) ≡ q
-        by = sym (step-by b events x ∙ ap₂ (λ (m : Lengths) (y : Call). stepOn m y (lentBy b events)) same-lengths named)
+        by = sym (step-by b events x ∙ ap₂ (λ (m : Lengths) (y : Call). stepOn m y (lentBy b events)) (same-lengths (s .left)) named)
 
-        next : runCalls l (blockCalls k (count - k) block) index (lentBy b events) ≡ followedRun (callLines index q) (accepted q) (runCalls l (blockCalls (k + 1) (count - (k + 1)) block) (more index) (lentBy b′ events′))
+        does : runCall l index (callAt k block) (lentBy b events) ≡ record { text = callLines index q; changed = accepted q; lent = lentBy b′ events′ }
+        unfolding runCall
+        does =
+            ap (λ (r : Result). record { text = callLines index r; changed = accepted r; lent = leftBy r (lentBy b events) }) by
+            ∙ ap (λ (t : LentState). record { text = callLines index q; changed = accepted q; lent = t }) (sym (leaves called))
+
+        next : eachCall (runCall l) (blockCalls k (count - k) block) index (lentBy b events) ≡ followedRun (callLines index q) (accepted q) (eachCall (runCall l) (blockCalls (k + 1) (count - (k + 1)) block) (more index) (lentBy b′ events′))
         next =
             let e : count - k ≡ suc (count - (k + 1)) = omega arith in
-            run-next l block k (count - (k + 1)) (count - k) index (lentBy b events) e
-            ∙ ap (λ (r : Result). followedRun (callLines index r) (accepted r) (runCalls l (blockCalls (k + 1) (count - (k + 1)) block) (more index) (leftBy r (lentBy b events)))) by
-            ∙ ap (λ (t : LentState). followedRun (callLines index q) (accepted q) (runCalls l (blockCalls (k + 1) (count - (k + 1)) block) (more index) t)) (sym (left called))
-
-        sound-so : (s .changed || accepted q) ≡ true → soundBuffers b′ ≡ true
-        sound-so h = by-test (accepted q)
-            (λ e. called .leaves-sound (eqb-true (q .refusal) 0 e))
-            (λ e. ap soundBuffers (called .kept (eqb-false (q .refusal) 0 e) .0) ∙ s .leaves-sound (or-other (s .changed) (accepted q) e h))
-
-        kept-so : (s .changed || accepted q) ≡ false → b′ ≡ b₀
-        kept-so h = called .kept (eqb-false (q .refusal) 0 (or-no-right (s .changed) (accepted q) h)) .0 ∙ s .kept (or-no-left (s .changed) (accepted q) h)
+            run-next (runCall l) block k (count - (k + 1)) (count - k) index (lentBy b events) e
+            ∙ ap (λ (t : Turned LentState). followedRun (t .text) (t .changed) (eachCall (runCall l) (blockCalls (k + 1) (count - (k + 1)) block) (more index) (t .lent))) does
 
         pub one-more : Sofar block count from b₀ events₀ out₀ b′ events′ out′ (more index) at′ (k + 1)
         one-more = record {
@@ -118,64 +169,36 @@ module _ (block : List ℕ) (count from : ℕ) (b₀ : Buffers) (events₀ : Lis
           passed = omega arith;
           put = then (s .put) puts;
           small = omega (arith, s .small, puts .next, text-length index q (sends b (length events) (x .code) (x .words)));
-          rest = s .rest ∙ ap (followedRun (s .text) (s .changed)) next ∙ twice (s .text) (callLines index q) (s .changed) (accepted q) (runCalls l (blockCalls (k + 1) (count - (k + 1)) block) (more index) (lentBy b′ events′));
-          leaves-sound = sound-so;
-          kept = kept-so;
-          past = record {
-            head-past = called .past .head-past ∙ s .past .head-past;
-            subs-past = called .past .subs-past ∙ s .past .subs-past;
-            rows-past = called .past .rows-past ∙ s .past .rows-past;
-            head-length = called .past .head-length ∙ s .past .head-length;
-            subs-length = called .past .subs-length ∙ s .past .subs-length;
-            rows-length = called .past .rows-length ∙ s .past .rows-length;
-            events-length = called .past .events-length ∙ s .past .events-length;
-          };
+          rest = s .rest ∙ ap (followedRun (s .text) (s .changed)) next ∙ twice (s .text) (callLines index q) (s .changed) (accepted q) (eachCall (runCall l) (blockCalls (k + 1) (count - (k + 1)) block) (more index) (lentBy b′ events′));
+          left = left-twice (s .left) (left-called called);
         }
 
     -- ---- the last is run
 
     pub all-run : count ≤ k → count ≤ 7 → 489216 ≤ length out₀
-        → Runs (runCalls l (blockCalls 0 count block) from (lentBy b₀ events₀)) b₀ b events₀ events out₀ out (record { index = index; written = at; «goes_on» = true })
-    all-run over most room = subst⁻¹ (λ (q : Run). Runs q b₀ b events₀ events out₀ out (record { index = index; written = at; «goes_on» = true })) whole (record {
-      index = refl;
-      written = first-next (s .put);
-      goes-on = refl;
-      text = first-text (s .put) (omega (arith, room, s .small, s .passed, most, first-next (s .put)));
-      shows = refl;
-      left = record { leaves-sound = s .leaves-sound; kept = s .kept; past = s .past };
-    })
-      where
-        none-left : count - k ≡ 0
-        none-left = omega arith
-
-        whole : runCalls l (blockCalls 0 count block) from (lentBy b₀ events₀) ≡ stopped (s .text) index (s .changed) (lentBy b events)
-        whole =
-            s .rest
-            ∙ ap (followedRun (s .text) (s .changed)) (run-over l block k (count - k) index (lentBy b events) none-left)
-            ∙ (λ j. stopped (append-nil (s .text) j) index (or-false (s .changed) j) (lentBy b events))
+        → Runs (eachCall (runCall l) (blockCalls 0 count block) from (lentBy b₀ events₀)) b₀ b events₀ events out₀ out (record { index = index; written = at; «goes_on» = true })
+    all-run over most room =
+        let none : count - k ≡ 0 = omega arith in
+        subst⁻¹ (λ (q : Run LentState). Runs q b₀ b events₀ events out₀ out (record { index = index; written = at; «goes_on» = true })) (none-left (runCall l) block (eachCall (runCall l) (blockCalls 0 count block) from (lentBy b₀ events₀)) (s .text) (s .changed) k (count - k) index (lentBy b events) none (s .rest)) (record {
+          printed = all-printed (s .put) (omega (arith, room, s .small, s .passed, most, first-next (s .put)));
+          shows = refl;
+          left = s .left;
+        })
 
 -- ---- a block, from its tests on
 
 module _ (l : Lengths) (block : List ℕ) (index number : ℕ) (b : Buffers) (events : List Row) (out : List ℕ) (room : 489216 ≤ length out) (count : ℕ) (counted : count ≡ callsIn block (length block)) where
-  abbrev run : Run
-  run = runBlock l block index number (lentBy b events)
+  abbrev run : Run LentState
+  run = eachOfBlock (runCall l) block index number (lentBy b events)
 
   pub bad-block : count ≡ 0 → {out′ : List ℕ} {r : ℕ} → PutLine 128 (badLine number) 0 out r out′ → Runs run b b events events out out′ (record { index = index; written = r; «goes_on» = false })
-  unfolding runBlock
   bad-block z {out′} {r} p =
-      let put : Puts (badLine number) 0 out r out′ = line-puts (omega (arith, room)) (bad-length number) p in
-      subst⁻¹ (λ (q : Run). Runs q b b events events out out′ (record { index = index; written = r; «goes_on» = false })) (if-true _ _ (eq-eqb (callsIn block (length block)) 0 (sym counted ∙ z))) (record {
-        index = refl;
-        written = first-next put;
-        goes-on = refl;
-        text = first-text put (omega (arith, room, bad-length number));
+      subst⁻¹ (λ (q : Run LentState). Runs q b b events events out out′ (record { index = index; written = r; «goes_on» = false })) (bad-is (runCall l) block count index number (lentBy b events) counted z) (record {
+        printed = bad-printed index number (lentBy b events) (omega (arith, room)) p;
         shows = refl;
-        left = record { leaves-sound = λ f. absurd (true≢false (sym f)); kept = λ _. refl; past = unchanged b events };
+        left = left-none b events;
       })
 
   pub good-block : (count ≡ 0 → ⊥) → {b′ : Buffers} {events′ : List Row} {out′ : List ℕ} {r : Ran}
-      → Runs (runCalls l (blockCalls 0 count block) index (lentBy b events)) b b′ events events′ out out′ r → Runs run b b′ events events′ out out′ r
-  unfolding runBlock
-  good-block z {b′} {events′} {out′} {r} p = subst (λ (q : Run). Runs q b b′ events events′ out out′ r)
-      (ap (λ (n : ℕ). runCalls l (blockCalls 0 n block) index (lentBy b events)) counted
-      ∙ sym (if-false _ _ (ne-eqb (callsIn block (length block)) 0 (λ e. z (counted ∙ e))))) p
+      → Runs (eachCall (runCall l) (blockCalls 0 count block) index (lentBy b events)) b b′ events events′ out out′ r → Runs run b b′ events events′ out out′ r
+  good-block z {b′} {events′} {out′} {r} p = subst (λ (q : Run LentState). Runs q b b′ events events′ out out′ r) (good-is (runCall l) block count index number (lentBy b events) counted z) p

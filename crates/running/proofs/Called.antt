@@ -6,7 +6,7 @@ use mathlib.Core.Bool.{Bool, not, _&&_, _||_}
 use mathlib.Core.List.{List, _++_, map}
 use borrow.Author.Tests.{eqb-true, eqb-false}
 use lib.Dec.{eqb}
-use lib.ListN.{length, take, drop, length-append, length-take, length-map, take-append-drop}
+use lib.ListN.{length, take, drop, length-append, take-append-drop}
 use Rattle.definition.specs.Calls.{short, sound, Result, refused}
 use Rattle.definition.specs.Words.{step}
 use Rattle.definition.specs.Layout.{Row, Buffers, eventWords, view, formed, soundBuffers, lengthsOf, bufferStep}
@@ -15,12 +15,12 @@ use Rattle.definition.proofs.Claims.{step-sends}
 use Rattle.calls.specs.declared.Call.{Call}
 use Rattle.engine.specs.declared.Outcome.{Outcome}
 use Rattle.engine.specs.Called.{Called}
-use Rattle.callfile.specs.Lines.{callLine}
+use Rattle.callfile.specs.Lines.{callLine, eventRowsText}
 use Rattle.callfile.specs.Placed.{Puts, PutLine}
 use Rattle.callfile.proofs.Parts.{then, line-puts}
-use Rattle.running.specs.Running.{eventRowsText, callLines, lentBy, accepted, stepOn, leftBy, outcomeOf}
+use Rattle.callfile.proofs.Texts.{call-length, events-length, events-text, rows-few}
+use Rattle.running.specs.Running.{callLines, lentBy, accepted, stepOn, leftBy, outcomeOf}
 use Rattle.running.proofs.Ranges.{Fits}
-use Rattle.running.proofs.Texts.{call-length, events-length, events-text}
 
 -- a call on lent buffers is a call on what they hold
 pub step-by : (b : Buffers) (events : List Row) (c : Call) → bufferStep b (length events) (c .code) (c .words) ≡ stepOn (lengthsOf b (length events)) c (lentBy b events)
@@ -40,9 +40,6 @@ unfolding callLines
 text-length index q few = simp length-append (omega (arith, call-length index (q .refusal) (q .answer), events-length (q .events)))
 
 module _ {q : Result} {b b′ : Buffers} {events events′ : List Row} {r : Outcome} (called : Called q b b′ events events′ r) where
-  pub all-there : r .events ≤ length events′
-  all-there = omega (arith, ap length (called .sent) ∙ length-map (q .events) eventWords, length-take (r .events) events′, called .count)
-
   pub as-told : Called q b b′ events events′ (outcomeOf q)
   as-told = subst (λ (x : Outcome). Called q b b′ events events′ x) (λ j. record { refusal = called .refusal j; answer = called .answer j; events = called .count j }) called
 
@@ -50,14 +47,14 @@ module _ {q : Result} {b b′ : Buffers} {events events′ : List Row} {r : Outc
     first-line : Puts (callLine index (r .refusal) (r .answer)) at out next out₁
     first-line = line-puts (omega (arith, room)) (call-length index (r .refusal) (r .answer)) line
 
-    pub room-left : next + 128 * r .events ≤ length out₁
+    room-left : next + 128 * r .events ≤ length out₁
     room-left = omega (arith, room, few, called .count, first-line .next, first-line .same, call-length index (r .refusal) (r .answer))
 
-    pub printed : Fits (q .events) → {m : ℕ} {out₂ : List ℕ} → Puts (eventRowsText (take (r .events) events′)) next out₁ m out₂ → Puts (callLines index q) at out m out₂
+    pub printed : Fits (q .events) → {m : ℕ} {out₂ : List ℕ} → PutLine (128 * r .events) (eventRowsText (take (r .events) events′)) next out₁ m out₂ → Puts (callLines index q) at out m out₂
     unfolding callLines
     printed f {m} {out₂} p = subst (λ (t : List ℕ). Puts t at out m out₂)
         ((λ j. callLine index (called .refusal j) (called .answer j) ++ eventRowsText (called .sent j)) ∙ ap (λ (t : List ℕ). callLine index (q .refusal) (q .answer) ++ t) (events-text (q .events) f))
-        (then first-line p)
+        (then first-line (line-puts room-left (rows-few (r .events) events′) p))
 
 -- ---- what it leaves
 
@@ -71,5 +68,5 @@ module _ {q : Result} {b b′ : Buffers} {events events′ : List Row} (called :
   events-are : events′ ≡ map eventWords (q .events) ++ drop (length (q .events)) events
   events-are = sym (take-append-drop (length (q .events)) events′) ∙ ap₂ (λ (x y : List Row). x ++ y) (called .sent) (called .later)
 
-  pub left : lentBy b′ events′ ≡ leftBy q (lentBy b events)
-  left = λ j. record { formed = still-formed j; dest = called .shows j; events = events-are j }
+  pub leaves : lentBy b′ events′ ≡ leftBy q (lentBy b events)
+  leaves = λ j. record { formed = still-formed j; dest = called .shows j; events = events-are j }

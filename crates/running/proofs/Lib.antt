@@ -1,7 +1,8 @@
 pub mod Ranges
 pub mod Sending
-pub mod Texts
 pub mod Called
 pub mod Blocks
+pub mod Steps
+pub mod Pieces
 pub mod Files
 pub mod Along

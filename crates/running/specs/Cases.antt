@@ -14,8 +14,8 @@ use Rattle.definition.specs.Layout.{layoutOpen}
 use Rattle.callfile.specs.Blocks.{numberAt, wordAt, checkFrom, good, callsIn, callAt}
 use Rattle.callfile.specs.Cases.{bytes, words, checkedBlock, calls, block}
 use Rattle.callfile.specs.Cutting.{cutAtMost, cutBlocks, alongBlocks}
-use Rattle.callfile.specs.Lines.{digits, decimal, callLine, eventLine, badLine, countersLine}
-use Rattle.running.specs.Running.{eventsText, callLines, stepOn, runCalls, blockCalls, runBlock}
+use Rattle.callfile.specs.Lines.{digits, decimal, callLine, eventLine, eventsText, badLine, countersLine}
+use Rattle.running.specs.Running.{callLines, stepOn, blockCalls, eachCall, eachOfBlock, runCall}
 use Rattle.running.specs.Files.{workBlock, zeroState, runFile}
 
 -- "0 0 0", "1 0 0", "2 0 0", "3 0 0", "d 9 1 1 5 0", "4 0 0"
@@ -53,7 +53,7 @@ goes-on =
     ∷ []
 
 cases : List Bool
-unfolding consumerOpen destinationOpen callsOpen wordsOpen layoutOpen numberAt wordAt checkFrom good callsIn callAt digits decimal callLine eventLine badLine countersLine eventsText callLines stepOn runCalls blockCalls runBlock bytes words checkedBlock calls block workBlock zeroState runFile cutAtMost cutBlocks alongBlocks expected counted bad none-counted enqueues goes-on
+unfolding consumerOpen destinationOpen callsOpen wordsOpen layoutOpen numberAt wordAt checkFrom good callsIn callAt digits decimal callLine eventLine badLine countersLine eventsText callLines stepOn blockCalls eachCall eachOfBlock runCall bytes words checkedBlock calls block workBlock zeroState runFile cutAtMost cutBlocks alongBlocks expected counted bad none-counted enqueues goes-on
 cases =
     -- no bytes; document 01's example; and one byte more
     sameNumbers (runFile []) none-counted

@@ -14,21 +14,22 @@ use Rattle.callfile.specs.declared.Took.{Took}
 use Rattle.callfile.specs.Lines.{badLine, countersLine}
 use Rattle.callfile.specs.Placed.{PutLine}
 use Rattle.callfile.specs.Cutting.{cutBlocks, Work, alongBlocks, Stage, StepTaken, lacked, takePiece, inARow}
-use Rattle.running.specs.Running.{LentState, lentBy, Run, runBlock, Left}
+use Rattle.running.specs.Running.{LentState, lentBy, Run, Doing, eachOfBlock, runCall, Left}
 
 -- ---- a whole file
 
 -- between two blocks: the next call's index, and what it finds
-pub record RunState : Type 0 where
+pub record RunState (S : Type 0) : Type 0 where
   pub index : ℕ
-  pub lent : LentState
+  pub lent : S
 
-abbrev pub afterRun : Run → RunState
-afterRun q = record { index = q .index; lent = q .lent }
+module _ {S : Type 0} where
+  abbrev pub afterRun : Run S → RunState S
+  afterRun q = record { index = q .index; lent = q .lent }
 
--- a block of a file
-unfoldable pub workBlock : Lengths → Work RunState
-workBlock l block number s = let q = runBlock l block (s .index) number (s .lent) in record { text = q .text; goesOn = q .goesOn; state = afterRun q }
+  -- a block of a file
+  unfoldable pub workBlock : Doing S → Work (RunState S)
+  workBlock one block number s = let q = eachOfBlock one block (s .index) number (s .lent) in record { text = q .text; goesOn = q .goesOn; state = afterRun q }
 
 -- before any open: buffers of zeros. Their counts fit, so a call but open gets 2 for what they hold, which no open has made
 unfoldable pub zeroState : LentState
@@ -44,40 +45,41 @@ runLengths = record { head = 8347; subs = 32; rows = 512; events = 545 }
 
 -- the lines of its blocks, one after another, and last the counters
 unfoldable pub runFile : List ℕ → List ℕ
-runFile bytes = let d = alongBlocks (workBlock runLengths) (cutBlocks bytes) 0 (record { index = 0; lent = zeroState }) in d .text ++ countersLine (d .state .lent .dest .stats)
+runFile bytes = let d = alongBlocks (workBlock (runCall runLengths)) (cutBlocks bytes) 0 (record { index = 0; lent = zeroState }) in d .text ++ countersLine (d .state .lent .dest .stats)
 
 -- ---- a step on a piece
 
--- the stage in lent buffers
-abbrev pub stageAt : Reading → List ℕ → LentState → Stage RunState
-stageAt at block s = record { begun = take (at .have) block; number = at .number; goesOn = at .«goes_on»; state = record { index = at .index; lent = s } }
+-- the block has 512 places and is not whole yet, and no block's lines, which have at most so many bytes, lack room
+abbrev pub roomy : ℕ → Reading → List ℕ → List ℕ → Bool
+roomy most at block out = eqb (length block) 512 && (ltb (at .have) 512 && leb most (length out))
 
--- the block has 512 places and is not whole yet, and no block's lines lack room
-abbrev pub roomy : Reading → List ℕ → List ℕ → Bool
-roomy at block out = eqb (length block) 512 && (ltb (at .have) 512 && leb 489216 (length out))
+module _ {S : Type 0} where
+  -- the stage in lent buffers
+  abbrev pub stageAt : Reading → List ℕ → S → Stage (RunState S)
+  stageAt at block s = record { begun = take (at .have) block; number = at .number; goesOn = at .«goes_on»; state = record { index = at .index; lent = s } }
 
--- else reading ends
-abbrev pub heeding : Bool → Stage RunState → Stage RunState
-heeding ok g = record { begun = g .begun; number = g .number; goesOn = ok && g .goesOn; state = g .state }
+  -- without room reading ends
+  abbrev pub heeding : Bool → Stage (RunState S) → Stage (RunState S)
+  heeding ok g = record { begun = g .begun; number = g .number; goesOn = ok && g .goesOn; state = g .state }
 
--- whether a call of it was accepted
-unfoldable pub stepChanged : Lengths → List ℕ → Stage RunState → Bool
-stepChanged l rest g =
-    let block = g .begun ++ lacked (g .begun) rest in
-    g .goesOn && (not (ltb (length block) 512) && runBlock l block (g .state .index) (g .number) (g .state .lent) .changed)
+  -- whether a call of it was accepted
+  unfoldable pub stepChanged : Doing S → List ℕ → Stage (RunState S) → Bool
+  stepChanged one rest g =
+      let block = g .begun ++ lacked (g .begun) rest in
+      g .goesOn && (not (ltb (length block) 512) && eachOfBlock one block (g .state .index) (g .number) (g .state .lent) .changed)
 
--- the answer: in a block that took no bytes there are as many as before
-abbrev pub tookAs : Bool → Reading → ℕ → StepTaken RunState → Took
-tookAs goes at from p = record {
-  reading = record {
-    have = if goes then length (p .stage .begun) else at .have;
-    number = p .stage .number;
-    index = p .stage .state .index;
-    «goes_on» = p .stage .goesOn;
-  };
-  next = from + p .used;
-  written = length (p .text);
-}
+  -- the answer: in a block that took no bytes there are as many as before
+  abbrev pub tookAs : Bool → Reading → ℕ → StepTaken (RunState S) → Took
+  tookAs goes at from p = record {
+    reading = record {
+      have = if goes then length (p .stage .begun) else at .have;
+      number = p .stage .number;
+      index = p .stage .state .index;
+      «goes_on» = p .stage .goesOn;
+    };
+    next = from + p .used;
+    written = length (p .text);
+  }
 
 -- the block, in which the bytes that it lacked stand behind those that it had
 abbrev pub blockAs : Bool → ℕ → List ℕ → List ℕ → List ℕ
@@ -91,20 +93,24 @@ unreadAs at from len = record { reading = record { have = at .have; number = at 
 abbrev pub begunAs : Reading → ℕ → ℕ → Took
 begunAs at have next = record { reading = record { have = have; number = at .number; index = at .index; «goes_on» = true }; next = next; written = 0 }
 
--- what a step p leaves; what is open is what `Left` leaves open
-pub record Takes (p : StepTaken RunState) (changed goes : Bool) (at : Reading) (rest : List ℕ) (from : ℕ) (b b′ : Buffers) (events events′ : List Row) (block block′ out out′ : List ℕ) (r : Took) : Type 0 where
+-- what a step p leaves: the answer, the block and the text
+pub record TookStep (S : Type 0) (p : StepTaken (RunState S)) (goes : Bool) (at : Reading) (rest : List ℕ) (from : ℕ) (block block′ out out′ : List ℕ) (r : Took) : Type 0 where
   pub answer : r ≡ tookAs goes at from p
   pub bytes : block′ ≡ blockAs goes (at .have) rest block
   pub text : out′ ≡ p .text ++ drop (length (p .text)) out
+
+-- and the state; what is open is what `Left` leaves open
+pub record Takes (p : StepTaken (RunState LentState)) (changed goes : Bool) (at : Reading) (rest : List ℕ) (from : ℕ) (b b′ : Buffers) (events events′ : List Row) (block block′ out out′ : List ℕ) (r : Took) : Type 0 where
+  pub taken : TookStep LentState p goes at rest from block block′ out out′ r
   pub shows : lentBy b′ events′ ≡ p .stage .state .lent
   pub left : Left changed b b′ events events′
 
 -- on what is left of a piece from place `from` on
 abbrev pub TakesPiece : Reading → List ℕ → ℕ → Buffers → Buffers → List Row → List Row → List ℕ → List ℕ → List ℕ → List ℕ → Took → Type 0
 TakesPiece at piece from b b′ events events′ block block′ out out′ r =
-    let l = lengthsOf b (length events) in
-    let g = heeding (roomy at block out) (stageAt at block (lentBy b events)) in
-    Takes (takePiece (workBlock l) (drop from piece) g) (stepChanged l (drop from piece) g) (g .goesOn) at (drop from piece) from b b′ events events′ block block′ out out′ r
+    let one = runCall (lengthsOf b (length events)) in
+    let g = heeding (roomy 489216 at block out) (stageAt at block (lentBy b events)) in
+    Takes (takePiece (workBlock one) (drop from piece) g) (stepChanged one (drop from piece) g) (g .goesOn) at (drop from piece) from b b′ events events′ block block′ out out′ r
 
 -- ---- the end
 

@@ -6,29 +6,19 @@ use Prim.Native.Nat.{ℕ, zero, suc, _+_}
 use lib.Dec.{eqb}
 use lib.ListN.{length, drop}
 use Rattle.definition.specs.Base.{if_then_else_}
-use Rattle.definition.specs.Types.{Dest, Event}
+use Rattle.definition.specs.Types.{Dest}
 use Rattle.definition.specs.Calls.{Lengths, short, Result, refused}
 use Rattle.definition.specs.Words.{step}
 use Rattle.definition.specs.Layout.{Row, Buffers, eventWords, view, formed, soundBuffers}
 use Rattle.stats.specs.Counted.{more}
 use Rattle.calls.specs.declared.Call.{Call}
 use Rattle.callfile.specs.Blocks.{callsIn, callAt}
-use Rattle.callfile.specs.Lines.{callLine, eventLine, wordsLine, badLine}
+use Rattle.callfile.specs.Lines.{callLine, eventsText, badLine}
 use Rattle.engine.specs.declared.Outcome.{Outcome}
 use Rattle.engine.specs.Called.{outcome, Past}
 use Rattle.running.specs.declared.Ran.{Ran}
 
--- ---- lines
-
--- those of events, one after another
-unfoldable pub eventsText : List Event → List ℕ
-eventsText [] = []
-eventsText (e ∷ es) = eventLine e ++ eventsText es
-
--- and of events in their six words
-unfoldable pub eventRowsText : List Row → List ℕ
-eventRowsText [] = []
-eventRowsText (w ∷ ws) = wordsLine w ++ eventRowsText ws
+-- ---- a call's lines
 
 -- a call's line and those of its events
 unfoldable pub callLines : ℕ → Result → List ℕ
@@ -64,38 +54,52 @@ outcomeOf r = outcome (r .refusal) (r .answer) (length (r .events))
 -- ---- calls, one after another
 
 -- the bytes printed, the next call's index, whether reading goes on, whether a call was accepted, and what is left
-pub record Run : Type 0 where
+pub record Run (S : Type 0) : Type 0 where
   pub text : List ℕ
   pub index : ℕ
   pub goesOn : Bool
   pub changed : Bool
-  pub lent : LentState
+  pub lent : S
 
--- what was printed, and whether a call was accepted, before the rest
-abbrev pub followedRun : List ℕ → Bool → Run → Run
-followedRun text changed q = record { text = text ++ q .text; index = q .index; goesOn = q .goesOn; changed = changed || q .changed; lent = q .lent }
+-- of one call: the bytes printed, whether it was accepted, and what is left
+pub record Turned (S : Type 0) : Type 0 where
+  pub text : List ℕ
+  pub changed : Bool
+  pub lent : S
 
--- the calls of a list, from an index on, which counts up to the largest word and stays there
-unfoldable pub runCalls : Lengths → List Call → ℕ → LentState → Run
-runCalls l [] index s = record { text = []; index = index; goesOn = true; changed = false; lent = s }
-runCalls l (c ∷ cs) index s = let r = stepOn l c s in followedRun (callLines index r) (accepted r) (runCalls l cs (more index) (leftBy r s))
-
--- ---- a block
+-- what a program does with a call, by its index and what it finds
+abbrev pub Doing : Type 0 → Type 0
+Doing S = ℕ → Call → S → Turned S
 
 -- n calls from call k on
 unfoldable pub blockCalls : ℕ → ℕ → List ℕ → List Call
 blockCalls k zero block = []
 blockCalls k (suc n) block = callAt k block ∷ blockCalls (k + 1) n block
 
--- reading ends, and no call was run
-abbrev pub ends : List ℕ → ℕ → LentState → Run
-ends text index s = record { text = text; index = index; goesOn = false; changed = false; lent = s }
+module _ {S : Type 0} where
+  -- what was printed, and whether a call was accepted, before the rest
+  abbrev pub followedRun : List ℕ → Bool → Run S → Run S
+  followedRun text changed q = record { text = text ++ q .text; index = q .index; goesOn = q .goesOn; changed = changed || q .changed; lent = q .lent }
 
--- a bad block has its line, and ends the reading
-unfoldable pub runBlock : Lengths → List ℕ → ℕ → ℕ → LentState → Run
-runBlock l block index number s =
-    if eqb (callsIn block (length block)) 0 then ends (badLine number) index s
-    else runCalls l (blockCalls 0 (callsIn block (length block)) block) index s
+  -- reading ends, and no call was run
+  abbrev pub ends : List ℕ → ℕ → S → Run S
+  ends text index s = record { text = text; index = index; goesOn = false; changed = false; lent = s }
+
+module _ {S : Type 0} (one : Doing S) where
+  -- the calls of a list, from an index on, which counts up to the largest word and stays there
+  unfoldable pub eachCall : List Call → ℕ → S → Run S
+  eachCall [] index s = record { text = []; index = index; goesOn = true; changed = false; lent = s }
+  eachCall (c ∷ cs) index s = let t = one index c s in followedRun (t .text) (t .changed) (eachCall cs (more index) (t .lent))
+
+  -- those of a block; a bad block has its line, and ends the reading
+  unfoldable pub eachOfBlock : List ℕ → ℕ → ℕ → S → Run S
+  eachOfBlock block index number s =
+      if eqb (callsIn block (length block)) 0 then ends (badLine number) index s
+      else eachCall (blockCalls 0 (callsIn block (length block)) block) index s
+
+-- a run does this with each
+unfoldable pub runCall : Lengths → Doing LentState
+runCall l index c s = let r = stepOn l c s in record { text = callLines index r; changed = accepted r; lent = leftBy r s }
 
 -- ---- in lent buffers
 
@@ -106,12 +110,15 @@ pub record Left (changed : Bool) (b b′ : Buffers) (events events′ : List Row
   pub kept : changed ≡ false → b′ ≡ b
   pub past : Past b b′ events events′
 
--- the lines stand first in the text, and the rest of it is as it was; the state and the event list are q's. Nothing else is open than `Left` says: the
--- answer, the text and the event list are equal to q's on their whole length
-pub record Runs (q : Run) (b b′ : Buffers) (events events′ : List Row) (out out′ : List ℕ) (r : Ran) : Type 0 where
+-- the lines stand first in the text, and the rest of it is as it was; the answer is q's
+pub record Printed (S : Type 0) (q : Run S) (out out′ : List ℕ) (r : Ran) : Type 0 where
   pub index : r .index ≡ q .index
   pub written : r .written ≡ length (q .text)
   pub goes-on : r .«goes_on» ≡ q .goesOn
   pub text : out′ ≡ q .text ++ drop (length (q .text)) out
+
+-- and the state and the event list are q's. Nothing else is open than `Left` says: the answer, the text and the event list are equal to q's on their whole length
+pub record Runs (q : Run LentState) (b b′ : Buffers) (events events′ : List Row) (out out′ : List ℕ) (r : Ran) : Type 0 where
+  pub printed : Printed LentState q out out′ r
   pub shows : lentBy b′ events′ ≡ q .lent
   pub left : Left (q .changed) b b′ events events′

@@ -2,13 +2,13 @@
 // file comes in pieces, cut anywhere; reading and writing are the caller's.
 ghost use mathlib.Core.Path.{_≡_};
 ghost use mathlib.Core.Bool.{_&&_};
-ghost use Prim.Native.Nat.{_+_, _*_, _≤_};
+ghost use Prim.Native.Nat.{_+_, _≤_};
 ghost use lib.Dec.{eqb, ltb, leb};
-ghost use lib.ListN.{length, take, getD};
+ghost use lib.ListN.{length, getD};
 ghost use Rattle.definition.specs.Layout.{statsAt, lengthsOf, bufferStep, lent};
 ghost use Rattle.engine.specs.Called.{Called};
 ghost use Rattle.callfile.specs.Placed.{Puts, PutLine};
-ghost use Rattle.running.specs.Running.{eventRowsText, callLines, outcomeOf, lentBy, blockCalls, runCalls, runBlock, Runs};
+ghost use Rattle.running.specs.Running.{callLines, outcomeOf, lentBy, blockCalls, eachCall, eachOfBlock, runCall, Runs};
 ghost use Rattle.running.specs.Files.{TakesPiece, unreadAs, begunAs, isUnfinished, restLine, lastLines};
 use callfile::Reading;
 use callfile::Took;
@@ -31,20 +31,6 @@ pub struct Ran {
     pub goes_on: bool,
 }
 
-// The lines of the first n events.
-fn put_events(out: &mut [u8], from: usize, events: &[Event], n: usize) -> usize
-    requires { ⌜ (n ≤ length (now events)) × (from + 128 * n ≤ length (now out)) ⌝ }
-    ensures { λ r. ⌜ Puts (eventRowsText (take n (now (events .entry)))) from (now (out .entry)) r (now (out .exit)) ⌝ }
-{
-    let mut at = from;
-    let mut i = 0;
-    while i < n {
-        at = callfile::put_event(out, at, events[i]);
-        i += 1;
-    }
-    at
-}
-
 // A call, and its lines from `at` on; the place after them.
 fn run_call(
     head: &mut [u64],
@@ -62,7 +48,7 @@ fn run_call(
 {
     let r = engine::call(head, subs, rows, events, c);
     let next = callfile::put_call(out, at, index, r.refusal, r.answer);
-    put_events(out, next, events, r.events)
+    callfile::put_events(out, next, events, r.events)
 }
 
 // The calls of a block, and their lines.
@@ -77,7 +63,7 @@ fn run_calls(
     out: &mut [u8],
 ) -> Ran
     requires { ⌜ (count ≤ 7) × (489216 ≤ length (now out)) ⌝ }
-    ensures { λ r. ⌜ Runs (runCalls (lengthsOf (lent (now (head .entry)) (now (subs .entry)) (now (rows .entry))) (length (now (events .entry)))) (blockCalls 0 count (now (block .entry))) from (lentBy (lent (now (head .entry)) (now (subs .entry)) (now (rows .entry))) (now (events .entry)))) (lent (now (head .entry)) (now (subs .entry)) (now (rows .entry))) (lent (now (head .exit)) (now (subs .exit)) (now (rows .exit))) (now (events .entry)) (now (events .exit)) (now (out .entry)) (now (out .exit)) r ⌝ }
+    ensures { λ r. ⌜ Runs (eachCall (runCall (lengthsOf (lent (now (head .entry)) (now (subs .entry)) (now (rows .entry))) (length (now (events .entry))))) (blockCalls 0 count (now (block .entry))) from (lentBy (lent (now (head .entry)) (now (subs .entry)) (now (rows .entry))) (now (events .entry)))) (lent (now (head .entry)) (now (subs .entry)) (now (rows .entry))) (lent (now (head .exit)) (now (subs .exit)) (now (rows .exit))) (now (events .entry)) (now (events .exit)) (now (out .entry)) (now (out .exit)) r ⌝ }
 {
     let mut index = from;
     let mut at = 0;
@@ -108,7 +94,7 @@ fn run_block(
     out: &mut [u8],
 ) -> Ran
     requires { ⌜ 489216 ≤ length (now out) ⌝ }
-    ensures { λ r. ⌜ Runs (runBlock (lengthsOf (lent (now (head .entry)) (now (subs .entry)) (now (rows .entry))) (length (now (events .entry)))) (now (block .entry)) index number (lentBy (lent (now (head .entry)) (now (subs .entry)) (now (rows .entry))) (now (events .entry)))) (lent (now (head .entry)) (now (subs .entry)) (now (rows .entry))) (lent (now (head .exit)) (now (subs .exit)) (now (rows .exit))) (now (events .entry)) (now (events .exit)) (now (out .entry)) (now (out .exit)) r ⌝ }
+    ensures { λ r. ⌜ Runs (eachOfBlock (runCall (lengthsOf (lent (now (head .entry)) (now (subs .entry)) (now (rows .entry))) (length (now (events .entry))))) (now (block .entry)) index number (lentBy (lent (now (head .entry)) (now (subs .entry)) (now (rows .entry))) (now (events .entry)))) (lent (now (head .entry)) (now (subs .entry)) (now (rows .entry))) (lent (now (head .exit)) (now (subs .exit)) (now (rows .exit))) (now (events .entry)) (now (events .exit)) (now (out .entry)) (now (out .exit)) r ⌝ }
 {
     let count = callfile::calls_in(block, block.len());
     if count == 0 {
@@ -124,9 +110,9 @@ fn run_block(
 
 // ---- a file in pieces
 
-// Whether a block has its 512 places and is not whole yet, and no block's lines lack room.
-fn roomy(at: Reading, block: usize, out: usize) -> bool
-    ensures { λ r. ⌜ r ≡ (eqb block 512 && (ltb (at .have) 512 && leb 489216 out)) ⌝ }
+// Whether a block has its 512 places and is not whole yet, and the lines of one, at most so many bytes, do not lack room.
+pub fn roomy(at: Reading, block: usize, most: usize, out: usize) -> bool
+    ensures { λ r. ⌜ r ≡ (eqb block 512 && (ltb (at .have) 512 && leb most out)) ⌝ }
 {
     if block != callfile::BLOCK {
         return false;
@@ -134,11 +120,11 @@ fn roomy(at: Reading, block: usize, out: usize) -> bool
     if callfile::BLOCK <= at.have {
         return false;
     }
-    TEXT <= out
+    most <= out
 }
 
 // Nothing of a piece is taken, and reading has ended.
-fn unread(at: Reading, from: usize, len: usize) -> Took
+pub fn unread(at: Reading, from: usize, len: usize) -> Took
     ensures { λ r. ⌜ r ≡ unreadAs at from len ⌝ }
 {
     let reading = Reading {
@@ -162,7 +148,7 @@ fn unread(at: Reading, from: usize, len: usize) -> Took
 }
 
 // A block has so many bytes now, and is not whole yet.
-fn begun(at: Reading, have: usize, next: usize) -> Took
+pub fn begun(at: Reading, have: usize, next: usize) -> Took
     ensures { λ r. ⌜ r ≡ begunAs at have next ⌝ }
 {
     let reading = Reading {
@@ -193,7 +179,7 @@ pub fn run_piece(
 ) -> Took
     ensures { λ r. ⌜ TakesPiece at (now (piece .entry)) from (lent (now (head .entry)) (now (subs .entry)) (now (rows .entry))) (lent (now (head .exit)) (now (subs .exit)) (now (rows .exit))) (now (events .entry)) (now (events .exit)) (now (block .entry)) (now (block .exit)) (now (out .entry)) (now (out .exit)) r ⌝ }
 {
-    if !roomy(at, block.len(), out.len()) {
+    if !roomy(at, block.len(), TEXT, out.len()) {
         return unread(at, from, piece.len());
     }
     if !at.goes_on {
@@ -220,7 +206,7 @@ pub fn run_piece(
 }
 
 // A word of the head; 0 past its end.
-fn word(head: &[u64], k: usize) -> u64
+pub fn word(head: &[u64], k: usize) -> u64
     ensures { λ r. ⌜ r ≡ getD (now (head .entry)) k 0 ⌝ }
 {
     if head.len() <= k {
@@ -229,7 +215,8 @@ fn word(head: &[u64], k: usize) -> u64
     head[k]
 }
 
-fn counters(head: &[u64]) -> Stats
+// The counters.
+pub fn counters(head: &[u64]) -> Stats
     ensures { λ r. ⌜ r ≡ statsAt (now (head .entry)) ⌝ }
 {
     let enqueued = word(head, 7);
@@ -247,7 +234,7 @@ fn counters(head: &[u64]) -> Stats
 }
 
 // Whether a block was begun, or could not be read, at the end.
-fn unfinished(at: Reading, failed: bool) -> bool
+pub fn unfinished(at: Reading, failed: bool) -> bool
     ensures { λ r. ⌜ r ≡ isUnfinished at failed ⌝ }
 {
     if !at.goes_on {
@@ -259,10 +246,9 @@ fn unfinished(at: Reading, failed: bool) -> bool
     at.have != 0
 }
 
-// Its line.
-fn rest_line(at: Reading, failed: bool, out: &mut [u8]) -> usize
-    requires { ⌜ 128 ≤ length (now out) ⌝ }
-    ensures { λ r. ⌜ Puts (restLine at failed) 0 (now (out .entry)) r (now (out .exit)) ⌝ }
+// Its line, at the beginning.
+pub fn rest_line(at: Reading, failed: bool, out: &mut [u8]) -> usize
+    ensures { λ r. ⌜ PutLine 128 (restLine at failed) 0 (now (out .entry)) r (now (out .exit)) ⌝ }
 {
     if !unfinished(at, failed) {
         return 0;

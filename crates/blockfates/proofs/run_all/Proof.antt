@@ -1,61 +1,63 @@
 -- `blockfates::run_all` is safe and ends. Assumes nothing.
-use Prim.Native.Nat.{_-_, _≤_}
 use mathlib.Core.Path.{_≡_}
 use lib.ListN.{length}
+use native.Mathlib.Omega.{arith}
 use borrow.Author.Needs.{needs}
 use Rattle.blockfates.proofs.run_all.Statement.{statement}
 use Rattle.blockfates.proofs.run_all.Tie as tie
 
 abbrev Inv-loop : tie.InvT-loop
-Inv-loop fd head₀ subs₀ rows₀ events₀ held₀ left₀ gone₀ out₀ next₀ number₀ turns₀ head subs rows events held left gone out next number turns = (length head ≡ length head₀) × (length subs ≡ length subs₀) × (length rows ≡ length rows₀) × (length events ≡ length events₀) × (length held ≡ length held₀) × (length left ≡ length left₀) × (length gone ≡ length gone₀) × (length out ≡ length out₀)
+Inv-loop fd head₀ subs₀ rows₀ events₀ held₀ block₀ piece₀ out₀ at₀ kept₀ turns₀ head subs rows events held block piece out at kept turns =
+    (length head ≡ length head₀) × (length subs ≡ length subs₀) × (length rows ≡ length rows₀) × (length events ≡ length events₀) × (length held ≡ length held₀) × (length block ≡ length block₀) × (length piece ≡ length piece₀) × (length out ≡ length out₀)
 
 abbrev μ-loop : tie.MeasureT-loop
-μ-loop fd head₀ subs₀ rows₀ events₀ held₀ left₀ gone₀ out₀ next₀ number₀ turns₀ head subs rows events held left gone out next number turns = turns
+μ-loop fd head₀ subs₀ rows₀ events₀ held₀ block₀ piece₀ out₀ at₀ kept₀ turns₀ head subs rows events held block piece out at kept turns =
+    turns
+
+none-kept-requires : tie.Need-none-kept-requires Inv-loop μ-loop
+none-kept-requires c κs = search needs
 
 loop-holds : tie.Need-loop-holds Inv-loop μ-loop
 loop-holds c = search needs
 
-next-part-requires : tie.Need-next-part-requires Inv-loop μ-loop
-next-part-requires c κs = search needs
+next-piece-requires : tie.Need-next-piece-requires Inv-loop μ-loop
+next-piece-requires c κs = search needs
 
 same-length : tie.Need-same-length Inv-loop μ-loop
-same-length c = search needs
+same-length c = omega (arith, c .before .before .before .before .before .before .before .before .before .before .before .before .before .before .before .before .before .before .before .before .before .before .before .before .loop .inv)
 
 same-length-2 : tie.Need-same-length-2 Inv-loop μ-loop
-same-length-2 c = search needs
+same-length-2 c = omega (arith, c .before .before .before .before .before .before .before .before .before .before .before .before .before .before .before .before .before .before .before .before .before .before .before .before .loop .inv)
 
 same-length-3 : tie.Need-same-length-3 Inv-loop μ-loop
-same-length-3 c = search needs
+same-length-3 c = omega (arith, c .before .before .before .before .before .before .before .before .before .before .before .before .before .before .before .before .before .before .before .before .before .before .before .before .loop .inv)
 
 same-length-4 : tie.Need-same-length-4 Inv-loop μ-loop
-same-length-4 c = search needs
+same-length-4 c = omega (arith, c .before .before .before .before .before .before .before .before .before .before .before .before .before .before .before .before .before .before .before .before .before .before .before .before .loop .inv)
 
 same-length-5 : tie.Need-same-length-5 Inv-loop μ-loop
-same-length-5 c = search needs
+same-length-5 c = omega (arith, c .before .before .before .before .before .before .before .before .before .before .before .before .before .before .before .before .before .before .before .before .before .before .before .before .loop .inv)
 
 same-length-6 : tie.Need-same-length-6 Inv-loop μ-loop
-same-length-6 c = search needs
+same-length-6 c = omega (arith, c .before .before .before .before .before .before .before .before .before .before .before .before .before .before .before .before .before .before .before .before .before .before .before .before .loop .inv)
 
 same-length-7 : tie.Need-same-length-7 Inv-loop μ-loop
-same-length-7 c = search needs
+same-length-7 c = omega (arith, c .before .before .before .before .before .before .before .before .before .before .before .before .before .before .before .before .before .before .before .before .before .before .before .before .loop .inv)
 
 same-length-8 : tie.Need-same-length-8 Inv-loop μ-loop
-same-length-8 c = search needs
+same-length-8 c = omega (arith, c .before .before .before .before .before .before .before .before .before .before .before .before .before .before .before .before .before .before .before .before .before .before .before .before .loop .inv)
 
 returns : tie.Need-returns Inv-loop μ-loop
 returns c = search needs
 
-more-of-requires : tie.Need-more-of-requires Inv-loop μ-loop
-more-of-requires c κs = search needs
-
 sub-turns : tie.Need-sub-turns Inv-loop μ-loop
-sub-turns c = search needs
+sub-turns c = omega (arith, c .before .before .before .before .before .before .before .before .before .before .before .before .before .before .before .before .before .before .before .before .before .before .before .before .before .loop-test .taken)
 
 loop-less : tie.Need-loop-less Inv-loop μ-loop
-loop-less c = search needs
+loop-less c = omega (arith, c .before .before .before .before .before .before .before .before .before .before .before .before .before .before .before .before .before .before .before .before .before .before .before .before .before .loop-test .taken)
 
 loop-again : tie.Need-loop-again Inv-loop μ-loop
-loop-again c = search needs
+loop-again c = omega (arith, c .before .before .before .before .before .before .before .before .before .before .before .before .before .before .before .before .before .before .before .before .before .before .before .before .before .before .loop .inv)
 
 same-length-9 : tie.Need-same-length-9 Inv-loop μ-loop
 same-length-9 c = search needs
@@ -90,8 +92,9 @@ run-all-spec =
     (tie.spec
     Inv-loop
     μ-loop
+    none-kept-requires
     loop-holds
-    next-part-requires
+    next-piece-requires
     same-length
     same-length-2
     same-length-3
@@ -101,7 +104,6 @@ run-all-spec =
     same-length-7
     same-length-8
     returns
-    more-of-requires
     sub-turns
     loop-less
     loop-again

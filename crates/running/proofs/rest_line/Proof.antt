@@ -21,7 +21,7 @@ same-length : tie.Need-same-length
 same-length c = search needs
 
 returns-2 : tie.Need-returns-2
-returns-2 c = let a = c .before .before .before .before .before .before .before .args in rest-put (a .at) (a .failed) (now (a .out)) (sym (c .before .before .before .before .before .unfinished .ensures) ∙ not-false _ (c .before .before .before .before .if1 .left)) (c .before .before .before .before .before .before .before .pre) (c .before .before .put-bad .ensures)
+returns-2 c = let a = c .before .before .before .before .before .before .before .args in rest-put (a .at) (a .failed) (now (a .out)) (sym (c .before .before .before .before .before .unfinished .ensures) ∙ not-false _ (c .before .before .before .before .if1 .left)) (c .before .before .put-bad .ensures)
 
 pub rest-line-spec : {M : Type 1} → statement M
 rest-line-spec = tie.close (tie.spec unfinished-requires returns put-bad-requires same-length returns-2)

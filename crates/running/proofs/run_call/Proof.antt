@@ -2,7 +2,7 @@
 use denote.Ref.{now}
 use lib.ListN.{length}
 use Rattle.running.proofs.Sending.{events-fit}
-use Rattle.running.proofs.Called.{sends, all-there, as-told, room-left, printed}
+use Rattle.running.proofs.Called.{sends, as-told, printed}
 use borrow.Author.Needs.{needs}
 use Rattle.running.proofs.run_call.Statement.{statement}
 use Rattle.running.proofs.run_call.Tie as tie
@@ -15,11 +15,7 @@ put-call-requires : tie.Need-put-call-requires
 put-call-requires c κs = search needs
 
 put-events-requires : tie.Need-put-events-requires
-put-events-requires c κs =
-    let k = c .before .before .before .before .before .before .before .before .before .before .before .call in
-    let a = c .before .before .before .before .before .before .before .before .before .before .before .before .before .before .before .before .before .before .args in
-    let few = sends (lent (now (a .head)) (now (a .subs)) (now (a .rows))) (length (now (a .events))) (a .c .code) (a .c .words) in
-    (all-there (k .ensures), room-left (k .ensures) (a .index) few (c .before .before .before .before .before .before .before .before .before .before .before .before .before .before .before .before .before .before .pre) (c .before .before .before .before .put-call .ensures))
+put-events-requires c κs = search needs
 
 same-length : tie.Need-same-length
 same-length c = search needs

@@ -51,16 +51,16 @@ loop-again c =
     (c .before .before .before .before .before .before .before .before .before .before .before .before .before .before .before .loop-test .taken) (m .result) (m .ensures) (lent (k .last .0) (k .last .1 .0) (k .last .1 .1 .0)) (k .last .1 .1 .1 .0) (k .last .1 .1 .1 .1 .1 .1 .0) (k .result) (k .ensures .0) (k .ensures .1))
 
 same-length : tie.Need-same-length Inv-loop μ-loop
-same-length c = omega (arith, c .before .loop .inv .past .head-length)
+same-length c = omega (arith, c .before .loop .inv .left .past .head-length)
 
 same-length-2 : tie.Need-same-length-2 Inv-loop μ-loop
-same-length-2 c = omega (arith, c .before .loop .inv .past .subs-length)
+same-length-2 c = omega (arith, c .before .loop .inv .left .past .subs-length)
 
 same-length-3 : tie.Need-same-length-3 Inv-loop μ-loop
-same-length-3 c = omega (arith, c .before .loop .inv .past .rows-length)
+same-length-3 c = omega (arith, c .before .loop .inv .left .past .rows-length)
 
 same-length-4 : tie.Need-same-length-4 Inv-loop μ-loop
-same-length-4 c = omega (arith, c .before .loop .inv .past .events-length)
+same-length-4 c = omega (arith, c .before .loop .inv .left .past .events-length)
 
 same-length-5 : tie.Need-same-length-5 Inv-loop μ-loop
 same-length-5 c = omega (arith, c .before .loop .inv .put .same)

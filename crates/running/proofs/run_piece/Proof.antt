@@ -1,17 +1,20 @@
 -- `running::run_piece` meets its contract. Assumes nothing.
-use mathlib.Core.Path.{_≡_, sym, ap, _∙_}
+use mathlib.Core.Path.{_≡_, refl, sym, ap, ap₂, _∙_}
 use mathlib.Core.Bool.{Bool, true, false, _&&_}
 use denote.Ref.{now}
 use borrow.Author.Tests.{not-true, not-false}
-use lib.ListN.{length, drop, length-take, length-drop}
+use lib.ListN.{length, take, drop, length-take, length-drop}
 use Prim.Native.Nat.{_-_}
+use Rattle.running.specs.Running.{lentBy, runCall}
 use Rattle.running.specs.Files.{roomy}
-use Rattle.running.proofs.Files.{fits-block, unfilled-block, text-room, not-read, few, reads-part, reads-whole}
+use Rattle.running.proofs.Blocks.{left-none}
+use Rattle.running.proofs.Steps.{fits-block, unfilled-block, text-room, not-read, few, reads-part, reads-whole}
+use Rattle.running.proofs.Files.{takes}
 use native.Mathlib.Omega.{arith}
 use borrow.Author.Needs.{needs}
 use Rattle.running.proofs.run_piece.Statement.{statement}
 use Rattle.running.proofs.run_piece.Tie as tie
-use Rattle.definition.specs.Layout.{lent}
+use Rattle.definition.specs.Layout.{lengthsOf, lent}
 
 roomy-requires : tie.Need-roomy-requires
 roomy-requires c κs = search needs
@@ -22,8 +25,8 @@ unread-requires c κs = search needs
 returns : tie.Need-returns
 returns c =
     let a = c .before .before .before .before .before .before .before .args in
-    let e : roomy (a .at) (now (a .block)) (now (a .out)) ≡ false = sym (c .before .before .roomy .ensures) ∙ not-true _ (c .before .if1 .taken) in
-    not-read (a .at) (now (a .piece)) (a .from) (lent (now (a .head)) (now (a .subs)) (now (a .rows))) (now (a .events)) (now (a .block)) (now (a .out)) (ap (λ (t : Bool). t && a .at .«goes_on») e) (c .unread .ensures)
+    let e : roomy 489216 (a .at) (now (a .block)) (now (a .out)) ≡ false = sym (c .before .before .roomy .ensures) ∙ not-true _ (c .before .if1 .taken) in
+    takes (a .at) (now (a .piece)) (a .from) (lent (now (a .head)) (now (a .subs)) (now (a .rows))) (lent (now (a .head)) (now (a .subs)) (now (a .rows))) (now (a .events)) (now (a .events)) (now (a .block)) (now (a .block)) (now (a .out)) (now (a .out)) _ (not-read (runCall (lengthsOf (lent (now (a .head)) (now (a .subs)) (now (a .rows))) (length (now (a .events))))) (a .at) (now (a .piece)) (a .from) (lentBy (lent (now (a .head)) (now (a .subs)) (now (a .rows))) (now (a .events))) (now (a .block)) (now (a .out)) (roomy 489216 (a .at) (now (a .block)) (now (a .out)) && a .at .«goes_on») (ap (λ (t : Bool). t && a .at .«goes_on») e) (c .unread .ensures)) refl (left-none (lent (now (a .head)) (now (a .subs)) (now (a .rows))) (now (a .events)))
 
 unread-requires-2 : tie.Need-unread-requires-2
 unread-requires-2 c κs = search needs
@@ -31,8 +34,8 @@ unread-requires-2 c κs = search needs
 returns-2 : tie.Need-returns-2
 returns-2 c =
     let a = c .before .before .before .before .before .before .before .before .before .args in
-    let e : roomy (a .at) (now (a .block)) (now (a .out)) ≡ true = sym (c .before .before .before .before .roomy .ensures) ∙ not-false _ (c .before .before .before .if1 .left) in
-    not-read (a .at) (now (a .piece)) (a .from) (lent (now (a .head)) (now (a .subs)) (now (a .rows))) (now (a .events)) (now (a .block)) (now (a .out)) (ap (λ (t : Bool). t && a .at .«goes_on») e ∙ not-true _ (c .before .if2 .taken)) (c .unread2 .ensures)
+    let e : roomy 489216 (a .at) (now (a .block)) (now (a .out)) ≡ true = sym (c .before .before .before .before .roomy .ensures) ∙ not-false _ (c .before .before .before .if1 .left) in
+    takes (a .at) (now (a .piece)) (a .from) (lent (now (a .head)) (now (a .subs)) (now (a .rows))) (lent (now (a .head)) (now (a .subs)) (now (a .rows))) (now (a .events)) (now (a .events)) (now (a .block)) (now (a .block)) (now (a .out)) (now (a .out)) _ (not-read (runCall (lengthsOf (lent (now (a .head)) (now (a .subs)) (now (a .rows))) (length (now (a .events))))) (a .at) (now (a .piece)) (a .from) (lentBy (lent (now (a .head)) (now (a .subs)) (now (a .rows))) (now (a .events))) (now (a .block)) (now (a .out)) (roomy 489216 (a .at) (now (a .block)) (now (a .out)) && a .at .«goes_on») (ap (λ (t : Bool). t && a .at .«goes_on») e ∙ not-true _ (c .before .if2 .taken)) (c .unread2 .ensures)) refl (left-none (lent (now (a .head)) (now (a .subs)) (now (a .rows))) (now (a .events)))
 
 fill-requires : tie.Need-fill-requires
 fill-requires c κs = search needs
@@ -41,14 +44,15 @@ add-have : tie.Need-add-have
 add-have c =
     let a = c .before .before .before .before .before .before .before .before .before .before .before .before .before .args in
     let f = c .before .before .before .fill in
-    let e : roomy (a .at) (now (a .block)) (now (a .out)) ≡ true = sym (c .before .before .before .before .before .before .before .before .roomy .ensures) ∙ not-false _ (c .before .before .before .before .before .before .before .if1 .left) in
-    omega (arith, few (a .at) (now (a .piece)) (a .from) (lent (now (a .head)) (now (a .subs)) (now (a .rows))) (now (a .events)) (now (a .block)) (now (a .out)) (fits-block (a .at) (now (a .block)) (now (a .out)) e) (unfilled-block (a .at) (now (a .block)) (now (a .out)) e) (f .result) (f .last .0) (f .ensures))
+    let e : roomy 489216 (a .at) (now (a .block)) (now (a .out)) ≡ true = sym (c .before .before .before .before .before .before .before .before .roomy .ensures) ∙ not-false _ (c .before .before .before .before .before .before .before .if1 .left) in
+    omega (arith, few (runCall (lengthsOf (lent (now (a .head)) (now (a .subs)) (now (a .rows))) (length (now (a .events))))) (a .at) (now (a .piece)) (a .from) (lentBy (lent (now (a .head)) (now (a .subs)) (now (a .rows))) (now (a .events))) (now (a .block)) (now (a .out)) (fits-block 489216 (a .at) (now (a .block)) (now (a .out)) e) (unfilled-block 489216 (a .at) (now (a .block)) (now (a .out)) e) (f .result) (f .last .0) (f .ensures))
 
 add-next : tie.Need-add-next
 add-next c =
     let a = c .before .before .before .before .before .before .before .before .before .before .before .before .before .args in
     let f = c .before .before .before .fill in
-    omega (arith, f .ensures .count, length-take (length (now (a .block)) - a .at .have) (drop (a .from) (now (a .piece))), length-drop (a .from) (now (a .piece)))
+    let e : f .result ≡ length (take (length (now (a .block)) - a .at .have) (drop (a .from) (now (a .piece)))) = f .ensures .count in
+    omega (arith, c .before .before .before .before .before .before .before .before .before .before .before .before .before .good .1 .1 .1 .1 .1 .1 .0, e, length-take (length (now (a .block)) - a .at .have) (drop (a .from) (now (a .piece))), length-drop (a .from) (now (a .piece)))
 
 begun-requires : tie.Need-begun-requires
 begun-requires c κs = search needs
@@ -60,14 +64,14 @@ returns-3 : tie.Need-returns-3
 returns-3 c =
     let a = c .before .before .before .before .before .before .before .before .before .before .before .before .before .before .before .args in
     let f = c .before .before .before .before .before .fill in
-    let e : roomy (a .at) (now (a .block)) (now (a .out)) ≡ true = sym (c .before .before .before .before .before .before .before .before .before .before .roomy .ensures) ∙ not-false _ (c .before .before .before .before .before .before .before .before .before .if1 .left) in
-    reads-part (a .at) (now (a .piece)) (a .from) (lent (now (a .head)) (now (a .subs)) (now (a .rows))) (now (a .events)) (now (a .block)) (now (a .out)) (fits-block (a .at) (now (a .block)) (now (a .out)) e) (unfilled-block (a .at) (now (a .block)) (now (a .out)) e) (f .result) (f .last .0) (f .ensures) (text-room (a .at) (now (a .block)) (now (a .out)) e) (not-false _ (c .before .before .before .before .before .before .before .if2 .left)) (c .before .if3 .taken) (c .begun .ensures)
+    let e : roomy 489216 (a .at) (now (a .block)) (now (a .out)) ≡ true = sym (c .before .before .before .before .before .before .before .before .before .before .roomy .ensures) ∙ not-false _ (c .before .before .before .before .before .before .before .before .before .if1 .left) in
+    takes (a .at) (now (a .piece)) (a .from) (lent (now (a .head)) (now (a .subs)) (now (a .rows))) (lent (now (a .head)) (now (a .subs)) (now (a .rows))) (now (a .events)) (now (a .events)) (now (a .block)) (f .last .0) (now (a .out)) (now (a .out)) _ (reads-part (runCall (lengthsOf (lent (now (a .head)) (now (a .subs)) (now (a .rows))) (length (now (a .events))))) (a .at) (now (a .piece)) (a .from) (lentBy (lent (now (a .head)) (now (a .subs)) (now (a .rows))) (now (a .events))) (now (a .block)) (now (a .out)) (fits-block 489216 (a .at) (now (a .block)) (now (a .out)) e) (unfilled-block 489216 (a .at) (now (a .block)) (now (a .out)) e) (f .result) (f .last .0) (f .ensures) (roomy 489216 (a .at) (now (a .block)) (now (a .out)) && a .at .«goes_on») (ap₂ (λ (x y : Bool). x && y) e (not-false _ (c .before .before .before .before .before .before .before .if2 .left))) (c .before .if3 .taken) (c .begun .ensures)) refl (left-none (lent (now (a .head)) (now (a .subs)) (now (a .rows))) (now (a .events)))
 
 run-block-requires : tie.Need-run-block-requires
 run-block-requires c κs =
     let a = c .before .before .before .before .before .before .before .before .before .before .before .before .before .before .before .before .before .before .before .before .args in
-    let e : roomy (a .at) (now (a .block)) (now (a .out)) ≡ true = sym (c .before .before .before .before .before .before .before .before .before .before .before .before .before .before .before .roomy .ensures) ∙ not-false _ (c .before .before .before .before .before .before .before .before .before .before .before .before .before .before .if1 .left) in
-    text-room (a .at) (now (a .block)) (now (a .out)) e
+    let e : roomy 489216 (a .at) (now (a .block)) (now (a .out)) ≡ true = sym (c .before .before .before .before .before .before .before .before .before .before .before .before .before .before .before .roomy .ensures) ∙ not-false _ (c .before .before .before .before .before .before .before .before .before .before .before .before .before .before .if1 .left) in
+    text-room 489216 (a .at) (now (a .block)) (now (a .out)) e
 
 more-of-requires : tie.Need-more-of-requires
 more-of-requires c κs = search needs
@@ -94,8 +98,9 @@ returns-4 : tie.Need-returns-4
 returns-4 c =
     let a = c .before .before .before .before .before .before .before .before .before .before .before .before .before .before .before .before .before .before .before .before .before .before .before .before .before .before .before .before .before .args in
     let f = c .before .before .before .before .before .before .before .before .before .before .before .before .before .before .before .before .before .before .before .fill in
-    let e : roomy (a .at) (now (a .block)) (now (a .out)) ≡ true = sym (c .before .before .before .before .before .before .before .before .before .before .before .before .before .before .before .before .before .before .before .before .before .before .before .before .roomy .ensures) ∙ not-false _ (c .before .before .before .before .before .before .before .before .before .before .before .before .before .before .before .before .before .before .before .before .before .before .before .if1 .left) in
-    reads-whole (a .at) (now (a .piece)) (a .from) (lent (now (a .head)) (now (a .subs)) (now (a .rows))) (now (a .events)) (now (a .block)) (now (a .out)) (fits-block (a .at) (now (a .block)) (now (a .out)) e) (unfilled-block (a .at) (now (a .block)) (now (a .out)) e) (f .result) (f .last .0) (f .ensures) (text-room (a .at) (now (a .block)) (now (a .out)) e) (not-false _ (c .before .before .before .before .before .before .before .before .before .before .before .before .before .before .before .before .before .before .before .before .before .if2 .left)) (c .before .before .before .before .before .before .before .before .before .before .before .before .before .before .before .if3 .left) (c .before .before .before .before .before .before .before .before .run-block .ensures) (c .more-of .ensures)
+    let e : roomy 489216 (a .at) (now (a .block)) (now (a .out)) ≡ true = sym (c .before .before .before .before .before .before .before .before .before .before .before .before .before .before .before .before .before .before .before .before .before .before .before .before .roomy .ensures) ∙ not-false _ (c .before .before .before .before .before .before .before .before .before .before .before .before .before .before .before .before .before .before .before .before .before .before .before .if1 .left) in
+    let k = c .before .before .before .before .before .before .before .before .run-block in
+    takes (a .at) (now (a .piece)) (a .from) (lent (now (a .head)) (now (a .subs)) (now (a .rows))) (lent (k .last .0) (k .last .1 .0) (k .last .1 .1 .0)) (now (a .events)) (k .last .1 .1 .1 .0) (now (a .block)) (f .last .0) (now (a .out)) (k .last .1 .1 .1 .1 .1 .1 .1 .0) _ (reads-whole (runCall (lengthsOf (lent (now (a .head)) (now (a .subs)) (now (a .rows))) (length (now (a .events))))) (a .at) (now (a .piece)) (a .from) (lentBy (lent (now (a .head)) (now (a .subs)) (now (a .rows))) (now (a .events))) (now (a .block)) (now (a .out)) (fits-block 489216 (a .at) (now (a .block)) (now (a .out)) e) (unfilled-block 489216 (a .at) (now (a .block)) (now (a .out)) e) (f .result) (f .last .0) (f .ensures) (roomy 489216 (a .at) (now (a .block)) (now (a .out)) && a .at .«goes_on») (ap₂ (λ (x y : Bool). x && y) e (not-false _ (c .before .before .before .before .before .before .before .before .before .before .before .before .before .before .before .before .before .before .before .before .before .if2 .left))) (c .before .before .before .before .before .before .before .before .before .before .before .before .before .before .before .if3 .left) (k .last .1 .1 .1 .1 .1 .1 .1 .0) (k .result) (k .ensures .printed) _ (c .more-of .ensures)) (k .ensures .shows) (k .ensures .left)
 
 pub run-piece-spec : {M : Type 1} → statement M
 run-piece-spec =

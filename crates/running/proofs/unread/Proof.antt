@@ -1,5 +1,5 @@
 -- `running::unread` meets its contract. Assumes nothing.
-use Rattle.running.proofs.Files.{passed-by, passed-over}
+use Rattle.running.proofs.Steps.{passed-by, passed-over}
 use native.Mathlib.Omega.{arith}
 use borrow.Author.Needs.{needs}
 use Rattle.running.proofs.unread.Statement.{statement}

@@ -1,0 +1,5 @@
+pub mod Telling
+pub mod Turns
+pub mod Hearing
+pub mod ReportAlong
+pub mod ReportBooks

@@ -1,0 +1,4 @@
+pub mod Reporting
+pub mod ReportFiles
+pub mod ReportBooks
+pub mod ReportCases
