@@ -13,26 +13,25 @@ use Rattle.words.specs.Words.{unsigned, int}
 use Rattle.entry.specs.Entry.{entryOf, oneMore, redelivered}
 use Rattle.definition.specs.Base.{if_then_else_, keep, tally, find, all}
 use Rattle.definition.specs.Types.{Inflight, Sub}
-use Rattle.definition.specs.Consumer.{dseqOf, bySeq, freedAs, bumped}
+use Rattle.model.specs.declared.AckRange.{AckRange}
+use Rattle.definition.specs.Consumer.{Ack, dseqOf, bySeq, or0, freedAs, bumped}
 use Rattle.definition.specs.Words.{present}
 use Rattle.definition.specs.Layout.{Row, flag, inflightAt}
 use Rattle.definition.proofs.Tests.{by-test, and-left, and-right}
 use Rattle.entry.specs.declared.Found.the-variants.{At, Nothing}
 use Rattle.table.specs.Table.{dseqBetween, freedRow, markRow, raisedRow, redeliverRow, findFrom, findSeq}
+use Rattle.table.proofs.Lists.{both-hold, guarded}
 use Rattle.table.proofs.Bounds.{find-in}
 use Rattle.table.proofs.Rows.{word-kept, freed-entry, freed-is, raised-entry, below, above}
 use Rattle.table.proofs.Segments.{tally-map, keep-map}
 use Rattle.table.proofs.Search.{find-from-at, find-at}
 use Rattle.acks.specs.declared.Span.{Span}
-use Rattle.acks.specs.Rules.{inSpan}
+use Rattle.acks.specs.Rules.{inSpan, spanOf, numberIn, rowsIn, spanIn}
 use Rattle.acks.specs.Parts.{fullRow}
 
 -- ---- by_seq
 
-abbrev seen : List Row → ℕ → Option ℕ
-seen f q = dseqOf (find (λ i. eqb (i .entry .seq) q) (map inflightAt f))
-
-seen-at : (n q j : ℕ) (f : List Row) → findFrom n q f ≡ At j → seen f q ≡ some (getD (getD f (j - n) []) 6 0)
+seen-at : (n q j : ℕ) (f : List Row) → findFrom n q f ≡ At j → numberIn f (some q) ≡ some (getD (getD f (j - n) []) 6 0)
 unfolding findFrom entryOf
 seen-at n q j [] e = absurd (let z : _≡_ {A = ℕ} 0 1 = cc in omega arith)
 seen-at n q j (r ∷ f) e = by-test (eqb (getD r 0 0) q)
@@ -46,39 +45,56 @@ seen-at n q j (r ∷ f) e = by-test (eqb (getD r 0 0) q)
     let z : j - n ≡ suc (j - suc n) = omega (arith, find-from-at (suc n) q j f x) in
     rw (t, z) (seen-at (suc n) q j f x))
 
-seen-none : (n q : ℕ) (f : List Row) → findFrom n q f ≡ Nothing → seen f q ≡ none
+seen-none : (n q : ℕ) (f : List Row) → findFrom n q f ≡ Nothing → numberIn f (some q) ≡ none
 unfolding findFrom entryOf
 seen-none n q [] e = refl
 seen-none n q (r ∷ f) e = by-test (eqb (getD r 0 0) q)
     (λ t. let x : At n ≡ Nothing = rw t at e in absurd (let z : _≡_ {A = ℕ} 0 1 = cc in omega arith))
     (λ t. rw t (seen-none (suc n) q f (rw t at e)))
 
-module _ (from to q : ℕ) (rows : List Row) (h : from ≤ to) (b : to ≤ length rows) (s : Sub) (e : s .inflight ≡ map inflightAt (slice from to rows)) where
-  pub by-seq-at : (j : ℕ) → findSeq from to q rows ≡ At j → bySeq s (some q) ≡ some (getD (getD rows j []) 6 0)
-  unfolding bySeq
-  by-seq-at j x =
+pub rows-in : (from to : ℕ) (rows : List Row) → from ≤ to → to ≤ length rows → rowsIn from to rows ≡ slice from to rows
+rows-in from to rows h b = both-hold from to to (length rows) (slice from to rows) [] h b
+
+module _ (from to q : ℕ) (rows : List Row) where
+  pub number-at : (j : ℕ) → findSeq from to q rows ≡ At j → numberIn (rowsIn from to rows) (some q) ≡ some (getD (getD rows j []) 6 0)
+  number-at j x =
       let w = find-at from to q j rows x in
+      let h : from ≤ to = omega arith in
+      let b : to ≤ length rows = omega arith in
       let u : from + (j - from) ≡ j = omega arith in
       let row : getD (slice from to rows) (j - from) [] ≡ getD rows j [] =
       getD-drop from (take to rows) (j - from) [] ∙ ap (λ (n : ℕ). getD (take to rows) n []) u ∙ getD-take to rows j [] (omega arith) in
-      ap (λ (l : List Inflight). dseqOf (find (λ i. eqb (i .entry .seq) q) l)) e
+      ap (λ (l : List Row). numberIn l (some q)) (rows-in from to rows h b)
       ∙ seen-at from q j (slice from to rows) (sym (find-in from to q rows h b) ∙ x)
       ∙ ap (λ (r : Row). some (getD r 6 0)) row
 
-  pub by-seq-none : findSeq from to q rows ≡ Nothing → bySeq s (some q) ≡ none
-  unfolding bySeq
-  by-seq-none x =
-      ap (λ (l : List Inflight). dseqOf (find (λ i. eqb (i .entry .seq) q) l)) e
-      ∙ seen-none from q (slice from to rows) (sym (find-in from to q rows h b) ∙ x)
+  pub number-none : findSeq from to q rows ≡ Nothing → numberIn (rowsIn from to rows) (some q) ≡ none
+  number-none x = guarded (λ (l : List Row). numberIn l (some q) ≡ none) from to to (length rows) (slice from to rows) []
+      (λ h b. seen-none from q (slice from to rows) (sym (find-in from to q rows h b) ∙ x))
+      refl
 
 -- a number that is given, and one that is not
-module _ (s : Sub) (b : Bool) (q : ℕ) where
-  pub by-seq-given : b ≡ true → bySeq s (present b q) ≡ bySeq s (some q)
-  by-seq-given e = ap (λ (x : Bool). bySeq s (present x q)) e
+module _ (l : List Row) (b : Bool) (q : ℕ) where
+  pub number-given : b ≡ true → numberIn l (present b q) ≡ numberIn l (some q)
+  number-given e = ap (λ (x : Bool). numberIn l (present x q)) e
 
-  pub by-seq-absent : b ≡ false → bySeq s (present b q) ≡ none
+  pub number-absent : b ≡ false → numberIn l (present b q) ≡ none
+  number-absent e = ap (λ (x : Bool). numberIn l (present x q)) e
+
+-- of a consumer with these rows in flight
+module _ (s : Sub) (l : List Row) (e : s .inflight ≡ map inflightAt l) where
+  number-seen : (o : Option ℕ) → numberIn l o ≡ bySeq s o
   unfolding bySeq
-  by-seq-absent e = ap (λ (x : Bool). bySeq s (present x q)) e
+  number-seen none = refl
+  number-seen (some q) = ap (λ (x : List Inflight). dseqOf (find (λ i. eqb (i .entry .seq) q) x)) (sym e)
+
+  span-seen : (range : AckRange) (a : Ack) → spanIn range a l ≡ spanOf range (or0 (bySeq s (a .first))) (bySeq s (a .last))
+  unfolding spanIn
+  span-seen range a = ap₂ (λ (f o : Option ℕ). spanOf range (or0 f) o) (number-seen (a .first)) (number-seen (a .last))
+
+pub span-rows : (range : AckRange) (a : Ack) (s : Sub) (from to : ℕ) (rows : List Row) → from ≤ to → to ≤ length rows → s .inflight ≡ map inflightAt (slice from to rows)
+    → spanIn range a (rowsIn from to rows) ≡ spanOf range (or0 (bySeq s (a .first))) (bySeq s (a .last))
+span-rows range a s from to rows h b e = ap (spanIn range a) (rows-in from to rows h b) ∙ span-seen s (slice from to rows) e range a
 
 -- ---- marked and raised
 

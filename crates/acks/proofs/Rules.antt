@@ -90,6 +90,11 @@ module _ (a : Ack) (s : Sub) where
   spans : (range : AckRange) → inSpan (spanOf range (or0 (bySeq s (a .first))) (bySeq s (a .last))) ≡ meant range
   spans range = λ j i. span-tests range (bySeq s (a .first)) (bySeq s (a .last)) i j
 
+  -- those from its first to its last
+  pub spans-between : inSpan (spanOf Between (or0 (bySeq s (a .first))) (bySeq s (a .last))) ≡ ackRange s a false
+  unfolding ackRange
+  spans-between = spans Between
+
   pub acts-plain : (r : AckRule) → r ≡ ackRule (a .type) → a .transacted ≡ false
       → acts (r .effect) (r .counts) (a .cause) (inSpan (spanOf (r .range) (or0 (bySeq s (a .first))) (bySeq s (a .last)))) s ≡ ackSub a s
   unfolding ackRule ackSub

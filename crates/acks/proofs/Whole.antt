@@ -98,6 +98,10 @@ module _ (subs rows events : List Row) (d : Head) (fits : Fits subs d (length ro
           discarded = fits .discarded;
         }
 
+    own-view : ownView k base s rows ≡ subIn k ws rows i
+    unfolding Value.rowSub
+    own-view = sym (sub-at k w _ _)
+
     module _ (step : Def.Sub → Step) (t : Sub) (r : Head) (rows′ events′ : List Row) (a : Acted step k base s t d r rows events rows′ events′) where
       abbrev subs′ : List Row
       subs′ = set subs i (subWords t)
@@ -133,10 +137,6 @@ module _ (subs rows events : List Row) (d : Head) (fits : Fits subs d (length ro
       tail-is : afterIn ws′ rows′ i ≡ ownAfter base t rows′
       unfolding subWords
       tail-is = ap₂ (λ (l : List Row) (x : Row). drop (heldCount x) (drop (inflightCount x) (drop (subRows l) rows′))) front mid
-
-      own-view : v ≡ subIn k ws rows i
-      unfolding Value.rowSub
-      own-view = sym (sub-at k w _ _)
 
       stored : subIn k ws′ rows′ i ≡ step (subIn k ws rows i) .sub
       unfolding subWords
@@ -287,6 +287,10 @@ module _ (subs rows events : List Row) (d : Head) (fits : Fits subs d (length ro
     module _ (b : ℕ) (x : Sub) (eb : b ≡ min 513 (subRows (take i subs))) (ex : x ≡ Value.rowSub (getD subs i [])) where
       pub own-at : Own (length rows) b x d
       own-at = rw (base-is b eb, sub-is x ex) own
+
+      pub found-own : (id : Id) → positionFrom 0 id ws ≡ At i → (ps : List Id) (us : List Audit) → subOf id (headView d subs rows ps us) ≡ some (ownView k b x rows)
+      unfolding headView
+      found-own id e ps us = found-at id ws i e k rows ∙ ap some (sym own-view) ∙ ap₂ (λ (m : ℕ) (y : Sub). some (ownView k m y rows)) (sym (base-is b eb)) (sym (sub-is x ex))
 
       pub acked-at : (c : Ack) (t : Sub) (r : Head) (subs′ rows′ events′ : List Row) → subs′ ≡ set subs i (subWords t) → Acted (ackSub c) k b x t d r rows events rows′ events′
           → (id : Id) → positionFrom 0 id ws ≡ At i → Leaves (acked id c) d r subs rows events subs′ rows′ events′ × Room d r

@@ -2,18 +2,22 @@
 -- say that this is `ackSub` of the definitions, type by type. Assumes nothing.
 use Prim.Native.Nat.{ℕ, min}
 use mathlib.Core.Bool.{Bool, true, false, not, _&&_}
-use mathlib.Core.List.{List, []}
+use mathlib.Core.List.{List, [], map}
 use mathlib.Core.Option.{Option, none, some}
-use lib.Dec.{leb}
+use lib.Dec.{leb, eqb}
+use lib.ListN.{length}
+use lib.Seq.{slice}
 use Rattle.model.specs.declared.AckRange.{AckRange}
 use Rattle.model.specs.declared.AckRange.the-variants.{Empty, Between, Cumulative, Last}
 use Rattle.model.specs.declared.AckEffect.{AckEffect}
 use Rattle.model.specs.declared.AckEffect.the-variants.{Stays, Frees, Marks, Removes, Redelivers}
 use Rattle.model.specs.declared.AckCount.{AckCount}
 use Rattle.model.specs.declared.AckCount.the-variants.{Uncounted, Dequeue, Expiry, DeadLetter}
-use Rattle.definition.specs.Base.{if_then_else_, keep, tally}
+use Rattle.definition.specs.Base.{if_then_else_, keep, tally, find}
 use Rattle.definition.specs.Types.{Inflight, Sub, Stats, Event}
-use Rattle.definition.specs.Consumer.{zeroStats, addDequeued, addExpired, addDiscarded, Step, isBrowser, free, removeInflight, redeliver, deadLetters}
+use Rattle.definition.specs.Consumer.{zeroStats, addDequeued, addExpired, addDiscarded, Step, isBrowser, Ack, dseqOf, or0, free, removeInflight, redeliver, deadLetters}
+use Rattle.definition.specs.Layout.{Row, inflightAt}
+use Rattle.table.specs.Table.{inside}
 use Rattle.acks.specs.declared.Span.{Span}
 
 -- ---- which
@@ -36,6 +40,19 @@ spanOf Last first (some last) = record { first = last; last = last }
 
 abbrev pub inSpan : Span → Inflight → Bool
 inSpan p i = inNumbers p (i .dseq)
+
+-- `by_seq` of rows in flight: the delivery number of the first with that sequence number
+abbrev pub numberIn : List Row → Option ℕ → Option ℕ
+numberIn l none = none
+numberIn l (some q) = dseqOf (find (λ i. eqb (i .entry .seq) q) (map inflightAt l))
+
+-- the rows from..to; none where they do not lie within the table
+abbrev pub rowsIn : ℕ → ℕ → List Row → List Row
+rowsIn from to rows = if inside from to (length rows) then slice from to rows else []
+
+-- what an ack means among rows in flight
+unfoldable pub spanIn : AckRange → Ack → List Row → Span
+spanIn range a l = spanOf range (or0 (numberIn l (a .first))) (numberIn l (a .last))
 
 -- ---- what
 

@@ -74,14 +74,14 @@ open-first : (lent : Lengths) (ws : List ℕ) (t : Dest) → openStep lent ws t 
 unfolding openStep
 open-first lent ws t = by-test (short lent) (λ c. rw c) (λ c. by-test (openWords ws) (λ d. rw (c, d)) (λ d. rw (c, d)))
 
-step-first : (lent : Lengths) (code : ℕ) (ws : List ℕ) (t : Dest) → step lent code ws t .refusal ≡ firstOf (checkPlaces lent code ws t)
+pub step-first : (lent : Lengths) (code : ℕ) (ws : List ℕ) (t : Dest) → step lent code ws t .refusal ≡ firstOf (checkPlaces lent code ws t)
 unfolding step decode
 step-first lent code ws t = by-test (eqb code 0)
     (λ e. ap (λ (r : Result). r .refusal) (if-true (openStep lent ws t) (callStep lent t (decode code ws)) e) ∙ open-first lent ws t ∙ ap (λ (k : ℕ). firstOf (checkPlaces lent k ws t)) (sym (eqb-true code 0 e)))
     (λ e. rw e (coded-first lent t (decode code ws) (firstOf (own code ws t)) (inRange-ok (read code ws)) (λ c q. read-own code ws t c (inRange-some (read code ws) c q))))
 
 -- a refused call changes nothing
-abbrev Kept : Dest → Result → Type 0
+abbrev pub Kept : Dest → Result → Type 0
 Kept t r = (r .refusal ≡ 0 → ⊥) → r ≡ refused (r .refusal) t
 
 call-kept : (lent : Lengths) (c : Call) (t : Dest) → Kept t (call lent c t)
@@ -93,7 +93,7 @@ unfolding callStep
 callStep-kept lent t none n = refl
 callStep-kept lent t (some c) n = call-kept lent c t n
 
-step-kept : (lent : Lengths) (code : ℕ) (ws : List ℕ) (t : Dest) → Kept t (step lent code ws t)
+pub step-kept : (lent : Lengths) (code : ℕ) (ws : List ℕ) (t : Dest) → Kept t (step lent code ws t)
 unfolding step openStep
 step-kept lent code ws t = by-if (Kept t) (eqb code 0) _ _
     (λ e. by-if (Kept t) (short lent) _ _ (λ c n. refl) (λ c. by-if (Kept t) (openWords ws) _ _ (λ d n. absurd (n refl)) (λ d n. refl)))

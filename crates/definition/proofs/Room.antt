@@ -163,7 +163,7 @@ dispatch-sends queue now t = by-test (empty (t .subs))
 
 -- ---- the rows of a sound state
 
-abbrev flights : List Sub → ℕ
+abbrev pub flights : List Sub → ℕ
 flights [] = 0
 flights (s ∷ ss) = length (s .inflight) + flights ss
 
@@ -172,11 +172,11 @@ rows-split [] = refl
 rows-split (s ∷ l) = omega (arith, length-append (rowsOf s) (consumerRows l), length-append (flying s) (s .tpending ++ snapshot s), length-append (s .tpending) (snapshot s), length-map (s .inflight) (λ i. i .entry), rows-split l)
 
 -- what a sound state's rows come to
-record Counted (t : Dest) : Type 0 where
-  rows : length (t .pending) + length (t .reserved) + flights (t .subs) + waitingRows (t .subs) ≤ 512
-  subs : length (t .subs) ≤ 32
+pub record Counted (t : Dest) : Type 0 where
+  pub rows : length (t .pending) + length (t .reserved) + flights (t .subs) + waitingRows (t .subs) ≤ 512
+  pub subs : length (t .subs) ≤ 32
 
-counted : (t : Dest) → sound t ≡ true → Counted t
+pub counted : (t : Dest) → sound t ≡ true → Counted t
 counted t e =
     let f = facts t e in
     record {
@@ -184,7 +184,7 @@ counted t e =
       subs = leb-true (length (t .subs)) 32 (f .few-subs);
     }
 
-found-flights : (p : Sub → Bool) (l : List Sub) (s : Sub) → find p l ≡ some s → length (s .inflight) ≤ flights l
+pub found-flights : (p : Sub → Bool) (l : List Sub) (s : Sub) → find p l ≡ some s → length (s .inflight) ≤ flights l
 found-flights p [] s f = absurd (none-some f)
 found-flights p (c ∷ l) s f = by-test (p c)
     (λ e. subst (λ (x : Sub). length (x .inflight) ≤ flights (c ∷ l)) (some-inj (sym (if-true (some c) (find p l) e) ∙ f)) (omega arith))
@@ -223,7 +223,7 @@ plain-events Unmatched a s = omega arith
 plain-events Expired a s = omega arith
 plain-events Other a s = omega arith
 
-ack-events : (a : Ack) (s : Sub) → length (ackSub a s .events) ≤ length (s .inflight)
+pub ack-events : (a : Ack) (s : Sub) → length (ackSub a s .events) ≤ length (s .inflight)
 unfolding ackSub
 ack-events a s = by-if (λ (t : Step). length (t .events) ≤ length (s .inflight)) (a .transacted) _ _ (λ q. omega arith) (λ q. plain-events (ackType (a .type)) a s)
 

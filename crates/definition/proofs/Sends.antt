@@ -52,12 +52,12 @@ module _ (L U : ℕ) (k : Kind) (N : ℕ) where
   reserved-letters Expired l = omega arith
   reserved-letters Other l = omega arith
 
-  record Took (t : Dest) (r : Out) : Type 0 where
-    events : length (r .events) ≤ length (t .reserved)
+  pub record Took (t : Dest) (r : Out) : Type 0 where
+    pub events : length (r .events) ≤ length (t .reserved)
     pending : r .dest .pending ≡ t .pending
     subs : r .dest .subs ≡ t .subs
 
-  took : (i : Id) (a : Ack) (t : Dest) (o : Option ℕ) → Took t (ackReserved i a t o)
+  pub took : (i : Id) (a : Ack) (t : Dest) (o : Option ℕ) → Took t (ackReserved i a t o)
   unfolding ackReserved
   took i a t none = record { events = omega arith; pending = refl; subs = refl }
   took i a t (some last) = record {

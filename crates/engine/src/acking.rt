@@ -2,7 +2,6 @@
 ghost use mathlib.Core.Path.{_≡_};
 ghost use mathlib.Core.Bool.{true, false};
 ghost use mathlib.Core.List.{List, map};
-ghost use mathlib.Core.Option.{some};
 ghost use Prim.Native.Nat.{_+_, _<_, _≤_};
 ghost use lib.ListN.{length, take};
 ghost use lib.Seq.{slice};
@@ -10,8 +9,7 @@ ghost use Rattle.model.specs.declared.Id.{Id};
 ghost use Rattle.model.specs.declared.AckEffect.the-variants.{Removes};
 ghost use Rattle.model.specs.declared.AckCount.the-variants.{DeadLetter};
 ghost use Rattle.definition.specs.Base.{if_then_else_, all, tally};
-ghost use Rattle.definition.specs.Types as Def;
-ghost use Rattle.definition.specs.Consumer.{or0, bySeq, free, redeliver, ackSub};
+ghost use Rattle.definition.specs.Consumer.{free, redeliver, ackSub};
 ghost use Rattle.definition.specs.Layout.{Row, inflightAt};
 ghost use Rattle.entry.specs.declared.Found.the-variants.{At};
 ghost use Rattle.consumers.specs.Table.{positionFrom};
@@ -19,14 +17,13 @@ ghost use Rattle.state.specs.State.{kindBy};
 ghost use Rattle.state.specs.Fits.{Fits};
 ghost use Rattle.state.specs.Leaves.{Leaves, Room};
 ghost use Rattle.acks.specs.Acks.{ackOf, acked};
-ghost use Rattle.acks.specs.Rules.{spanOf, inSpan, silently, acts, removedCounts, removedEvents};
+ghost use Rattle.acks.specs.Rules.{inSpan, silently, acts, removedCounts, removedEvents};
 ghost use Rattle.acks.specs.Parts.{fullRow, Own, Dying, Told, Acted};
 use acks::Ack;
 use acks::Span;
 use consumers::Sub;
 use consumers::SubRow;
 use entry::DSEQ;
-use entry::Found;
 use entry::Row;
 use model::AckCount;
 use model::AckEffect;
@@ -39,54 +36,6 @@ use state::Head;
 struct Acked {
     sub: Sub,
     head: Head,
-}
-
-// ---- which rows an ack means
-
-// The delivery number of the ack's first, among the rows from..to in flight; or 0.
-fn first_of(rows: &[Row], from: usize, to: usize, a: Ack) -> u64
-    requires { ⌜ (from ≤ to) × (to ≤ length (now rows)) ⌝ }
-    ensures { λ r. ⌜ ((s : Def.Sub) → s .inflight ≡ map inflightAt (slice from to (now (rows .entry))) → r ≡ or0 (bySeq s (ackOf a .first))) ⌝ }
-{
-    if !a.has_first {
-        return 0;
-    }
-    match table::find_seq(rows, from, to, a.first) {
-        Found::At(i) => rows[i][DSEQ],
-        Found::Nothing => 0,
-    }
-}
-
-// `ack_range`, or the last one alone: the delivery numbers that an ack means, among the rows from..to in flight.
-fn span_of(rows: &[Row], from: usize, to: usize, a: Ack, range: AckRange) -> Span
-    requires { ⌜ (from ≤ to) × (to ≤ length (now rows)) ⌝ }
-    ensures { λ r. ⌜ ((s : Def.Sub) → s .inflight ≡ map inflightAt (slice from to (now (rows .entry))) → r ≡ spanOf range (or0 (bySeq s (ackOf a .first))) (bySeq s (ackOf a .last))) ⌝ }
-{
-    if !a.has_last {
-        return Span::none();
-    }
-    match table::find_seq(rows, from, to, a.last) {
-        Found::At(i) => {
-            let last = rows[i][DSEQ];
-            let first = first_of(rows, from, to, a);
-            ranged(range, first, last)
-        }
-        Found::Nothing => Span::none(),
-    }
-}
-
-fn ranged(range: AckRange, first: u64, last: u64) -> Span
-    ensures { λ r. ⌜ r ≡ spanOf range first (some last) ⌝ }
-{
-    match range {
-        AckRange::Empty => Span::none(),
-        AckRange::Between => Span {
-            first: consumers::least(first, last),
-            last,
-        },
-        AckRange::Cumulative => Span { first: 0, last },
-        AckRange::Last => Span { first: last, last },
-    }
 }
 
 // ---- what becomes of them
@@ -268,7 +217,7 @@ fn ack_one(rows: &mut [Row], events: &mut [Event], base: usize, s: Sub, d: Head,
     let counts = rule.counts;
     let range = range_of(rule, a.transacted);
     let effect = effect_of(rule, a.transacted);
-    let p = span_of(rows, base, end, a, range);
+    let p = acks::span_of(rows, base, end, a, range);
     act(rows, events, base, s, d, p, effect, counts, a.cause)
 }
 

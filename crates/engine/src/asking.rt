@@ -3,39 +3,15 @@ ghost use mathlib.Core.Path.{_≡_};
 ghost use mathlib.Core.Bool.{true};
 ghost use Rattle.definition.specs.Base.{is-some};
 ghost use Rattle.definition.specs.Words.{decode};
-ghost use Rattle.definition.specs.Words as Words;
-ghost use Rattle.acks.specs.Acks.{ackOf};
 ghost use Rattle.state.specs.Ready.{Ready};
 ghost use Rattle.engine.specs.Performs.{PerformsBy};
 use crate::requests;
-use acks::Ack;
 use consumers::SubRow;
 use entry::Row;
 use model::Id;
 use state::Answer;
 use state::Event;
 use state::Head;
-
-// The ack in a call's words.
-fn ack_of(w: [u64; 8]) -> Ack
-    ensures { λ r. ⌜ ackOf r ≡ Words.ackIn w ⌝ }
-{
-    let flags = w[3];
-    let kind = calls::kind_of(flags);
-    let transacted = calls::flag_of(flags, 8);
-    let has_first = calls::flag_of(flags, 9);
-    let has_last = calls::flag_of(flags, 10);
-    let cause = calls::flag_of(flags, 11);
-    Ack {
-        first: w[4],
-        last: w[5],
-        kind,
-        transacted,
-        has_first,
-        has_last,
-        cause,
-    }
-}
 
 // Code 4.
 pub(crate) fn ask_ack(
@@ -49,7 +25,7 @@ pub(crate) fn ask_ack(
     ensures { λ r. ⌜ PerformsBy (decode 4 w) d r (now (subs .entry)) (now (rows .entry)) (now (events .entry)) (now (subs .exit)) (now (rows .exit)) (now (events .exit)) ⌝ }
 {
     let id = Id::of_words(w[0], w[1], w[2]);
-    let a = ack_of(w);
+    let a = acks::ack_of(w);
     let r = requests::ack(subs, rows, events, d, id, a, w[6]);
     Answer::done(0, r)
 }

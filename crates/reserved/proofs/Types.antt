@@ -15,7 +15,7 @@ use Rattle.model.specs.Model.{ruleOf, ackRule}
 use Rattle.definition.specs.Base.{keep}
 use Rattle.definition.specs.Types.{Id, Entry, Held, Dest, withReserved}
 use Rattle.definition.specs.Consumer.{AckType, Delivered, Poison, Standard, Redelivered, Individual, Unmatched, Expired, Other, ackType, Ack, or0, addDequeued}
-use Rattle.definition.specs.Destination.{count, heldBy, atLeast, reservedHit, reservedCounts, reservedEvents, ackReserved}
+use Rattle.definition.specs.Destination.{count, heldBy, reservedOf, atLeast, reservedHit, reservedCounts, reservedEvents, ackReserved}
 use Rattle.definition.proofs.Tests.{by-test}
 use Rattle.table.proofs.Segments.{keep-map}
 use Rattle.acks.specs.Rules.{noSpan, inNumbers}
@@ -69,7 +69,7 @@ events-by Other x = refl
 -- ---- lists
 
 module _ {A : Type 0} where
-  keep-keep : (p q : A → Bool) (l : List A) → keep p (keep q l) ≡ keep (λ x. q x && p x) l
+  pub keep-keep : (p q : A → Bool) (l : List A) → keep p (keep q l) ≡ keep (λ x. q x && p x) l
   keep-keep p q [] = refl
   keep-keep p q (x ∷ l) = by-test (q x)
       (λ t. by-test (p x) (λ u. rw (t, u) (ap (λ (m : List A). x ∷ m) (keep-keep p q l))) (λ u. rw (t, u) (keep-keep p q l)))
@@ -101,6 +101,10 @@ module _ (id : Id) (a : Ack) (t : Dest) (last : ℕ) where
       ap (λ (r : AckRange). entries (wants id (wantedOf r (a .first) last))) e
       ∙ ap (map (λ (h : Held). h .entry)) (keep-none (wants id noSpan) (t .reserved) (λ h. ap (λ (b : Bool). heldBy id h && b) (none-in (h .entry .seq)) ∙ and-false (heldBy id h)))
 
+  -- what it takes by the span
+  pub taken-by : (ty : AckType) → entries (wants id (wantedOf (ruleOf ty .reserved) (a .first) last)) ≡ keep (λ e. reservedHit (a .first) last e ty) (reservedOf id t)
+  taken-by ty = ap entries (wants-is ty) ∙ sym (taken-is ty)
+
   by-type : (ty : AckType) → taking id (ruleOf ty .counts) (wantedOf (ruleOf ty .reserved) (a .first) last) t
       ≡ record {
         dest = count (reservedCounts (keep (λ e. reservedHit (a .first) last e ty) (entries (heldBy id))) ty) (withReserved (keep (λ h. not (hit ty h)) (t .reserved)) t);
@@ -110,7 +114,7 @@ module _ (id : Id) (a : Ack) (t : Dest) (last : ℕ) where
   by-type ty =
       let q : Held → Bool = wants id (wantedOf (ruleOf ty .reserved) (a .first) last) in
       let w : q ≡ hit ty = wants-is ty in
-      let x : entries q ≡ keep (λ e. reservedHit (a .first) last e ty) (entries (heldBy id)) = ap entries w ∙ sym (taken-is ty) in
+      let x : entries q ≡ keep (λ e. reservedHit (a .first) last e ty) (entries (heldBy id)) = taken-by ty in
       let c : takenCounts (ruleOf ty .counts) (entries q) ≡ reservedCounts (keep (λ e. reservedHit (a .first) last e ty) (entries (heldBy id))) ty =
       counts-by ty (entries q) (none-taken ty) ∙ ap (λ (l : List Entry). reservedCounts l ty) x in
       let e : takenEvents (ruleOf ty .counts) (entries q) ≡ reservedEvents (keep (λ e. reservedHit (a .first) last e ty) (entries (heldBy id))) ty =

@@ -27,7 +27,7 @@ use state::Event;
 use state::Head;
 
 // Whether a row is reserved for that consumer, and has a number of the span.
-fn wanted(row: Row, id: Id, p: Span) -> bool
+pub fn wanted(row: Row, id: Id, p: Span) -> bool
     ensures { λ r. ⌜ r ≡ wantsRow id p row ⌝ }
 {
     if !consumers::is_for(row, id) {
@@ -62,8 +62,8 @@ fn first_of(a: Ack) -> u64
     if a.has_first { a.first } else { 0 }
 }
 
-// The sequence numbers that an ack means.
-fn numbers(range: AckRange, a: Ack) -> Span
+// The sequence numbers that an ack means, by its last, whether that is given or not.
+pub fn numbers(range: AckRange, a: Ack) -> Span
     ensures { λ r. ⌜ r ≡ wantedOf range (ackOf a .first) (a .last) ⌝ }
 {
     let last = a.last;

@@ -1,5 +1,7 @@
 -- `engine::acking::ack_one` meets its contract. Assumes nothing.
 use mathlib.Core.Path.{ap, _∙_}
+use Prim.Native.Nat.{_+_}
+use native.Mathlib.Omega.{arith}
 use denote.Ref.{now}
 use Rattle.model.specs.declared.AckEffect.{AckEffect}
 use Rattle.model.specs.declared.AckRule.{AckRule}
@@ -11,6 +13,7 @@ use Rattle.acks.specs.Acks.{ackOf}
 use Rattle.acks.specs.Rules.{inSpan, acts}
 use Rattle.acks.specs.Parts.{ownView}
 use Rattle.acks.proofs.Rules.{acts-either}
+use Rattle.acks.proofs.Flying.{span-rows}
 use Rattle.acks.proofs.Parts.{flies, acted-same}
 use borrow.Author.Needs.{needs}
 use Rattle.engine.proofs.acking.ack_one.Statement.{statement}
@@ -48,7 +51,7 @@ returns c =
     let effect : AckEffect = c .before .before .before .before .before .before .before .effect-of .result in
     let v : Sub = ownView (kindBy (a .d .queue)) (a .base) (a .s) (now (a .rows)) in
     acted-same _ (ackSub (ackOf (a .a))) (kindBy (a .d .queue)) (a .base) (a .s) _ (a .d) _ (now (a .rows)) (now (a .events)) _ _
-    (ap (λ (p : Span). acts effect (rule .counts) (a .a .cause) (inSpan p) v) (c .before .before .before .before .before .span-of .ensures v (flies (kindBy (a .d .queue)) (a .base) (a .s) (a .d) (now (a .rows)) own))
+    (ap (λ (p : Span). acts effect (rule .counts) (a .a .cause) (inSpan p) v) (c .before .before .before .before .before .span-of .ensures ∙ span-rows (c .before .before .before .before .before .before .before .before .range-of .result) (ackOf (a .a)) v (a .base) (a .base + a .s .inflight) (now (a .rows)) (omega arith) (omega (arith, own .rows, own .used, own .room)) (flies (kindBy (a .d .queue)) (a .base) (a .s) (a .d) (now (a .rows)) own))
     ∙ acts-either (ackOf (a .a)) v rule (c .before .before .before .before .before .before .before .before .before .before .of .ensures) (c .before .before .before .before .before .before .before .before .range-of .result) effect (c .before .before .before .before .before .before .before .before .range-of .ensures) (c .before .before .before .before .before .before .before .effect-of .ensures))
     (c .before .before .act .ensures)
 

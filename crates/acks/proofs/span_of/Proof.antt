@@ -1,26 +1,30 @@
--- `engine::acking::span_of` meets its contract. Assumes nothing.
+-- `acks::span_of` meets its contract. Assumes nothing.
 use mathlib.Core.Path.{sym, ap, ap₂, _∙_}
 use Prim.Native.Nat.{_<_}
 use borrow.Author.Tests.{not-true, not-false}
 use lib.ListN.{length}
 use denote.Ref.{now}
-use Rattle.definition.specs.Consumer.{or0, bySeq}
+use mathlib.Core.List.{List}
+use Rattle.definition.specs.Consumer.{or0}
+use Rattle.definition.specs.Layout.{Row}
 use Rattle.table.proofs.Search.{find-at}
 use Rattle.acks.specs.Acks.{ackOf}
-use Rattle.acks.specs.Rules.{spanOf}
-use Rattle.acks.proofs.Flying.{by-seq-at, by-seq-none, by-seq-given, by-seq-absent}
+use Rattle.acks.specs.Rules.{spanOf, numberIn, rowsIn, spanIn}
+use Rattle.acks.proofs.Flying.{number-at, number-none, number-given, number-absent}
 use native.Mathlib.Omega.{arith}
 use borrow.Author.Needs.{needs}
-use Rattle.engine.proofs.acking.span_of.Statement.{statement}
-use Rattle.engine.proofs.acking.span_of.Tie as tie
+use Rattle.acks.proofs.span_of.Statement.{statement}
+use Rattle.acks.proofs.span_of.Tie as tie
 
 none-requires : tie.Need-none-requires
 none-requires c κs = search needs
 
 returns : tie.Need-returns
+unfolding spanIn
 returns c =
     let a = c .before .before .before .args in
-    λ s e. c .none .ensures ∙ sym (ap (spanOf (a .range) (or0 (bySeq s (ackOf (a .a) .first)))) (by-seq-absent s (a .a .«has_last») (a .a .last) (not-true _ (c .before .if1 .taken))))
+    let l : List Row = rowsIn (a .from) (a .to) (now (a .rows)) in
+    c .none .ensures ∙ sym (ap (spanOf (a .range) (or0 (numberIn l (ackOf (a .a) .first)))) (number-absent l (a .a .«has_last») (a .a .last) (not-true _ (c .before .if1 .taken))))
 
 find-seq-requires : tie.Need-find-seq-requires
 find-seq-requires c κs = search needs
@@ -57,16 +61,18 @@ none-requires-2 : tie.Need-none-requires-2
 none-requires-2 c κs = search needs
 
 returns-2 : tie.Need-returns-2
+unfolding spanIn
 returns-2 c =
     let a = c .before .before .before .before .before .before .before .before .before .args in
-    let pre = c .before .before .before .before .before .before .before .before .before .pre in
-    λ s e. c .ranged .ensures ∙ ap₂ (spanOf (a .range)) (c .before .first-of .ensures s e) (sym (by-seq-given s (a .a .«has_last») (a .a .last) (not-false _ (c .before .before .before .before .before .before .before .if1 .left)) ∙ by-seq-at (a .from) (a .to) (a .a .last) (now (a .rows)) (pre .0) (pre .1) s e _ (sym (c .before .before .before .before .before .before .find-seq .ensures) ∙ c .before .before .before .before .i .given .1)))
+    let l : List Row = rowsIn (a .from) (a .to) (now (a .rows)) in
+    c .ranged .ensures ∙ ap₂ (spanOf (a .range)) (c .before .first-of .ensures) (sym (number-given l (a .a .«has_last») (a .a .last) (not-false _ (c .before .before .before .before .before .before .before .if1 .left)) ∙ number-at (a .from) (a .to) (a .a .last) (now (a .rows)) _ (sym (c .before .before .before .before .before .before .find-seq .ensures) ∙ c .before .before .before .before .i .given .1)))
 
 returns-3 : tie.Need-returns-3
+unfolding spanIn
 returns-3 c =
     let a = c .before .before .before .before .before .before .args in
-    let pre = c .before .before .before .before .before .before .pre in
-    λ s e. c .none2 .ensures ∙ sym (ap (spanOf (a .range) (or0 (bySeq s (ackOf (a .a) .first)))) (by-seq-given s (a .a .«has_last») (a .a .last) (not-false _ (c .before .before .before .before .if1 .left)) ∙ by-seq-none (a .from) (a .to) (a .a .last) (now (a .rows)) (pre .0) (pre .1) s e (sym (c .before .before .before .find-seq .ensures) ∙ c .before .enum-told .given .1)))
+    let l : List Row = rowsIn (a .from) (a .to) (now (a .rows)) in
+    c .none2 .ensures ∙ sym (ap (spanOf (a .range) (or0 (numberIn l (ackOf (a .a) .first)))) (number-given l (a .a .«has_last») (a .a .last) (not-false _ (c .before .before .before .before .if1 .left)) ∙ number-none (a .from) (a .to) (a .a .last) (now (a .rows)) (sym (c .before .before .before .find-seq .ensures) ∙ c .before .enum-told .given .1)))
 
 pub span-of-spec : {M : Type 1} → statement M
 span-of-spec =

@@ -1,46 +1,33 @@
--- `engine::asking::ack_of` meets its contract. Assumes nothing.
-use mathlib.Core.Path.{_≡_}
-use mathlib.Core.Bool.{Bool}
-use Prim.Native.Nat.{ℕ}
-use Rattle.definition.specs.Consumer.{Ack}
+-- `acks::ack_of` meets its contract. Assumes nothing.
 use Rattle.definition.specs.Words.{at, present}
 use borrow.Author.Needs.{needs}
-use Rattle.engine.proofs.asking.ack_of.Statement.{statement}
-use Rattle.engine.proofs.asking.ack_of.Tie as tie
+use Rattle.acks.proofs.ack_of.Statement.{statement}
+use Rattle.acks.proofs.ack_of.Tie as tie
 
--- src/asking.rt:23:17
 array-read-flags : tie.Need-array-read-flags
 array-read-flags c = search needs
 
--- src/asking.rt:24:9
 kind-of-requires : tie.Need-kind-of-requires
 kind-of-requires c κs = search needs
 
--- src/asking.rt:25:9
 flag-of-requires : tie.Need-flag-of-requires
 flag-of-requires c κs = search needs
 
--- src/asking.rt:26:9
 flag-of-requires-2 : tie.Need-flag-of-requires-2
 flag-of-requires-2 c κs = search needs
 
--- src/asking.rt:27:9
 flag-of-requires-3 : tie.Need-flag-of-requires-3
 flag-of-requires-3 c κs = search needs
 
--- src/asking.rt:28:9
 flag-of-requires-4 : tie.Need-flag-of-requires-4
 flag-of-requires-4 c κs = search needs
 
--- src/asking.rt:30:16
 array-read-t11 : tie.Need-array-read-t11
 array-read-t11 c = search needs
 
--- src/asking.rt:31:15
 array-read-t16 : tie.Need-array-read-t16
 array-read-t16 c = search needs
 
--- src/asking.rt:20:1
 returns : tie.Need-returns
 returns c =
     let a = c .before .before .before .before .before .args in

@@ -1,4 +1,4 @@
--- `engine::acking::first_of` meets its contract. Assumes nothing.
+-- `acks::first_of` meets its contract. Assumes nothing.
 use mathlib.Core.Path.{sym, ap, _∙_}
 use Prim.Native.Nat.{_<_}
 use borrow.Author.Tests.{not-true, not-false}
@@ -6,14 +6,17 @@ use lib.ListN.{length}
 use denote.Ref.{now}
 use Rattle.definition.specs.Consumer.{or0}
 use Rattle.table.proofs.Search.{find-at}
-use Rattle.acks.proofs.Flying.{by-seq-at, by-seq-none, by-seq-given, by-seq-absent}
+use Rattle.acks.specs.Rules.{rowsIn}
+use Rattle.acks.proofs.Flying.{number-at, number-none, number-given, number-absent}
 use native.Mathlib.Omega.{arith}
 use borrow.Author.Needs.{needs}
-use Rattle.engine.proofs.acking.first_of.Statement.{statement}
-use Rattle.engine.proofs.acking.first_of.Tie as tie
+use Rattle.acks.proofs.first_of.Statement.{statement}
+use Rattle.acks.proofs.first_of.Tie as tie
 
 returns : tie.Need-returns
-returns c = λ s e. sym (ap or0 (by-seq-absent s (c .before .before .args .a .«has_first») (c .before .before .args .a .first) (not-true _ (c .if1 .taken))))
+returns c =
+    let a = c .before .before .args in
+    sym (ap or0 (number-absent (rowsIn (a .from) (a .to) (now (a .rows))) (a .a .«has_first») (a .a .first) (not-true _ (c .if1 .taken))))
 
 find-seq-requires : tie.Need-find-seq-requires
 find-seq-requires c κs = search needs
@@ -43,14 +46,12 @@ enum-told c = search needs
 returns-2 : tie.Need-returns-2
 returns-2 c =
     let a = c .before .before .before .before .before .before .before .args in
-    let pre = c .before .before .before .before .before .before .before .pre in
-    λ s e. sym (ap or0 (by-seq-given s (a .a .«has_first») (a .a .first) (not-false _ (c .before .before .before .before .before .if1 .left)) ∙ by-seq-at (a .from) (a .to) (a .a .first) (now (a .rows)) (pre .0) (pre .1) s e _ (sym (c .before .before .before .before .find-seq .ensures) ∙ c .before .before .i .given .1)))
+    sym (ap or0 (number-given (rowsIn (a .from) (a .to) (now (a .rows))) (a .a .«has_first») (a .a .first) (not-false _ (c .before .before .before .before .before .if1 .left)) ∙ number-at (a .from) (a .to) (a .a .first) (now (a .rows)) _ (sym (c .before .before .before .before .find-seq .ensures) ∙ c .before .before .i .given .1)))
 
 returns-3 : tie.Need-returns-3
 returns-3 c =
     let a = c .before .before .before .before .before .args in
-    let pre = c .before .before .before .before .before .pre in
-    λ s e. sym (ap or0 (by-seq-given s (a .a .«has_first») (a .a .first) (not-false _ (c .before .before .before .if1 .left)) ∙ by-seq-none (a .from) (a .to) (a .a .first) (now (a .rows)) (pre .0) (pre .1) s e (sym (c .before .before .find-seq .ensures) ∙ c .enum-told .given .1)))
+    sym (ap or0 (number-given (rowsIn (a .from) (a .to) (now (a .rows))) (a .a .«has_first») (a .a .first) (not-false _ (c .before .before .before .if1 .left)) ∙ number-none (a .from) (a .to) (a .a .first) (now (a .rows)) (sym (c .before .before .find-seq .ensures) ∙ c .enum-told .given .1)))
 
 pub first-of-spec : {M : Type 1} → statement M
 first-of-spec =

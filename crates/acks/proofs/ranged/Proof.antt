@@ -1,7 +1,7 @@
--- `engine::acking::ranged` meets its contract. Assumes nothing.
+-- `acks::ranged` meets its contract. Assumes nothing.
 use borrow.Author.Needs.{needs}
-use Rattle.engine.proofs.acking.ranged.Statement.{statement}
-use Rattle.engine.proofs.acking.ranged.Tie as tie
+use Rattle.acks.proofs.ranged.Statement.{statement}
+use Rattle.acks.proofs.ranged.Tie as tie
 
 enum-told : tie.Need-enum-told
 enum-told c = search needs
