@@ -1,7 +1,8 @@
 #!/usr/bin/env python3
 """model.py [--bytes|--fates] <CALL_FILE: the definitions of crates/definition/specs in Python, function by function and under the same names, with a
 mark for each branch. Prints what a run of the file prints, with --bytes also the bytes held after each call, with --fates instead what `blockfates`
-prints. No proof covers it: it shows which branches a call file reaches (see `reach`), and it can be the reference of `run` where there is no other."""
+prints. With --station it is a station's call file, and the definitions of crates/definition_station/specs are there too; --bytes is of all
+destinations then. No proof covers it: it shows which branches a call file reaches (see `reach`), and it can be the reference of `run` where there is no other."""
 import struct
 import sys
 from dataclasses import dataclass, field, replace
@@ -1111,6 +1112,174 @@ def fates(data):
     return lines + [told(*b) for b in blocks.items()] + ["t " + " ".join(map(str, totals)), counters(t)]
 
 
+# ---- a station (document 02 §1): the definitions of definition_station, without marks
+
+HOPS_MAX = 8
+NUMBERS_END = 1 << 63  # no sequence number is this or above
+
+
+@dataclass
+class Slot:
+    dest: Dest
+    name: int  # its dead-letter destination, or 8 for none
+
+
+@dataclass
+class Station:
+    slots: list  # eight places: an open destination, or None
+    next: int
+    lost: int
+
+
+def zeros():
+    """As it is before a start: nothing is open, and the next number is out of range."""
+    return Station([None] * 8, 0, 0)
+
+
+def started():
+    return Station([None] * 8, 1, 0)
+
+
+def place(k, s):
+    return s.slots[k] if k < 8 else None
+
+
+def losing(s):
+    s.lost = min(s.lost + 1, NUMBERS_END - 1)
+
+
+def lasting(entries):
+    return [e for e in entries if e.persistent]
+
+
+def rejected_of(i, a, t):
+    """What a POISON outside a transaction rejects, read from the state before it."""
+    s = sub_of(i, t)
+    if s is None:
+        return [] if a.last is None else lasting([e for e in reserved_of(i, t) if reserved_hit(a.first, a.last, e, "Poison")])
+    if is_browser(s):
+        return []
+    test = ack_range(s, a, False)
+    return lasting([f.entry for f in s.inflight if test(f)])
+
+
+def rejected(code, ws, t):
+    """The dead letters that a call makes where it is accepted."""
+    if code != 4 or decode(code, ws) is None:
+        return []
+    a = ack_of(ws)
+    return rejected_of(ident(ws), a, t) if not a.transacted and ack_type(a.type) == "Poison" else []
+
+
+def number(letters, s):
+    """Each letter takes its number before any of them is stored; with none left it is lost."""
+    numbered = []
+    for e in letters:
+        if s.next < NUMBERS_END:
+            numbered.append(replace(e, seq=s.next))
+            s.next += 1
+        else:
+            losing(s)
+    return numbered
+
+
+def enqueuing(e, now):
+    return e.seq, e.expiration % WORD, int(e.persistent), e.producer, e.match_word, e.redelivery % WORD, now, e.size
+
+
+def sent_at(k, events):
+    return [(e[0], k) + e[1:] for e in events]
+
+
+def storing(hops, now, k, e, s):
+    """At the destination that is named, if it is open; where it refuses, on to its own name. Answers the events."""
+    x = place(k, s)
+    if hops == 0 or x is None:
+        losing(s)
+        return []
+    refused, _, events, x.dest = step(1, enqueuing(e, now), x.dest)
+    return storing(hops - 1, now, x.name, e, s) if refused else sent_at(k, events)
+
+
+def running(now, k, letters, s):
+    return [event for e in letters for event in storing(HOPS_MAX, now, k, e, s)]
+
+
+def station_sound(s):
+    return all(x is None or sound(x.dest) and x.name <= 8 for x in s.slots) and 1 <= s.next <= NUMBERS_END and s.lost < NUMBERS_END
+
+
+def opens_right(ws):
+    return open_words(ws[:6] + (0,) + ws[7:]) and ws[6] <= 8
+
+
+def open_at(k, ws, s):
+    if not opens_right(ws):
+        return 3, 0, []
+    s.slots[k] = Slot(open_step(ws[:6] + (0,) + ws[7:], None)[3], ws[6])
+    return 0, 0, []
+
+
+def call_on(k, code, ws, s):
+    """A call other than open on an open destination: its own call, then its dead letters."""
+    x = s.slots[k]
+    if code == 1 and ws[0] != 0:
+        return 3, 0, []
+    carried = (s.next,) + ws[1:] if code == 1 else ws
+    letters = rejected(code, carried, x.dest)
+    refused, answer, events, x.dest = step(code, carried, x.dest)
+    if refused:
+        return refused, 0, []
+    if code == 1:
+        s.next += 1
+    return 0, answer, sent_at(k, events) + running(carried[6], x.name, number(letters, s), s)
+
+
+def station_step(k, code, ws, s):
+    if k > 7 or code != 0 and place(k, s) is None:
+        return 10, 0, []
+    if code != 0 and not station_sound(s):
+        return 2, 0, []
+    return open_at(k, ws, s) if code == 0 else call_on(k, code, ws, s)
+
+
+def station_call(words, s):
+    """A call of the file: word 0 is the code and 256 times the destination's number, and 16 is a start, of destination 0."""
+    (k, code), ws = divmod(words[0], 256), words[1:]
+    if code != 16 or k > 7:
+        return station_step(k, code, ws, s) + (s,)
+    if k != 0 or any(ws):
+        return 3, 0, [], s
+    return 0, 0, [], started()
+
+
+def station_bytes(s):
+    return sum(bytes_held(x.dest) for x in s.slots if x)
+
+
+def run_station(data, held=False):
+    """The lines that a run of a station's call file prints."""
+    lines, s, index = [], zeros(), 0
+    for k in range(0, len(data), 512):
+        calls = calls_of(data[k : k + 512])
+        if calls is None:
+            lines.append(f"b {k // 512}")
+            break
+        for words in calls:
+            refused, answer, events, s = station_call(words, s)
+            lines.append(f"{index} {refused} {answer}")
+            lines += [" ".join(map(str, e)) for e in events]
+            lines += [f"h {station_bytes(s)}"] if held else []
+            index += 1
+    lines += [counters(x.dest).replace("=", f"= {k}") for k, x in enumerate(s.slots) if x]
+    return lines + [f"s {s.next} {s.lost} 0 {station_bytes(s)}"]
+
+
+def main(options, data):
+    if "--station" in options:
+        return run_station(data, "--bytes" in options)
+    return fates(data) if "--fates" in options else run(data, "--bytes" in options)
+
+
 if __name__ == "__main__":
-    options, data = sys.argv[1:], sys.stdin.buffer.read()
-    sys.stdout.write("\n".join(fates(data) if "--fates" in options else run(data, "--bytes" in options)) + "\n")
+    sys.stdout.write("\n".join(main(sys.argv[1:], sys.stdin.buffer.read())) + "\n")

@@ -211,8 +211,8 @@ pub struct Ack {
 #[repr(C)]
 #[derive(Clone, Copy, Debug, PartialEq, Eq)]
 pub struct Request {
-    code: u64,
-    words: [u64; 8],
+    pub code: u64,
+    pub words: [u64; 8],
 }
 
 impl Request {
@@ -330,12 +330,14 @@ pub enum Refusal {
     ConsumersFull = 7,
     ProducersFull = 8,
     CallsUsedUp = 9,
+    /// Of a station alone.
+    NotOpen = 10,
     ShareUsedUp = 14,
     ReadingsTurned = 17,
 }
 
 impl Refusal {
-    const ALL: [Refusal; 11] = [
+    const ALL: [Refusal; 12] = [
         Refusal::Short,
         Refusal::NotSound,
         Refusal::Arguments,
@@ -345,6 +347,7 @@ impl Refusal {
         Refusal::ConsumersFull,
         Refusal::ProducersFull,
         Refusal::CallsUsedUp,
+        Refusal::NotOpen,
         Refusal::ShareUsedUp,
         Refusal::ReadingsTurned,
     ];
@@ -353,7 +356,8 @@ impl Refusal {
         self as u64
     }
 
-    fn of(number: u64) -> Option<Refusal> {
+    /// None for 0, which is no refusal.
+    pub fn of(number: u64) -> Option<Refusal> {
         Refusal::ALL.into_iter().find(|r| r.number() == number)
     }
 }
@@ -464,6 +468,16 @@ impl Destination {
             head: vec![0; library::destination_head_words()],
             subs: vec![[0; 16]; library::destination_consumers()],
             rows: vec![[0; 10]; library::destination_rows()],
+            events: vec![[0; 6]; library::destination_events()],
+        }
+    }
+
+    /// A state that was kept elsewhere: each call and query tests it.
+    pub fn kept(head: &[u64], subs: &[[u64; 16]], rows: &[[u64; 10]]) -> Destination {
+        Destination {
+            head: head.to_vec(),
+            subs: subs.to_vec(),
+            rows: rows.to_vec(),
             events: vec![[0; 6]; library::destination_events()],
         }
     }
@@ -677,7 +691,8 @@ fn yes(asked: Asked) -> Result<bool, Refusal> {
     answer(asked).map(|n| n != 0)
 }
 
-fn event(words: &[u64; 6]) -> Event {
+/// An event by its words.
+pub fn event(words: &[u64; 6]) -> Event {
     let to = Id {
         connection: words[1],
         session: words[2] as i64,

@@ -88,7 +88,7 @@ impl Run {
         match (arguments, &numbers[..]) {
             ([], _) => Err(USAGE.to_string()),
             ([word], _) if word == "corners" => {
-                for corner in corners::all() {
+                for corner in corners::all(false) {
                     let script = corner.script()?;
                     self.file(&format!("corner {}", corner.name), &script.file);
                     self.corner_bytes(corner.name, &script);

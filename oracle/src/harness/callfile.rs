@@ -24,6 +24,8 @@ pub mod code {
     pub const DUPLICATE: u64 = 13;
     pub const RELEASE_AUDITS: u64 = 14;
     pub const RELEASE: u64 = 15;
+    /// Of a station alone (document 02 §1).
+    pub const START: u64 = 16;
 }
 
 /// Bits of an acknowledgement's type word, above the type byte.

@@ -81,6 +81,8 @@ pub struct Reply {
     pub refusal: u8,
     pub answer: u64,
     pub events: Vec<Event>,
+    /// The entries of its dead letters, in the order of their events.
+    pub rejected: Vec<EntryNumbers>,
 }
 
 impl Reply {
@@ -89,6 +91,7 @@ impl Reply {
             refusal,
             answer: 0,
             events: Vec::new(),
+            rejected: Vec::new(),
         }
     }
 }
@@ -297,6 +300,11 @@ impl Engine {
         self.opened.as_ref()
     }
 
+    /// No destination is open afterwards.
+    pub fn close(&mut self) {
+        self.opened = None;
+    }
+
     pub fn stats(&self) -> Stats {
         self.opened
             .as_ref()
@@ -336,6 +344,7 @@ impl Engine {
         }
         opened.calls_used += 1;
         opened.follow_idle(call);
+        let rejected = effects.iter().map(rejected).collect();
         let mut events: Vec<Event> = effects.into_iter().map(dead_letter).collect();
         while let Ok(out) = self.sends.try_recv() {
             events.push(sent(out));
@@ -344,6 +353,7 @@ impl Engine {
             refusal,
             answer,
             events,
+            rejected,
         }
     }
 
@@ -623,6 +633,11 @@ fn meta_of(connection: u64) -> ProducerMeta {
         remote: String::new(),
         connection_id: connection.to_string(),
     }
+}
+
+fn rejected(effect: &Effect) -> EntryNumbers {
+    let Effect::ToDlq { entry, .. } = effect;
+    host::entry_numbers(entry)
 }
 
 fn dead_letter(effect: Effect) -> Event {

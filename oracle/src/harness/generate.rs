@@ -3,12 +3,14 @@
 
 mod build;
 mod profiles;
+mod stations;
 
 use super::callfile::{self, code, Call, BLOCK};
 use super::engine::{refusal, Engine};
 use super::random::Random;
 use crate::broker::destination::probe::{self, View};
 pub use profiles::{names, Profile};
+pub use stations::{file as station_file, names as station_names, StationProfile};
 
 /// Makes a call file of a profile: the same for the same seed, profile and number of calls.
 pub fn file(seed: u64, profile: &'static Profile, calls: usize) -> Vec<u8> {

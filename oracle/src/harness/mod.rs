@@ -18,6 +18,7 @@ pub mod random;
 pub mod sides;
 #[cfg(feature = "library")]
 pub mod spoil;
+pub mod station;
 pub mod text;
 pub mod traffic;
 pub mod whole;

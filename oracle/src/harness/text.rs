@@ -2,6 +2,8 @@
 //!
 //! `name NUMBER ...`    a call; missing arguments are 0, up to eight may be given
 //! `code NUMBER ...`    a call by its code
+//! `@D name NUMBER ...` a call for destination D of a station; without `@D` for destination 0; also before `code`
+//! `start`              starts a station
 //! `for A B: LINE`      the line for each number from A to B, `$` being the number
 //! `block`              ends the block, though it is not full
 //! `break check`        the last block gets a wrong check
@@ -13,7 +15,8 @@
 //! `# ...`              a remark
 
 use super::arguments;
-use super::callfile::{self, Call, BLOCK, CALLS};
+use super::callfile::{self, code, Call, BLOCK, CALLS};
+use super::station::{self, NAME_AT};
 
 /// Names of calls, by code.
 const NAMES: [&str; 16] = [
@@ -141,17 +144,33 @@ fn read_line(line: &str, blocks: &mut Blocks, expected: &mut String) -> Result<(
             ["block"] => blocks.end_block(),
             ["break", ref how @ ..] => blocks.damage(how)?,
             ["bytes", held] => blocks.held.push((blocks.made, number(held)?)),
-            ["code", code, ref args @ ..] => blocks.add(call(number(code)?, args)?),
-            [name, ref args @ ..] => {
-                let code = NAMES
-                    .iter()
-                    .position(|n| *n == name)
-                    .ok_or(format!("unknown call: {name}"))?;
-                blocks.add(call(code as u64, args)?);
+            [place, ref call @ ..] if place.starts_with('@') => {
+                let (place, call) = (number(&place[1..])?, read_call(call)?);
+                if place >> 56 != 0 || call.code > 255 {
+                    return Err("a destination's number or a code is too large".into());
+                }
+                blocks.add(station::placed(place, &call));
             }
+            ref call => blocks.add(read_call(call)?),
         }
     }
     Ok(())
+}
+
+/// A call by its name or its code.
+fn read_call(words: &[&str]) -> Result<Call, String> {
+    match words {
+        [] => Err("a destination's number wants a call".into()),
+        ["code", code, args @ ..] => call(number(code)?, args),
+        ["start", args @ ..] => call(code::START, args),
+        [name, args @ ..] => {
+            let code = NAMES
+                .iter()
+                .position(|n| n == name)
+                .ok_or(format!("unknown call: {name}"))?;
+            call(code as u64, args)
+        }
+    }
 }
 
 /// The lines of a `for`, or the line itself.
@@ -185,17 +204,35 @@ fn number(word: &str) -> Result<u64, String> {
         .map_err(|_| format!("not a number of 64 bits: {word}"))
 }
 
+/// A station's call as a line.
+pub fn station_line(call: &Call) -> String {
+    let (place, own) = station::place_of(call);
+    let call = Call { code: own, ..*call };
+    let text = match own {
+        code::START => format!("start{}", shown(&call, 0)),
+        code::OPEN => format!("open{}", shown(&call, NAME_AT + 1)),
+        _ => line(&call),
+    };
+    if place == 0 {
+        text
+    } else {
+        format!("@{place} {text}")
+    }
+}
+
 /// A call as a line; words that are large as unsigned numbers are written as signed ones.
 pub fn line(call: &Call) -> String {
     let name = usize::try_from(call.code).ok().and_then(|code| NAMES.get(code));
-    let mut text = match name {
+    let name = match name {
         Some(name) => name.to_string(),
         None => format!("code {}", call.code),
     };
+    name + &shown(call, arguments::words_used(call.code).unwrap_or(0))
+}
+
+/// So many words of a call, and those up to the last that is not 0.
+fn shown(call: &Call, used: usize) -> String {
     let last_set = call.args.iter().rposition(|a| *a != 0).map_or(0, |at| at + 1);
-    let shown = arguments::words_used(call.code).unwrap_or(0).max(last_set);
-    for arg in &call.args[..shown] {
-        text.push_str(&format!(" {}", *arg as i64));
-    }
-    text
+    let words = &call.args[..used.max(last_set)];
+    words.iter().map(|word| format!(" {}", *word as i64)).collect()
 }

@@ -41,9 +41,9 @@ pub struct Profile {
     pub damaged: bool,
 }
 
-const PLENTY: &[u64] = &[1 << 40, 100_000, 1_000_000];
+pub(super) const PLENTY: &[u64] = &[1 << 40, 100_000, 1_000_000];
 
-const MIXED: Profile = Profile {
+pub(super) const MIXED: Profile = Profile {
     name: "mixed",
     kinds: &[0, 1],
     topic_limits: &[0, 0, 1, 2, 5, 512],
@@ -83,7 +83,7 @@ const MIXED: Profile = Profile {
     damaged: false,
 };
 
-const QUEUE: Profile = Profile {
+pub(super) const QUEUE: Profile = Profile {
     name: "queue",
     kinds: &[0],
     weights: &[
@@ -103,7 +103,7 @@ const QUEUE: Profile = Profile {
     ..MIXED
 };
 
-const TOPIC: Profile = Profile {
+pub(super) const TOPIC: Profile = Profile {
     name: "topic",
     kinds: &[1],
     weights: &[
@@ -123,7 +123,7 @@ const TOPIC: Profile = Profile {
     ..MIXED
 };
 
-const BROWSER: Profile = Profile {
+pub(super) const BROWSER: Profile = Profile {
     name: "browser",
     kinds: &[0, 0, 0, 1],
     weights: &[
@@ -145,7 +145,7 @@ const BROWSER: Profile = Profile {
     ..MIXED
 };
 
-const TX: Profile = Profile {
+pub(super) const TX: Profile = Profile {
     name: "tx",
     kinds: &[0, 0, 0, 1],
     weights: &[
@@ -184,7 +184,7 @@ const PULLS: Profile = Profile {
     ..MIXED
 };
 
-const EXPIRY: Profile = Profile {
+pub(super) const EXPIRY: Profile = Profile {
     name: "expiry",
     weights: &[
         (ENQUEUE, 50),
@@ -205,7 +205,7 @@ const EXPIRY: Profile = Profile {
     ..MIXED
 };
 
-const ROWS: Profile = Profile {
+pub(super) const ROWS: Profile = Profile {
     name: "rows",
     topic_limits: &[0, 0, 0, 100, 512],
     weights: &[
@@ -274,7 +274,7 @@ const LIMITS: Profile = Profile {
     ..MIXED
 };
 
-const BADWORDS: Profile = Profile {
+pub(super) const BADWORDS: Profile = Profile {
     name: "badwords",
     weights: LIMITS.weights,
     call_limits: PLENTY,
@@ -350,7 +350,7 @@ const PRODUCERS: Profile = Profile {
     ..MIXED
 };
 
-const HALVES: Profile = Profile {
+pub(super) const HALVES: Profile = Profile {
     name: "halves",
     kinds: &[0, 0, 0, 1],
     weights: &[
@@ -375,7 +375,7 @@ const HALVES: Profile = Profile {
     ..MIXED
 };
 
-const ALLOWANCE: Profile = Profile {
+pub(super) const ALLOWANCE: Profile = Profile {
     name: "allowance",
     allowances: &[0, 1, 2, 5, 10, 20, 40],
     weights: &[
@@ -410,7 +410,7 @@ const DRIFT: Profile = Profile {
     ..ALLOWANCE
 };
 
-const SURPLUS: Profile = Profile {
+pub(super) const SURPLUS: Profile = Profile {
     name: "surplus",
     kinds: &[1],
     topic_limits: &[1, 1, 2, 2, 3, 3],
@@ -439,7 +439,7 @@ const SURPLUS: Profile = Profile {
     ..MIXED
 };
 
-const SHARES: Profile = Profile {
+pub(super) const SHARES: Profile = Profile {
     name: "shares",
     kinds: &[0, 0, 1],
     shares: &[1, 2, 3, 5, 10, 20, 100, 511, 512, 0],
