@@ -1,0 +1,3 @@
+pub mod StationRuns
+pub mod StationFiles
+pub mod StationCases
