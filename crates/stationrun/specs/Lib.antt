@@ -1,3 +1,0 @@
-pub mod StationRuns
-pub mod StationFiles
-pub mod StationCases
