@@ -12,6 +12,8 @@
 #include "destination.h"
 #include "paper.h"
 
+#include "../random.h"
+
 #define GUARD 16
 
 /* longer than they need to be, and with words between them that nobody may touch */
@@ -52,27 +54,7 @@ static enum kind kind;
 #define REFUSALS 15
 static uint64_t got[4][REFUSALS];
 
-/* ---- random numbers (splitmix64) */
-
-static uint64_t state;
-
-static uint64_t any(void)
-{
-    uint64_t z = state += UINT64_C(0x9E3779B97F4A7C15);
-    z = (z ^ z >> 30) * UINT64_C(0xBF58476D1CE4E5B9);
-    z = (z ^ z >> 27) * UINT64_C(0x94D049BB133111EB);
-    return z ^ z >> 31;
-}
-
-static uint64_t below(uint64_t n)
-{
-    return any() % n;
-}
-
-static bool one_in(uint64_t n)
-{
-    return below(n) == 0;
-}
+/* ---- random numbers */
 
 /* mostly a number at which some range ends, or the next */
 static uint64_t odd_number(void)
@@ -892,7 +874,7 @@ int main(int argc, char **argv)
 {
     uint64_t wanted = argc > 2 ? strtoull(argv[2], 0, 10) : 120000;
     seed = argc > 1 ? strtoull(argv[1], 0, 10) : 1;
-    state = seed;
+    random_state = seed;
     start();
     memcpy(&before, &work, sizeof work);
     struct destination_request open = new_world();

@@ -1,20 +1,19 @@
 /* How much stack the library takes: each function is run on a stack of its own that was painted before, on random calls, and what is no longer paint was used. The header's
  * figures are tested: an argument prints what was used. */
 #define _XOPEN_SOURCE 700
+#define PAINTED_ROOM 262144
 #include <inttypes.h>
 #include <stdio.h>
-#include <string.h>
-#include <ucontext.h>
 
 #include "destination.h"
 
-enum { ROOM = 262144, PAINT = 0x5a, CALLS = 8000 };
+#include "../painted.h"
+
+enum { CALLS = 8000 };
 
 static struct destination state;
 static struct destination_page_line lines[DESTINATION_OUTLOOK_LINES];
 static struct destination_request request;
-static unsigned char stack[ROOM];
-static ucontext_t here, there;
 static volatile uint64_t seen; /* so that no query is left out */
 
 static struct destination_block held[DESTINATION_HELD_BLOCKS], left[DESTINATION_LEFT_BLOCKS];
@@ -30,22 +29,6 @@ static void outlook(void)
 {
     struct destination_span span = {5, 50, INT64_MIN, INT64_MAX};
     seen = destination_outlook_of(&state, lines, DESTINATION_OUTLOOK_LINES, span).alive;
-}
-
-/* The bytes of stack that a function takes. */
-static size_t taken(void (*f)(void))
-{
-    size_t paint = 0;
-    memset(stack, PAINT, ROOM);
-    getcontext(&there);
-    there.uc_stack.ss_sp = stack;
-    there.uc_stack.ss_size = ROOM;
-    there.uc_link = &here;
-    makecontext(&there, f, 0);
-    swapcontext(&here, &there);
-    while (paint < ROOM && stack[paint] == PAINT)
-        paint++;
-    return ROOM - paint;
 }
 
 static uint64_t any(uint64_t below)

@@ -319,7 +319,7 @@ int main(int argc, char **argv)
 {
     uint64_t many = argc > 2 ? strtoull(argv[2], NULL, 10) : 20000, left = 0;
     seed = argc > 1 ? strtoull(argv[1], NULL, 10) : 1;
-    traffic_state = seed;
+    random_state = seed;
     for (size_t i = 0; i < sizeof work / 8; i++)
         ((uint64_t *)(void *)&work)[i] = any();
     for (stations = 0; stations < many; stations++) {

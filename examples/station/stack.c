@@ -1,41 +1,25 @@
 /* How much stack the library takes: each function is run on a stack of its own that was painted before, on random calls and on letters that go eight hops, and what is no
  * longer paint was used. The header's figures are tested: an argument prints what was used. */
 #define _XOPEN_SOURCE 700
+#define PAINTED_ROOM 1048576
 #include <inttypes.h>
 #include <stdio.h>
-#include <ucontext.h>
 
 #include "traffic.h"
 
-enum { ROOM = 1048576, PAINT = 0x5a, CALLS = 1500 };
+#include "../painted.h"
+
+enum { CALLS = 1500 };
 
 static struct station state;
 static struct destination_request request;
 static uint64_t number;
-static unsigned char stack[ROOM];
-static ucontext_t here, there;
 static volatile uint64_t seen; /* so that nothing is left out */
 
 static void call(void) { seen = station_do(&state, number, request).refusal; }
 static void uncoded(void) { seen = station_add_discarded_of(&state, number).refusal + station_expired_before_storing_of(&state, number).refusal; }
 static void numbers(void) { seen = station_numbers_of(&state).next; }
 static void start(void) { seen = station_start_of(&state); }
-
-/* The bytes of stack that a function takes. */
-static size_t taken(void (*f)(void))
-{
-    size_t paint = 0;
-    memset(stack, PAINT, ROOM);
-    getcontext(&there);
-    there.uc_stack.ss_sp = stack;
-    there.uc_stack.ss_size = ROOM;
-    there.uc_link = &here;
-    makecontext(&there, f, 0);
-    swapcontext(&here, &there);
-    while (paint < ROOM && stack[paint] == PAINT)
-        paint++;
-    return ROOM - paint;
-}
 
 static size_t most(size_t a, size_t b) { return a < b ? b : a; }
 

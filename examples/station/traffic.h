@@ -6,26 +6,7 @@
 
 #include "station.h"
 
-static uint64_t traffic_state;
-
-/* splitmix64 */
-static uint64_t any(void)
-{
-    uint64_t z = traffic_state += UINT64_C(0x9E3779B97F4A7C15);
-    z = (z ^ z >> 30) * UINT64_C(0xBF58476D1CE4E5B9);
-    z = (z ^ z >> 27) * UINT64_C(0x94D049BB133111EB);
-    return z ^ z >> 31;
-}
-
-static uint64_t below(uint64_t n)
-{
-    return any() % n;
-}
-
-static bool one_in(uint64_t n)
-{
-    return below(n) == 0;
-}
+#include "../random.h"
 
 /* An open: sometimes with few calls or a small share, so that it soon refuses letters; any name. */
 static struct destination_request traffic_open(uint64_t clock)
