@@ -224,6 +224,7 @@ fn run(fd: i32) {
         let n = reporting::report_end(&head, &held, r.kept, r.at, r.failed, &mut out);
         write(&out, n);
     }
+    program::hint(b"blockfates", &block, r.at);
 }
 
 fn main() {

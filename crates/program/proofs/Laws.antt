@@ -2,7 +2,7 @@
 use Prim.Native.Nat.{ℕ, _+_, _-_, _≤_, _<_}
 use native.Mathlib.Numerals.{add-one}
 use native.Mathlib.Omega.{arith}
-use mathlib.Core.Path.{_≡_}
+use mathlib.Core.Path.{_≡_, sym, ap, _∙_}
 use mathlib.Core.Bool.{true, false}
 use mathlib.Core.List.{List}
 use borrow.Author.Tests.{eq-eqb, ne-eqb}
@@ -10,8 +10,9 @@ use lib.ListN.{length, getD, take, drop, drop-of-length-le}
 use lib.Seq.{drop-cons, take-all}
 use Rattle.textwords.specs.Text.{sameText, hasMark}
 use Rattle.callfile.specs.Blocks.{callsIn}
+use Rattle.callfile.specs.declared.Reading.{Reading}
 use Rattle.program.specs.Said.{markedHint, textHint, otherHint, hintText}
-use Rattle.program.specs.Asked.{helpWord, wordAsks, isTextByte, areText, partLike, looksLike}
+use Rattle.program.specs.Asked.{helpWord, wordAsks, isTextByte, areText, partLike, looksLike, readOf, isPuzzling}
 
 -- ---- a word
 
@@ -88,3 +89,31 @@ module _ (kind : ℕ) where
   pub hints-other : (kind ≡ 1 → ⊥) → (kind ≡ 2 → ⊥) → otherHint ≡ hintText kind
   unfolding hintText
   hints-other e f = rw (ne-eqb kind 1 e, ne-eqb kind 2 f)
+
+-- ---- an input of which not one call was read
+
+module _ (places : ℕ) (at : Reading) where
+  pub reads-all : (at .number ≡ 0 → ⊥) → places ≡ readOf places at
+  reads-all h = rw (ne-eqb (at .number) 0 h)
+
+  pub reads-some : at .number ≡ 0 → at .have ≡ readOf places at
+  reads-some h = rw (eq-eqb (at .number) 0 h)
+
+module _ (block : List ℕ) (at : Reading) where
+  pub calls-were-read : (at .index ≡ 0 → ⊥) → false ≡ isPuzzling block at
+  unfolding isPuzzling
+  calls-were-read h = rw (ne-eqb (at .index) 0 h)
+
+  module _ (first : at .index ≡ 0) (n : ℕ) (read : n ≡ readOf (length block) at) where
+    pub nothing-was-read : n ≡ 0 → false ≡ isPuzzling block at
+    unfolding isPuzzling
+    nothing-was-read z = rw (eq-eqb (at .index) 0 first, eq-eqb (readOf (length block) at) 0 (sym read ∙ z))
+
+    module _ (some : n ≡ 0 → ⊥) where
+      pub calls-come : looksLike block n ≡ 0 → false ≡ isPuzzling block at
+      unfolding isPuzzling
+      calls-come z = rw (eq-eqb (at .index) 0 first, ne-eqb (readOf (length block) at) 0 (λ h. some (read ∙ h)), eq-eqb (looksLike block (readOf (length block) at)) 0 (ap (looksLike block) (sym read) ∙ z))
+
+      pub puzzles : (looksLike block n ≡ 0 → ⊥) → true ≡ isPuzzling block at
+      unfolding isPuzzling
+      puzzles h = rw (eq-eqb (at .index) 0 first, ne-eqb (readOf (length block) at) 0 (λ z. some (read ∙ z)), ne-eqb (looksLike block (readOf (length block) at)) 0 (λ z. h (ap (looksLike block) read ∙ z)))

@@ -1,12 +1,13 @@
 -- What the arguments of a program ask for, and what a file looks like by its first bytes. Assumes nothing.
 use Prim.Native.Nat.{ℕ}
-use mathlib.Core.Bool.{Bool, true, false, _&&_, _||_}
+use mathlib.Core.Bool.{Bool, true, false, not, _&&_, _||_}
 use mathlib.Core.List.{List, [], _∷_}
 use lib.Dec.{eqb, leb}
 use lib.ListN.{length, getD, take}
 use Rattle.words.specs.Pick.{if_then_else_}
 use Rattle.textwords.specs.Text.{sameText, hasMark}
 use Rattle.callfile.specs.Blocks.{callsIn}
+use Rattle.callfile.specs.declared.Reading.{Reading}
 
 -- `--help`
 abbrev pub helpWord : List ℕ
@@ -31,3 +32,11 @@ partLike part = if hasMark part then 1 else if areText part then 2 else 3
 -- the first n bytes of a file; 0: a block of a call file
 unfoldable pub looksLike : List ℕ → ℕ → ℕ
 looksLike bytes n = if eqb (callsIn bytes n) 0 then partLike (take n bytes) else 0
+
+-- how many bytes of a block of so many places were read: those of the one that was begun, or, where blocks were read, all
+abbrev pub readOf : ℕ → Reading → ℕ
+readOf places at = if eqb (at .number) 0 then at .have else places
+
+-- bytes were read and not one call, and they are no block of calls
+unfoldable pub isPuzzling : List ℕ → Reading → Bool
+isPuzzling block at = eqb (at .index) 0 && (not (eqb (readOf (length block) at) 0) && not (eqb (looksLike block (readOf (length block) at)) 0))

@@ -8,7 +8,8 @@ ghost use lib.ListN.{length};
 ghost use Rattle.reading.specs.Read.{ReadInto};
 ghost use Rattle.callfile.specs.Placed.{Puts, PutLine};
 ghost use Rattle.program.specs.Said.{headed, Written, hintText};
-ghost use Rattle.program.specs.Asked.{wordAsks, isTextByte, areText, partLike, looksLike};
+ghost use Rattle.program.specs.Asked.{wordAsks, isTextByte, areText, partLike, looksLike, readOf, isPuzzling};
+use callfile::Reading;
 use libc::STDERR_FILENO;
 use libc::STDIN_FILENO;
 use libc::STDOUT_FILENO;
@@ -323,4 +324,42 @@ pub fn put_hint(out: &mut [u8], kind: u64) -> usize
         return 0;
     }
     hint_text(out, kind)
+}
+
+// How many bytes of the block were read: those of the one that was begun, or all of it.
+fn read_of(block: usize, at: Reading) -> usize
+    ensures { λ r. ⌜ r ≡ readOf block at ⌝ }
+{
+    if at.number != 0 {
+        return block;
+    }
+    at.have
+}
+
+// Writes the hint of a kind to standard error.
+fn say_hint(name: &[u8], kind: u64) {
+    let mut said = [0u8; 160];
+    let n = put_hint(&mut said, kind);
+    if n <= 160 {
+        message(name, &said[0..n]);
+    }
+}
+
+// Where not one call of an input was read, says on standard error what it looks like, by the block that has its first bytes, and answers whether there was something to say.
+pub fn hint(name: &[u8], block: &[u8], at: Reading) -> bool
+    ensures { λ r. ⌜ r ≡ isPuzzling (now (block .entry)) at ⌝ }
+{
+    if at.index != 0 {
+        return false;
+    }
+    let n = read_of(block.len(), at);
+    if n == 0 {
+        return false;
+    }
+    let kind = looks_like(block, n);
+    if kind == CALLS {
+        return false;
+    }
+    say_hint(name, kind);
+    true
 }

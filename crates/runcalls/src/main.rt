@@ -136,35 +136,6 @@ fn pieces() -> [u8; 65536]
     [0; 65536]
 }
 
-// The first n bytes of a text, on standard error.
-fn say(text: &[u8], n: usize) {
-    if text.len() < n {
-        return;
-    }
-    program::message(b"runcalls", &text[0..n]);
-}
-
-// Where not one call was read, says on standard error what the file looks like: the block has its first bytes.
-fn hint(block: &[u8], at: Reading) {
-    if at.index != 0 {
-        return;
-    }
-    let mut n = at.have;
-    if at.number != 0 {
-        n = block.len();
-    }
-    if n == 0 {
-        return;
-    }
-    let kind = program::looks_like(block, n);
-    if kind == program::CALLS {
-        return;
-    }
-    let mut said = [0u8; 160];
-    let end = program::put_hint(&mut said, kind);
-    say(&said, end);
-}
-
 // The whole run, from a state of zeros.
 fn run(fd: i32) {
     let mut head = [0u64; 8347];
@@ -188,7 +159,7 @@ fn run(fd: i32) {
         let n = running::run_end(&head, r.at, r.failed, &mut out);
         write(&out, n);
     }
-    hint(&block, r.at);
+    program::hint(b"runcalls", &block, r.at);
 }
 
 fn main() {
