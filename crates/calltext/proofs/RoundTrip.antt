@@ -1,12 +1,12 @@
--- A call that is written as a line of text is read back: the same code and the same words. Assumes nothing.
-use Prim.Native.Nat.{ℕ, zero, suc, _+_, _≤_, _<_, _^_}
+-- A call that is written as a line of text is read back: the same word 0, which is its code and destination, and the same words. Assumes nothing.
+use Prim.Native.Nat.{ℕ, zero, suc, _+_, _*_, _≤_, _<_, _^_}
 use native.Mathlib.Nat.{add-zero, zero-add, add-suc, suc-add}
 use native.Mathlib.Numerals.{add-one}
 use native.Mathlib.Omega.{arith}
 use mathlib.Core.Path.{_≡_, refl, ap, sym, _∙_}
 use mathlib.Core.Bool.{true, false, _&&_, and-eq-true-iff}
 use mathlib.Core.List.{List, [], _∷_, _++_, append-nil, append-assoc}
-use borrow.Author.Tests.{leb-true, ltb-true, ltb-false, eqb-true}
+use borrow.Author.Tests.{leb-true, ltb-true, ltb-false, eqb-true, eqb-false}
 use lib.Dec.{leb, ltb, eqb}
 use lib.ListN.{length, getD, take, set, replicate, getD-replicate, length-replicate, length-set}
 use lib.Seq.{sets, take-suc, length-take-le, getD-take, getD-set-other, ext-getD}
@@ -16,15 +16,16 @@ use Rattle.calls.specs.declared.Call.{Call}
 use Rattle.calls.specs.Calls.{newCall, Words}
 use Rattle.callfile.specs.Lines.{decimal, field, wordField, newline}
 use Rattle.callfile.proofs.Sets.{sets-before, sets-after, sets-in}
+use Rattle.textwords.specs.declared.Number.the-variants.{Of}
 use Rattle.textwords.specs.declared.Stop.the-variants.{LineEnd}
 use Rattle.textwords.specs.Text.{run, wordsOf, sameText}
 use Rattle.textwords.proofs.Spaced.{solid, Solid, Solids, spaced, spaced-append, words-spaced, plain-spaced, line-ends}
-use Rattle.calltext.specs.Names.{names, nameAt, placeIn, namePlace, codePlace, kindAt, minusAt}
-use Rattle.calltext.specs.Lines.{parsedCall, callOf, gatherCall, namedCall, callIn, lineCall}
-use Rattle.calltext.specs.Shown.{shownWords, fields, shownFields, codeField, callText}
+use Rattle.calltext.specs.Names.{names, nameAt, placeIn, namePlace, hasName, codePlace, kindAt, minusAt}
+use Rattle.calltext.specs.Lines.{parsedCall, callOf, gatherCall, atSign, smallNumber, destinationOf, namedCall, callIn, lineCall}
+use Rattle.calltext.specs.Shown.{shownWords, fields, shownFields, codeField, shownDestination, destinationText, callText}
 use Rattle.calltext.proofs.Tables.{values, value, value-from}
-use Rattle.calltext.proofs.Gathering.{gathered, one-number, by-code, by-raw, one-call}
-use Rattle.calltext.proofs.Showing.{place-known, place-raw, code-known, code-raw}
+use Rattle.calltext.proofs.Gathering.{gathered, one-number, by-code, by-raw, small, number-after, for-name, one-call, placed-call}
+use Rattle.calltext.proofs.Showing.{named-low, place-known, code-known, destination-known, place-raw, code-raw, destination-raw, place-low, no-destination, some-destination}
 use Rattle.calltext.proofs.Decimals.{wordText, field-text, text-read}
 
 abbrev Fit : List ℕ → Type 0
@@ -136,37 +137,62 @@ module _ (code n : ℕ) (ws : List ℕ) (eight : length ws ≡ 8) (low : n ≤ 8
 
 -- ---- names
 
-name-place : (k : ℕ) → k < 17 → namePlace (nameAt k) ≡ k
+name-place : (k : ℕ) → k < 18 → namePlace (nameAt k) ≡ k
 unfolding names namePlace placeIn values sameText
 name-place k h =
-    sym (value (λ (j : ℕ). namePlace (nameAt j)) 0 17 k (values (λ (j : ℕ). j) 0 17) refl h) ∙ value (λ (j : ℕ). j) 0 17 k (values (λ (j : ℕ). j) 0 17) refl h
+    sym (value (λ (j : ℕ). namePlace (nameAt j)) 0 18 k (values (λ (j : ℕ). j) 0 18) refl h) ∙ value (λ (j : ℕ). j) 0 18 k (values (λ (j : ℕ). j) 0 18) refl h
 
-name-solid : (k : ℕ) → k < 17 → Solid (nameAt k)
+name-solid : (k : ℕ) → k < 18 → Solid (nameAt k)
 unfolding names values solid
 name-solid k h = (
-  leb-true 1 (length (nameAt k)) (sym (value (λ (j : ℕ). leb 1 (length (nameAt j))) false 17 k (replicate 17 true) refl h) ∙ getD-replicate 17 k true false h),
-  sym (value (λ (j : ℕ). solid (nameAt j)) false 17 k (replicate 17 true) refl h) ∙ getD-replicate 17 k true false h,
+  leb-true 1 (length (nameAt k)) (sym (value (λ (j : ℕ). leb 1 (length (nameAt j))) false 18 k (replicate 18 true) refl h) ∙ getD-replicate 18 k true false h),
+  sym (value (λ (j : ℕ). solid (nameAt j)) false 18 k (replicate 18 true) refl h) ∙ getD-replicate 18 k true false h,
 )
+
+-- none stands for a destination
+name-plain : (k : ℕ) → k < 18 → atSign (nameAt k) ≡ false
+unfolding names values
+name-plain k h = sym (value (λ (j : ℕ). atSign (nameAt j)) true 18 k (replicate 18 false) refl h) ∙ getD-replicate 18 k false true h
+
+-- ---- destinations
+
+destination-solid : (d : ℕ) → d < 2 ^ 56 → Solid (64 ∷ decimal d)
+unfolding solid
+destination-solid d h = (omega arith, text-read false d (omega arith) .word .1)
+
+destination-read : (d : ℕ) → d < 2 ^ 56 → destinationOf (64 ∷ decimal d) ≡ Of d
+destination-read d h = sym (number-after (64 ∷ decimal d)) ∙ ap smallNumber (text-read false d (omega arith) .number) ∙ small d h
 
 -- ---- the line
 
 -- a call's text without the end of the line
 unfoldable pub lineText : Call → List ℕ
-lineText c = nameAt (codePlace (c .code)) ++ (codeField (c .code) ++ shownFields (codePlace (c .code)) (c .words))
+lineText c = destinationText (shownDestination (c .code)) ++ (nameAt (codePlace (c .code)) ++ (codeField (c .code) ++ shownFields (codePlace (c .code)) (c .words)))
 
 pub text-ends : (c : Call) → callText c ≡ lineText c ++ newline
 unfolding callText lineText
 text-ends c = simp append-assoc
 
-read-line : (place : ℕ) (ws : List (List ℕ)) → place < 17 → Solids ws → lineCall (nameAt place ++ spaced ws) ≡ namedCall place ws
+read-line : (w : List ℕ) (ws : List (List ℕ)) → Solid w → Solids ws → lineCall (w ++ spaced ws) ≡ callIn (w ∷ ws)
 unfolding lineCall
-read-line place ws h s =
-    let n = name-solid place h in
-    ap (λ (t : List ℕ). callIn (wordsOf t)) (plain-spaced (nameAt place) ws n s) ∙ ap callIn (words-spaced (nameAt place) ws n s) ∙ one-call (nameAt place) ws ∙ ap (λ (p : ℕ). namedCall p ws) (name-place place h)
+read-line w ws h s = ap (λ (t : List ℕ). callIn (wordsOf t)) (plain-spaced w ws h s) ∙ ap callIn (words-spaced w ws h s)
 
 module _ (c : Call) (fits : c .code < 2 ^ 64) (words : Words (c .words)) where
   place : ℕ
   place = codePlace (c .code)
+
+  low : place < 18
+  unfolding place
+  low = place-low (c .code)
+
+  destination : ℕ
+  destination = shownDestination (c .code)
+
+  destination-fits : destination < 2 ^ 56
+  unfolding destination
+  destination-fits = by-test (hasName (c .code))
+      (λ t. omega (arith, destination-known (c .code) t))
+      (λ t. omega (arith, destination-raw (c .code) t))
 
   count : ℕ
   count = shownWords place (c .words) 8
@@ -199,40 +225,75 @@ module _ (c : Call) (fits : c .code < 2 ^ 64) (words : Words (c .words)) where
 
   -- the words after the name
   after : List (List ℕ)
-  after = if ltb (c .code) 16 then texts else decimal (c .code) ∷ texts
-
-  place-low : place < 17
-  unfolding place
-  place-low = by-test (ltb (c .code) 16)
-      (λ t. omega (arith, ltb-true (c .code) 16 t, place-known (c .code) (ltb-true (c .code) 16 t)))
-      (λ t. omega (arith, place-raw (c .code) (ltb-false (c .code) 16 t)))
+  after = if hasName (c .code) then texts else decimal (c .code) ∷ texts
 
   after-solid : Solids after
   unfolding after texts
-  after-solid = by-test (ltb (c .code) 16)
+  after-solid = by-test (hasName (c .code))
       (λ t. rw t (solids place 0 (take count (c .words)) fit))
       (λ t. rw t (text-read false (c .code) fits .word, solids place 0 (take count (c .words)) fit))
 
-  line-words : lineText c ≡ nameAt place ++ spaced after
-  unfolding lineText place after spaced
-  line-words = by-test (ltb (c .code) 16)
-      (λ t. rw t (ap (λ (l : List ℕ). nameAt place ++ l) (rw (code-known (c .code) (ltb-true (c .code) 16 t)) shown-text)))
-      (λ t. rw t (ap (λ (l : List ℕ). nameAt place ++ l) (rw (code-raw (c .code) (ltb-false (c .code) 16 t)) (ap (λ (l : List ℕ). field (c .code) ++ l) shown-text))))
+  after-text : codeField (c .code) ++ shownFields place (c .words) ≡ spaced after
+  unfolding after spaced
+  after-text = by-test (hasName (c .code))
+      (λ t. rw t (rw (code-known (c .code) t) shown-text))
+      (λ t. rw t (rw (code-raw (c .code) t) (ap (λ (l : List ℕ). field (c .code) ++ l) shown-text)))
 
-  after-named : namedCall place after ≡ parsedCall 0 c
-  unfolding place after
-  after-named = by-test (ltb (c .code) 16)
+  after-named : namedCall destination place after ≡ parsedCall 0 c
+  unfolding destination place after
+  after-named = by-test (hasName (c .code))
       (λ t.
-      let h : c .code < 16 = ltb-true (c .code) 16 t in
-      rw t (ap (λ (k : ℕ). namedCall k texts) (sym (place-known (c .code) h)) ∙ by-code (c .code) texts h ∙ gathers))
+      let k : place < 17 = omega (arith, named-low (c .code) t, place-known (c .code) t) in
+      let e : place + 256 * destination ≡ c .code = omega (arith, place-known (c .code) t, destination-known (c .code) t) in
+      rw t (by-code destination place texts k ∙ ap (λ (w : ℕ). gatherCall 1 (set (replicate 9 0) 0 w) texts) e ∙ gathers))
       (λ t.
-      let p : place ≡ 16 = sym (place-raw (c .code) (ltb-false (c .code) 16 t)) in
-      rw t (by-raw place (decimal (c .code) ∷ texts) p ∙ one-number 0 (replicate 9 0) (decimal (c .code)) texts (λ e. omega arith) (c .code) (text-read false (c .code) fits .number) ∙ gathers))
+      let p : place ≡ 17 = sym (place-raw (c .code) t) in
+      rw t (by-raw destination place (decimal (c .code) ∷ texts) p ∙ one-number 0 (replicate 9 0) (decimal (c .code)) texts (λ e. omega arith) (c .code) (text-read false (c .code) fits .number) ∙ gathers))
+
+  -- a destination that is written stands before a call's name
+  placed-named : (destination ≡ 0 → ⊥) → place ≡ 17 → ⊥
+  unfolding destination place
+  placed-named n e = by-test (hasName (c .code))
+      (λ t. omega (arith, named-low (c .code) t, place-known (c .code) t))
+      (λ t. n (sym (destination-raw (c .code) t)))
+
+  -- the words of the line
+  first : List ℕ
+  first = if eqb destination 0 then nameAt place else 64 ∷ decimal destination
+
+  later : List (List ℕ)
+  later = if eqb destination 0 then after else nameAt place ∷ after
+
+  line-words : lineText c ≡ first ++ spaced later
+  unfolding lineText destination place first later spaced
+  line-words =
+      let name : nameAt place ++ (codeField (c .code) ++ shownFields place (c .words)) ≡ nameAt place ++ spaced after = ap (λ (l : List ℕ). nameAt place ++ l) after-text in
+      by-test (eqb destination 0)
+      (λ t. rw t (rw (no-destination destination (eqb-true destination 0 t)) name))
+      (λ t. rw t (rw (some-destination destination (eqb-false destination 0 t)) (ap (λ (l : List ℕ). 64 ∷ l) (append-assoc (decimal destination) (32 ∷ []) _ ∙ ap (λ (l : List ℕ). decimal destination ++ (32 ∷ l)) name))))
+
+  first-solid : Solid first
+  unfolding first
+  first-solid = by-test (eqb destination 0) (λ t. rw t (name-solid place low)) (λ t. rw t (destination-solid destination destination-fits))
+
+  later-solid : Solids later
+  unfolding later
+  later-solid = by-test (eqb destination 0) (λ t. rw t after-solid) (λ t. rw t (name-solid place low, after-solid))
+
+  words-read : callIn (first ∷ later) ≡ parsedCall 0 c
+  unfolding first later
+  words-read = by-test (eqb destination 0)
+      (λ t.
+      let z : destination ≡ 0 = eqb-true destination 0 t in
+      rw t (one-call (nameAt place) after (name-plain place low) ∙ (λ i. namedCall (sym z i) (name-place place low i) after) ∙ after-named))
+      (λ t.
+      let n : namePlace (nameAt place) ≡ 17 → ⊥ = λ e. placed-named (eqb-false destination 0 t) (sym (name-place place low) ∙ e) in
+      rw t (placed-call (64 ∷ decimal destination) (nameAt place ∷ after) refl destination (destination-read destination destination-fits) ∙ for-name destination (nameAt place) after n ∙ ap (λ (k : ℕ). namedCall destination k after) (name-place place low) ∙ after-named))
 
   -- what is written is read
   pub line-back : lineCall (lineText c) ≡ parsedCall 0 c
-  line-back = ap lineCall line-words ∙ read-line place after place-low after-solid ∙ after-named
+  line-back = ap lineCall line-words ∙ read-line first later first-solid later-solid ∙ words-read
 
   -- and the line ends where the call's text does
   pub line-end : (l : List ℕ) → run LineEnd (lineText c ++ (10 ∷ l)) ≡ length (lineText c)
-  line-end l = rw line-words (line-ends (nameAt place) after l (name-solid place place-low) after-solid)
+  line-end l = rw line-words (line-ends first later l first-solid later-solid)

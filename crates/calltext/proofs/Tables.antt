@@ -49,43 +49,44 @@ table =
     ∷ 100 ∷ 117 ∷ 112 ∷ 108 ∷ 105 ∷ 99 ∷ 97 ∷ 116 ∷ 101 ∷ 0 ∷ 0 ∷ 0 ∷ 0 ∷ 0 ∷ 0 ∷ 0
     ∷ 114 ∷ 101 ∷ 108 ∷ 101 ∷ 97 ∷ 115 ∷ 101 ∷ 95 ∷ 97 ∷ 117 ∷ 100 ∷ 105 ∷ 116 ∷ 115 ∷ 0 ∷ 0
     ∷ 114 ∷ 101 ∷ 108 ∷ 101 ∷ 97 ∷ 115 ∷ 101 ∷ 0 ∷ 0 ∷ 0 ∷ 0 ∷ 0 ∷ 0 ∷ 0 ∷ 0 ∷ 0
+    ∷ 115 ∷ 116 ∷ 97 ∷ 114 ∷ 116 ∷ 0 ∷ 0 ∷ 0 ∷ 0 ∷ 0 ∷ 0 ∷ 0 ∷ 0 ∷ 0 ∷ 0 ∷ 0
     ∷ 114 ∷ 97 ∷ 119 ∷ 0 ∷ 0 ∷ 0 ∷ 0 ∷ 0 ∷ 0 ∷ 0 ∷ 0 ∷ 0 ∷ 0 ∷ 0 ∷ 0 ∷ 0
     ∷ []
 
 unfoldable pub lengths : List ℕ
-lengths = 4 ∷ 7 ∷ 4 ∷ 5 ∷ 3 ∷ 4 ∷ 7 ∷ 8 ∷ 6 ∷ 5 ∷ 5 ∷ 12 ∷ 15 ∷ 9 ∷ 14 ∷ 7 ∷ 3 ∷ []
+lengths = 4 ∷ 7 ∷ 4 ∷ 5 ∷ 3 ∷ 4 ∷ 7 ∷ 8 ∷ 6 ∷ 5 ∷ 5 ∷ 12 ∷ 15 ∷ 9 ∷ 14 ∷ 7 ∷ 5 ∷ 3 ∷ []
 
-pub length-at : (k : ℕ) → k < 17 → getD lengths k 0 ≡ length (nameAt k)
+pub length-at : (k : ℕ) → k < 18 → getD lengths k 0 ≡ length (nameAt k)
 unfolding lengths names values
-length-at k h = value (λ (j : ℕ). length (nameAt j)) 0 17 k lengths refl h
+length-at k h = value (λ (j : ℕ). length (nameAt j)) 0 18 k lengths refl h
 
-pub short : (k : ℕ) → k < 17 → length (nameAt k) ≤ 15
+pub short : (k : ℕ) → k < 18 → length (nameAt k) ≤ 15
 unfolding names values
-short k h = leb-true (length (nameAt k)) 15 (sym (value (λ (j : ℕ). leb (length (nameAt j)) 15) false 17 k (replicate 17 true) refl h) ∙ getD-replicate 17 k true false h)
+short k h = leb-true (length (nameAt k)) 15 (sym (value (λ (j : ℕ). leb (length (nameAt j)) 15) false 18 k (replicate 18 true) refl h) ∙ getD-replicate 18 k true false h)
 
-bytes-at : (k : ℕ) → k < 17 → nameAt k ≡ take (length (nameAt k)) (drop (k * 16) table)
+bytes-at : (k : ℕ) → k < 18 → nameAt k ≡ take (length (nameAt k)) (drop (k * 16) table)
 unfolding names table values
-bytes-at k h = value (λ (j : ℕ). take (length (nameAt j)) (drop (j * 16) table)) [] 17 k names refl h
+bytes-at k h = value (λ (j : ℕ). take (length (nameAt j)) (drop (j * 16) table)) [] 18 k names refl h
 
-pub name-part : (k n : ℕ) → k < 17 → n ≡ length (nameAt k) → take (k * 16 + n - k * 16) (drop (k * 16) table) ≡ nameAt k
+pub name-part : (k n : ℕ) → k < 18 → n ≡ length (nameAt k) → take (k * 16 + n - k * 16) (drop (k * 16) table) ≡ nameAt k
 name-part k n h e = let d : k * 16 + n - k * 16 ≡ length (nameAt k) = omega arith in rw d (sym (bytes-at k h))
 
 -- ---- a name's place
 
 module _ (w : List ℕ) (k : ℕ) where
-  pub place-hit : k < 17 → sameText w (nameAt k) ≡ true → placeIn (drop k names) k w ≡ k
+  pub place-hit : k < 18 → sameText w (nameAt k) ≡ true → placeIn (drop k names) k w ≡ k
   unfolding placeIn names
   place-hit h t = rw (drop-cons names k [] h, t)
 
-  pub place-miss : k < 17 → sameText w (nameAt k) ≡ false → placeIn (drop k names) k w ≡ placeIn (drop (k + 1) names) (k + 1) w
+  pub place-miss : k < 18 → sameText w (nameAt k) ≡ false → placeIn (drop k names) k w ≡ placeIn (drop (k + 1) names) (k + 1) w
   unfolding placeIn names
   place-miss h t = rw (add-one k, drop-cons names k [] h, t)
 
-  pub place-end : k ≡ 17 → placeIn (drop k names) k w ≡ k
+  pub place-end : k ≡ 18 → placeIn (drop k names) k w ≡ k
   unfolding placeIn names
   place-end e = rw e
 
 -- ---- bytes of a name
 
-pub byte-at : (k j : ℕ) → k < 17 → j < length (nameAt k) → getD table (k * 16 + j) 0 ≡ getD (nameAt k) j 0
+pub byte-at : (k j : ℕ) → k < 18 → j < length (nameAt k) → getD table (k * 16 + j) 0 ≡ getD (nameAt k) j 0
 byte-at k j h g = sym (ap (λ (l : List ℕ). getD l j 0) (bytes-at k h) ∙ getD-take (length (nameAt k)) (drop (k * 16) table) j 0 g ∙ getD-drop (k * 16) table j 0)

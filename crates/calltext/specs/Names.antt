@@ -1,5 +1,5 @@
 -- The names of the calls by code, and what their words hold. Assumes nothing.
-use Prim.Native.Nat.{ℕ, suc, _+_, _*_}
+use Prim.Native.Nat.{ℕ, suc, _+_, _*_, _%_}
 use mathlib.Core.Bool.{Bool}
 use mathlib.Core.List.{List, [], _∷_}
 use lib.Dec.{eqb, leb}
@@ -7,9 +7,9 @@ use lib.ListN.{getD}
 use Rattle.words.specs.Pick.{if_then_else_}
 use Rattle.textwords.specs.Text.{sameText}
 
--- a call of an unknown code is written `raw`, its code and its words
+-- a call of a code without a name is written `raw`, its word 0 and its words
 abbrev pub RAW : ℕ
-RAW = 16
+RAW = 17
 
 unfoldable pub names : List (List ℕ)
 names =
@@ -45,6 +45,8 @@ names =
     ∷ (114 ∷ 101 ∷ 108 ∷ 101 ∷ 97 ∷ 115 ∷ 101 ∷ 95 ∷ 97 ∷ 117 ∷ 100 ∷ 105 ∷ 116 ∷ 115 ∷ [])
     -- release
     ∷ (114 ∷ 101 ∷ 108 ∷ 101 ∷ 97 ∷ 115 ∷ 101 ∷ [])
+    -- start
+    ∷ (115 ∷ 116 ∷ 97 ∷ 114 ∷ 116 ∷ [])
     -- raw
     ∷ (114 ∷ 97 ∷ 119 ∷ [])
     ∷ []
@@ -60,9 +62,13 @@ placeIn (n ∷ ns) k word = if sameText word n then k else placeIn ns (suc k) wo
 unfoldable pub namePlace : List ℕ → ℕ
 namePlace word = placeIn names 0 word
 
--- the name of a code
+-- word 0 of a call is its code and 256 times its destination's number; whether the code has a name
+abbrev pub hasName : ℕ → Bool
+hasName word = leb (word % 256) 16
+
+-- the name for a call's word 0
 unfoldable pub codePlace : ℕ → ℕ
-codePlace code = if leb code 15 then code else RAW
+codePlace word = if hasName word then word % 256 else RAW
 
 -- what a word holds, eight to a name: 0 nothing, 1 an unsigned number, 2 a signed one
 unfoldable pub kinds : List ℕ
@@ -83,6 +89,7 @@ kinds =
     ∷ 1 ∷ 2 ∷ 2 ∷ 2 ∷ 0 ∷ 0 ∷ 0 ∷ 0  -- duplicate
     ∷ 1 ∷ 0 ∷ 0 ∷ 0 ∷ 0 ∷ 0 ∷ 0 ∷ 0  -- release_audits
     ∷ 1 ∷ 2 ∷ 2 ∷ 1 ∷ 0 ∷ 0 ∷ 0 ∷ 0  -- release
+    ∷ 1 ∷ 0 ∷ 0 ∷ 0 ∷ 0 ∷ 0 ∷ 0 ∷ 0  -- start
     ∷ 0 ∷ 0 ∷ 0 ∷ 0 ∷ 0 ∷ 0 ∷ 0 ∷ 0  -- raw
     ∷ []
 

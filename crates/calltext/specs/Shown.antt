@@ -1,13 +1,14 @@
--- A call as a line of text: its name, and its words as far as the call has any or a later one is not 0. Assumes nothing.
-use Prim.Native.Nat.{ℕ, zero, suc}
+-- A call as a line of text: its destination where it is not 0, its name, and its words as far as the call has any or a later one is not 0. Assumes
+-- nothing.
+use Prim.Native.Nat.{ℕ, zero, suc, _/_}
 use mathlib.Core.Bool.{_&&_}
-use mathlib.Core.List.{List, [], _++_}
-use lib.Dec.{eqb, leb}
+use mathlib.Core.List.{List, [], _∷_, _++_}
+use lib.Dec.{eqb}
 use lib.ListN.{getD}
 use Rattle.words.specs.Pick.{if_then_else_}
 use Rattle.calls.specs.declared.Call.{Call}
-use Rattle.callfile.specs.Lines.{field, wordField, newline}
-use Rattle.calltext.specs.Names.{nameAt, codePlace, kindAt, minusAt}
+use Rattle.callfile.specs.Lines.{decimal, field, wordField, newline}
+use Rattle.calltext.specs.Names.{nameAt, hasName, codePlace, kindAt, minusAt}
 
 -- how many of the first n words are written
 unfoldable pub shownWords : ℕ → List ℕ → ℕ → ℕ
@@ -19,12 +20,21 @@ unfoldable pub fields : ℕ → List ℕ → ℕ → List ℕ
 fields place ws zero = []
 fields place ws (suc n) = fields place ws n ++ wordField (minusAt place n) (getD ws n 0)
 
--- `raw` is followed by the code
+-- `raw` is followed by word 0
 unfoldable pub codeField : ℕ → List ℕ
-codeField code = if leb code 15 then [] else field code
+codeField word = if hasName word then [] else field word
+
+-- a name has its destination before it
+unfoldable pub shownDestination : ℕ → ℕ
+shownDestination word = if hasName word then word / 256 else 0
+
+-- where it is not 0: `@`, its number and a space
+unfoldable pub destinationText : ℕ → List ℕ
+destinationText d = if eqb d 0 then [] else 64 ∷ (decimal d ++ (32 ∷ []))
 
 abbrev pub shownFields : ℕ → List ℕ → List ℕ
 shownFields place ws = fields place ws (shownWords place ws 8)
 
 unfoldable pub callText : Call → List ℕ
-callText c = nameAt (codePlace (c .code)) ++ (codeField (c .code) ++ (shownFields (codePlace (c .code)) (c .words) ++ newline))
+callText c =
+    destinationText (shownDestination (c .code)) ++ (nameAt (codePlace (c .code)) ++ (codeField (c .code) ++ (shownFields (codePlace (c .code)) (c .words) ++ newline)))

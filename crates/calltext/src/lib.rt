@@ -1,20 +1,19 @@
 // Calls as lines of text: a name and its numbers.
 ghost use mathlib.Core.Path.{_≡_};
-ghost use Prim.Native.Nat.{_+_, _<_, _≤_};
+ghost use Prim.Native.Nat.{_+_, _<_, _≤_, _^_};
 ghost use lib.ListN.{length, getD, drop};
 ghost use Rattle.textwords.specs.Text.{wordsOf, sameText};
-ghost use Rattle.textwords.specs.Numbers.{numberOf};
 ghost use Rattle.callfile.specs.Placed.{Puts, PutLine};
-ghost use Rattle.calltext.specs.Names.{nameAt, namePlace, codePlace, kindAt};
-ghost use Rattle.calltext.specs.Lines.{parsedCall, withoutCall, callOf, gatherCall, namedCall, callIn, lineCall};
-ghost use Rattle.calltext.specs.Faults.{isNumber, faultAmong, faultIn, faultWord, FaultAt};
-ghost use Rattle.calltext.specs.Shown.{shownWords, fields, codeField, callText};
+ghost use Rattle.calltext.specs.Names.{nameAt, namePlace, hasName, codePlace, kindAt};
+ghost use Rattle.calltext.specs.Lines.{parsedCall, withoutCall, callOf, gatherCall, atSign, smallNumber, destinationOf, namedCall, callFor, callIn, lineCall};
+ghost use Rattle.calltext.specs.Faults.{isNumber, faultAmong, faultNamed, faultAfter, faultIn, faultWord, wordIn, WordAt, FaultAt};
+ghost use Rattle.calltext.specs.Shown.{shownWords, fields, codeField, shownDestination, destinationText, callText};
 use calls::Call;
 use textwords::Number;
 use textwords::Stop;
 
 // The names, 16 bytes each, by code; the last is that of a call of any code.
-const NAMES: [u8; 272] = [
+const NAMES: [u8; 288] = [
     111,
     112,
     101,
@@ -271,6 +270,22 @@ const NAMES: [u8; 272] = [
     0,
     0,
     0,
+    115,
+    116,
+    97,
+    114,
+    116,
+    0,
+    0,
+    0,
+    0,
+    0,
+    0,
+    0,
+    0,
+    0,
+    0,
+    0,
     114,
     97,
     119,
@@ -289,10 +304,10 @@ const NAMES: [u8; 272] = [
     0,
 ];
 
-const LENGTHS: [u8; 17] = [4, 7, 4, 5, 3, 4, 7, 8, 6, 5, 5, 12, 15, 9, 14, 7, 3];
+const LENGTHS: [u8; 18] = [4, 7, 4, 5, 3, 4, 7, 8, 6, 5, 5, 12, 15, 9, 14, 7, 5, 3];
 
 // What each of a call's eight words holds: 0 nothing, 1 an unsigned number, 2 a signed one.
-const KINDS: [u8; 136] = [
+const KINDS: [u8; 144] = [
     1,
     1,
     1,
@@ -417,6 +432,14 @@ const KINDS: [u8; 136] = [
     2,
     2,
     1,
+    0,
+    0,
+    0,
+    0,
+    1,
+    0,
+    0,
+    0,
     0,
     0,
     0,
@@ -432,7 +455,15 @@ const KINDS: [u8; 136] = [
 ];
 
 // The place of the name for any code.
-const RAW: usize = 16;
+const RAW: usize = 17;
+
+// Word 0 of a call is its code and so many times its destination's number; the largest number that leaves it a word.
+const CODES: u64 = 256;
+
+const MOST_DESTINATION: u64 = 72057594037927935;
+
+// What stands before a destination's number.
+const AT: u8 = 64;
 
 // A line of text: what it is, and the call.
 pub struct Parsed {
@@ -440,8 +471,8 @@ pub struct Parsed {
     pub call: Call,
 }
 
-// A word of a line, from a place to another.
-pub struct Fault {
+// A part of a line, from a place to another.
+pub struct Part {
     pub from: usize,
     pub to: usize,
 }
@@ -457,10 +488,14 @@ pub const NO_NUMBER: u64 = 3;
 
 pub const TOO_MANY: u64 = 4;
 
+pub const NO_DESTINATION: u64 = 5;
+
+pub const NO_NAME: u64 = 6;
+
 // ---- names
 
 fn name_length(place: usize) -> usize
-    requires { ⌜ place < 17 ⌝ }
+    requires { ⌜ place < 18 ⌝ }
     ensures { λ r. ⌜ (r ≡ length (nameAt place)) × (r ≤ 15) ⌝ }
 {
     LENGTHS[place] as usize
@@ -468,7 +503,7 @@ fn name_length(place: usize) -> usize
 
 // Whether a word is the name at a place.
 fn is_name(word: &[u8], place: usize) -> bool
-    requires { ⌜ place < 17 ⌝ }
+    requires { ⌜ place < 18 ⌝ }
     ensures { λ r. ⌜ r ≡ sameText (now (word .entry)) (nameAt place) ⌝ }
 {
     let names = NAMES;
@@ -478,12 +513,12 @@ fn is_name(word: &[u8], place: usize) -> bool
     textwords::same(word, &all[from..to])
 }
 
-// The place of a name, or 17.
+// The place of a name, or 18.
 fn place_of(word: &[u8]) -> usize
     ensures { λ r. ⌜ r ≡ namePlace (now (word .entry)) ⌝ }
 {
     let mut k = 0;
-    while k < 17 {
+    while k < 18 {
         if is_name(word, k) {
             return k;
         }
@@ -536,14 +571,24 @@ fn gather_from(text: &[u8], from: usize, first: usize, start: [u64; 9]) -> Parse
     call_of(nine)
 }
 
-// The words after a name.
-fn named_from(text: &[u8], from: usize, place: usize) -> Parsed
+// The first word from a place on; none, at the end, where there is none.
+fn next_word(text: &[u8], from: usize) -> Part
     requires { do ⌜ from ≤ (← ⟦text.len()⟧) ⌝ }
-    ensures { λ r. ⌜ r ≡ namedCall place (wordsOf (drop from (now (text .entry)))) ⌝ }
+    ensures { λ r. ⌜ WordAt from (now (text .entry)) r ⌝ }
+{
+    let i = textwords::scan(text, from, Stop::Word);
+    let e = textwords::scan(text, i, Stop::Blank);
+    Part { from: i, to: e }
+}
+
+// The words after a name, of a call for a destination.
+fn named_from(text: &[u8], from: usize, d: u64, place: usize) -> Parsed
+    requires { do ⌜ (from ≤ (← ⟦text.len()⟧)) × (d < 2 ^ 56) ⌝ }
+    ensures { λ r. ⌜ r ≡ namedCall d place (wordsOf (drop from (now (text .entry)))) ⌝ }
 {
     let mut nine = [0u64; 9];
     if place < RAW {
-        nine[0] = place as u64;
+        nine[0] = place as u64 + CODES * d;
         return gather_from(text, from, 1, nine);
     }
     if place == RAW {
@@ -552,17 +597,75 @@ fn named_from(text: &[u8], from: usize, place: usize) -> Parsed
     without_call(UNKNOWN)
 }
 
+// Whether a word stands for a destination.
+fn at_sign(word: &[u8]) -> bool
+    ensures { λ r. ⌜ r ≡ atSign (now (word .entry)) ⌝ }
+{
+    if word.len() == 0 {
+        return false;
+    }
+    word[0] == AT
+}
+
+// A number that a destination can have.
+fn small_number(n: Number) -> Number
+    ensures { λ r. ⌜ r ≡ smallNumber n ⌝ }
+{
+    let Number::Of(d) = n else {
+        return Number::Bad;
+    };
+    if MOST_DESTINATION < d {
+        return Number::Bad;
+    }
+    Number::Of(d)
+}
+
+// The destination's number in such a word.
+fn destination_of(word: &[u8]) -> Number
+    ensures { λ r. ⌜ r ≡ destinationOf (now (word .entry)) ⌝ }
+{
+    if word.len() == 0 {
+        return Number::Bad;
+    }
+    small_number(textwords::number_of(&word[1..word.len()]))
+}
+
+// The words after a destination's number.
+fn call_for(text: &[u8], from: usize, d: u64) -> Parsed
+    requires { do ⌜ (from ≤ (← ⟦text.len()⟧)) × (d < 2 ^ 56) ⌝ }
+    ensures { λ r. ⌜ r ≡ callFor d (wordsOf (drop from (now (text .entry)))) ⌝ }
+{
+    let w = next_word(text, from);
+    let i = w.from;
+    let e = w.to;
+    if i == text.len() {
+        return without_call(NO_NAME);
+    }
+    let place = place_of(&text[i..e]);
+    if place == RAW {
+        return without_call(NO_NAME);
+    }
+    named_from(text, e, d, place)
+}
+
 // A text without remarks.
 fn parse_words(text: &[u8]) -> Parsed
     ensures { λ r. ⌜ r ≡ callIn (wordsOf (now (text .entry))) ⌝ }
 {
-    let i = textwords::scan(text, 0, Stop::Word);
+    let w = next_word(text, 0);
+    let i = w.from;
+    let e = w.to;
     if i == text.len() {
         return without_call(EMPTY);
     }
-    let e = textwords::scan(text, i, Stop::Blank);
-    let place = place_of(&text[i..e]);
-    named_from(text, e, place)
+    if !at_sign(&text[i..e]) {
+        let place = place_of(&text[i..e]);
+        return named_from(text, e, 0, place);
+    }
+    let Number::Of(d) = destination_of(&text[i..e]) else {
+        return without_call(NO_DESTINATION);
+    };
+    call_for(text, e, d)
 }
 
 // A line: a call, nothing, or what is wrong with it.
@@ -575,17 +678,17 @@ pub fn parse(line: &[u8]) -> Parsed
 
 // ---- the word at fault
 
-fn is_number(word: &[u8]) -> bool
-    ensures { λ r. ⌜ r ≡ isNumber (numberOf (now (word .entry))) ⌝ }
+fn is_number(n: Number) -> bool
+    ensures { λ r. ⌜ r ≡ isNumber n ⌝ }
 {
-    let Number::Of(_) = textwords::number_of(word) else {
+    let Number::Of(_) = n else {
         return false;
     };
     true
 }
 
 // The first word from a place on that is no number, or that is one too many.
-fn fault_from(text: &[u8], from: usize, first: usize) -> Fault
+fn fault_from(text: &[u8], from: usize, first: usize) -> Part
     requires { do ⌜ (from ≤ (← ⟦text.len()⟧)) × (first ≤ 9) ⌝ }
     ensures { λ r. ⌜ FaultAt (faultAmong first (wordsOf (drop from (now (text .entry))))) (now (text .entry)) r ⌝ }
 {
@@ -594,38 +697,71 @@ fn fault_from(text: &[u8], from: usize, first: usize) -> Fault
     while i < text.len() {
         let e = textwords::scan(text, i, Stop::Blank);
         if 8 < n {
-            return Fault { from: i, to: e };
+            return Part { from: i, to: e };
         }
-        if !is_number(&text[i..e]) {
-            return Fault { from: i, to: e };
+        if !is_number(textwords::number_of(&text[i..e])) {
+            return Part { from: i, to: e };
         }
         n += 1;
         i = textwords::scan(text, e, Stop::Word);
     }
-    Fault { from: i, to: i }
+    Part { from: i, to: i }
+}
+
+// From a name on.
+fn fault_named(text: &[u8], name: Part, place: usize) -> Part
+    requires { ⌜ (name .from ≤ name .to) × (name .to ≤ length (now text)) × (place ≡ namePlace (wordIn (now text) name)) ⌝ }
+    ensures { λ r. ⌜ FaultAt (faultNamed (wordIn (now (text .entry)) name) (wordsOf (drop (name .to) (now (text .entry))))) (now (text .entry)) r ⌝ }
+{
+    if RAW < place {
+        return name;
+    }
+    if place == RAW {
+        return fault_from(text, name.to, 0);
+    }
+    fault_from(text, name.to, 1)
+}
+
+// From a destination's number on.
+fn fault_after(text: &[u8], at: Part) -> Part
+    requires { ⌜ (at .from ≤ at .to) × (at .to ≤ length (now text)) ⌝ }
+    ensures { λ r. ⌜ FaultAt (faultAfter (wordIn (now (text .entry)) at) (wordsOf (drop (at .to) (now (text .entry))))) (now (text .entry)) r ⌝ }
+{
+    let w = next_word(text, at.to);
+    let i = w.from;
+    let e = w.to;
+    if i == text.len() {
+        return at;
+    }
+    let place = place_of(&text[i..e]);
+    if place == RAW {
+        return at;
+    }
+    fault_named(text, w, place)
 }
 
 // Of a text without remarks.
-fn fault_in(text: &[u8]) -> Fault
+fn fault_in(text: &[u8]) -> Part
     ensures { λ r. ⌜ FaultAt (faultIn (wordsOf (now (text .entry)))) (now (text .entry)) r ⌝ }
 {
-    let i = textwords::scan(text, 0, Stop::Word);
+    let w = next_word(text, 0);
+    let i = w.from;
+    let e = w.to;
     if i == text.len() {
-        return Fault { from: i, to: i };
+        return w;
     }
-    let e = textwords::scan(text, i, Stop::Blank);
-    let place = place_of(&text[i..e]);
-    if RAW < place {
-        return Fault { from: i, to: e };
+    if !at_sign(&text[i..e]) {
+        let place = place_of(&text[i..e]);
+        return fault_named(text, w, place);
     }
-    if place == RAW {
-        return fault_from(text, e, 0);
+    if !is_number(destination_of(&text[i..e])) {
+        return w;
     }
-    fault_from(text, e, 1)
+    fault_after(text, w)
 }
 
 // The word of a line that makes it a bad one; no bytes where it is none.
-pub fn fault_of(text: &[u8]) -> Fault
+pub fn fault_of(text: &[u8]) -> Part
     ensures { λ r. ⌜ FaultAt (faultWord (now (text .entry))) (now (text .entry)) r ⌝ }
 {
     let e = textwords::scan(text, 0, Stop::Remark);
@@ -636,14 +772,14 @@ pub fn fault_of(text: &[u8]) -> Fault
 
 // Byte j of the name at a place.
 fn name_byte(place: usize, j: usize) -> u8
-    requires { ⌜ (place < 17) × (j < length (nameAt place)) ⌝ }
+    requires { ⌜ (place < 18) × (j < length (nameAt place)) ⌝ }
     ensures { λ r. ⌜ r ≡ getD (nameAt place) j 0 ⌝ }
 {
     NAMES[place * 16 + j]
 }
 
 fn put_name(out: &mut [u8], at: usize, place: usize) -> usize
-    requires { do ⌜ (place < 17) × (at + 15 ≤ (← ⟦out.len()⟧)) ⌝ }
+    requires { do ⌜ (place < 18) × (at + 15 ≤ (← ⟦out.len()⟧)) ⌝ }
     ensures { λ r. ⌜ Puts (nameAt place) at (now (out .entry)) r (now (out .exit)) × (r ≤ at + 15) ⌝ }
 {
     let n = name_length(place);
@@ -656,22 +792,52 @@ fn put_name(out: &mut [u8], at: usize, place: usize) -> usize
     next
 }
 
-// The place of the name of a code.
-fn place_for(code: u64) -> usize
-    ensures { λ r. ⌜ (r ≡ codePlace code) × (r < 17) ⌝ }
+// Whether the code in a call's word 0 has a name.
+fn has_name(code: u64) -> bool
+    ensures { λ r. ⌜ r ≡ hasName code ⌝ }
 {
-    if code < 16 {
-        return code as usize;
+    code % CODES <= 16
+}
+
+// The place of the name for a call's word 0.
+fn place_for(code: u64) -> usize
+    ensures { λ r. ⌜ (r ≡ codePlace code) × (r < 18) ⌝ }
+{
+    if has_name(code) {
+        return (code % CODES) as usize;
     }
     RAW
 }
 
-// The code, where the name does not say it.
+// The destination that is written before the name.
+fn shown_destination(code: u64) -> u64
+    ensures { λ r. ⌜ r ≡ shownDestination code ⌝ }
+{
+    if has_name(code) {
+        return code / CODES;
+    }
+    0
+}
+
+// A destination that is not 0, and a space. The number is put after a space, which becomes the sign.
+fn put_destination(out: &mut [u8], at: usize, d: u64) -> usize
+    requires { do ⌜ at + 128 ≤ (← ⟦out.len()⟧) ⌝ }
+    ensures { λ r. ⌜ Puts (destinationText d) at (now (out .entry)) r (now (out .exit)) × (r ≤ at + 22) ⌝ }
+{
+    if d == 0 {
+        return at;
+    }
+    let next = callfile::put_word(out, at, d, false);
+    callfile::put_byte(out, at, AT);
+    callfile::put_byte(out, next, b' ')
+}
+
+// Word 0, where the name does not say it.
 fn put_code(out: &mut [u8], at: usize, code: u64) -> usize
     requires { do ⌜ at + 128 ≤ (← ⟦out.len()⟧) ⌝ }
     ensures { λ r. ⌜ Puts (codeField code) at (now (out .entry)) r (now (out .exit)) × (r ≤ at + 22) ⌝ }
 {
-    if code < 16 {
+    if has_name(code) {
         return at;
     }
     callfile::put_word(out, at, code, false)
@@ -679,7 +845,7 @@ fn put_code(out: &mut [u8], at: usize, code: u64) -> usize
 
 // What word k of a call holds.
 fn kind_at(place: usize, k: usize) -> u8
-    requires { ⌜ (place < 17) × (k < 8) ⌝ }
+    requires { ⌜ (place < 18) × (k < 8) ⌝ }
     ensures { λ r. ⌜ r ≡ kindAt place k ⌝ }
 {
     KINDS[place * 8 + k]
@@ -687,7 +853,7 @@ fn kind_at(place: usize, k: usize) -> u8
 
 // How many words are written.
 fn shown_words(place: usize, w: [u64; 8]) -> usize
-    requires { ⌜ place < 17 ⌝ }
+    requires { ⌜ place < 18 ⌝ }
     ensures { λ r. ⌜ (r ≡ shownWords place w 8) × (r ≤ 8) ⌝ }
 {
     let mut n = 8;
@@ -704,7 +870,7 @@ fn shown_words(place: usize, w: [u64; 8]) -> usize
 }
 
 fn put_fields(out: &mut [u8], at: usize, place: usize, w: [u64; 8], n: usize) -> usize
-    requires { do ⌜ (place < 17) × (n ≤ 8) × (at + 304 ≤ (← ⟦out.len()⟧)) ⌝ }
+    requires { do ⌜ (place < 18) × (n ≤ 8) × (at + 304 ≤ (← ⟦out.len()⟧)) ⌝ }
     ensures { λ r. ⌜ Puts (fields place w n) at (now (out .entry)) r (now (out .exit)) × (r ≤ at + 176) ⌝ }
 {
     let mut next = at;
@@ -724,7 +890,9 @@ fn text_line(out: &mut [u8], at: usize, c: Call) -> usize
     let code = c.code;
     let words = c.words;
     let place = place_for(code);
-    let a = put_name(out, at, place);
+    let destination = shown_destination(code);
+    let name = put_destination(out, at, destination);
+    let a = put_name(out, name, place);
     let b = put_code(out, a, code);
     let n = shown_words(place, words);
     let d = put_fields(out, b, place, words, n);

@@ -5,24 +5,21 @@ use native.Mathlib.Omega.{arith}
 use mathlib.Core.Path.{_≡_, refl, ap, sym, _∙_}
 use mathlib.Core.Bool.{true, false}
 use mathlib.Core.List.{List, [], _∷_, _++_, map, map-append}
-use borrow.Author.Tests.{eq-eqb, ne-eqb, leb-true, le-leb, lt-leb}
-use lib.Dec.{leb}
+use borrow.Author.Tests.{eq-eqb, ne-eqb, le-leb, lt-leb}
 use lib.ListN.{length, getD, take, length-append}
 use lib.Seq.{take-all}
 use Rattle.words.proofs.Lists.{take-next}
-use Rattle.words.proofs.Tests.{by-test}
 use Rattle.textwords.specs.Text.{hasMark}
 use Rattle.calls.specs.declared.Call.{Call}
 use Rattle.callfile.specs.Blocks.{callsIn, callAt}
 use Rattle.callfile.specs.Lines.{wordField, newline, badLine}
-use Rattle.callfile.proofs.Digits.{word-length}
 use Rattle.calltext.specs.Names.{nameAt, codePlace, minusAt}
 use Rattle.calltext.specs.Faults.{faultWord}
-use Rattle.calltext.specs.Shown.{shownWords, fields, codeField, callText}
+use Rattle.calltext.specs.Shown.{shownWords, fields, codeField, shownDestination, destinationText, callText}
 use Rattle.calltext.proofs.Tables.{short}
-use Rattle.calltext.proofs.Showing.{field-length}
+use Rattle.calltext.proofs.Showing.{field-length, place-low, code-length, destination-length}
 use Rattle.calltext.proofs.RoundTrip.{shown-within}
-use Rattle.texting.specs.Lines.{unknownCall, noNumber, tooMany, complaint, textLineKind, shownByte, shownWord, markComplaint, markedLine, wrongWith}
+use Rattle.texting.specs.Lines.{unknownCall, noNumber, tooMany, noDestination, noName, complaint, textLineKind, shownByte, shownWord, markComplaint, markedLine, wrongWith}
 use Rattle.texting.specs.Shown.{callTexts, blockText}
 
 -- ---- messages
@@ -36,9 +33,21 @@ module _ (kind : ℕ) where
   unfolding complaint
   says-number e = let n : kind ≡ 2 → ⊥ = λ f. omega arith in rw (ne-eqb kind 2 n, eq-eqb kind 3 e)
 
-  pub says-many : (kind ≡ 2 → ⊥) → (kind ≡ 3 → ⊥) → tooMany ≡ complaint kind
+  pub says-many : kind ≡ 4 → tooMany ≡ complaint kind
   unfolding complaint
-  says-many e f = rw (ne-eqb kind 2 e, ne-eqb kind 3 f)
+  says-many e = let n : kind ≡ 2 → ⊥ = λ f. omega arith in let m : kind ≡ 3 → ⊥ = λ f. omega arith in rw (ne-eqb kind 2 n, ne-eqb kind 3 m, eq-eqb kind 4 e)
+
+  pub says-destination : kind ≡ 5 → noDestination ≡ complaint kind
+  unfolding complaint
+  says-destination e =
+      let n : kind ≡ 2 → ⊥ = λ f. omega arith in
+      let m : kind ≡ 3 → ⊥ = λ f. omega arith in
+      let l : kind ≡ 4 → ⊥ = λ f. omega arith in
+      rw (ne-eqb kind 2 n, ne-eqb kind 3 m, ne-eqb kind 4 l, eq-eqb kind 5 e)
+
+  pub says-name : (kind ≡ 2 → ⊥) → (kind ≡ 3 → ⊥) → (kind ≡ 4 → ⊥) → (kind ≡ 5 → ⊥) → noName ≡ complaint kind
+  unfolding complaint
+  says-name e f g h = rw (ne-eqb kind 2 e, ne-eqb kind 3 f, ne-eqb kind 4 g, ne-eqb kind 5 h)
 
 -- a byte that is shown as it is, or not
 module _ (b : ℕ) where
@@ -90,14 +99,6 @@ unfolding fields
 fields-length place ws zero = omega arith
 fields-length place ws (suc n) = omega (arith, length-append (fields place ws n) (wordField (minusAt place n) (getD ws n 0)), fields-length place ws n, field-length (minusAt place n) (getD ws n 0))
 
-place-known : (code : ℕ) → codePlace code < 17
-unfolding codePlace
-place-known code = by-test (leb code 15) (λ t. rw t (omega (arith, leb-true code 15 t))) (λ t. rw t (omega arith))
-
-code-length : (code : ℕ) → length (codeField code) ≤ 21
-unfolding codeField
-code-length code = by-test (leb code 15) (λ t. rw t (omega arith)) (λ t. rw t (omega (arith, word-length code)))
-
 pub text-length : (c : Call) → length (callText c) ≤ 512
 unfolding callText
 text-length c =
@@ -105,7 +106,9 @@ text-length c =
     let n = shownWords place (c .words) 8 in
     let f = fields place (c .words) n in
     let d = codeField (c .code) in
-    omega (arith, length-append (nameAt place) (d ++ (f ++ newline)), length-append d (f ++ newline), length-append f newline, short place (place-known (c .code)), code-length (c .code), fields-length place (c .words) n, shown-within place (c .words) 8)
+    let h = shownDestination (c .code) in
+    let rest = nameAt place ++ (d ++ (f ++ newline)) in
+    omega (arith, length-append (destinationText h) rest, length-append (nameAt place) (d ++ (f ++ newline)), length-append d (f ++ newline), length-append f newline, destination-length h, short place (place-low (c .code)), code-length (c .code), fields-length place (c .words) n, shown-within place (c .words) 8)
 
 pub no-texts : (block : List ℕ) → callTexts 0 block ≡ []
 unfolding callTexts

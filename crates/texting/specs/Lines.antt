@@ -32,7 +32,8 @@ unfoldable pub lineCalls : List (List ℕ) → List Call
 lineCalls [] = []
 lineCalls (l ∷ ls) = if isCall l then lineCall l .call ∷ lineCalls ls else lineCalls ls
 
--- `: unknown call: `, `: not a number of 64 bits: `, `: more than eight arguments: `, each before the word at fault
+-- `: unknown call: `, `: not a number of 64 bits: `, `: more than eight arguments: `, `: not a destination's number: `, `: no call's name after: `, each before
+-- the word at fault
 abbrev pub unknownCall : List ℕ
 unknownCall = 58 ∷ 32 ∷ 117 ∷ 110 ∷ 107 ∷ 110 ∷ 111 ∷ 119 ∷ 110 ∷ 32 ∷ 99 ∷ 97 ∷ 108 ∷ 108 ∷ 58 ∷ 32 ∷ []
 
@@ -42,8 +43,15 @@ noNumber = 58 ∷ 32 ∷ 110 ∷ 111 ∷ 116 ∷ 32 ∷ 97 ∷ 32 ∷ 110 ∷ 11
 abbrev pub tooMany : List ℕ
 tooMany = 58 ∷ 32 ∷ 109 ∷ 111 ∷ 114 ∷ 101 ∷ 32 ∷ 116 ∷ 104 ∷ 97 ∷ 110 ∷ 32 ∷ 101 ∷ 105 ∷ 103 ∷ 104 ∷ 116 ∷ 32 ∷ 97 ∷ 114 ∷ 103 ∷ 117 ∷ 109 ∷ 101 ∷ 110 ∷ 116 ∷ 115 ∷ 58 ∷ 32 ∷ []
 
+abbrev pub noDestination : List ℕ
+noDestination = 58 ∷ 32 ∷ 110 ∷ 111 ∷ 116 ∷ 32 ∷ 97 ∷ 32 ∷ 100 ∷ 101 ∷ 115 ∷ 116 ∷ 105 ∷ 110 ∷ 97 ∷ 116 ∷ 105 ∷ 111 ∷ 110 ∷ 39 ∷ 115 ∷ 32 ∷ 110 ∷ 117 ∷ 109 ∷ 98 ∷ 101 ∷ 114 ∷ 58 ∷ 32 ∷ []
+
+abbrev pub noName : List ℕ
+noName = 58 ∷ 32 ∷ 110 ∷ 111 ∷ 32 ∷ 99 ∷ 97 ∷ 108 ∷ 108 ∷ 39 ∷ 115 ∷ 32 ∷ 110 ∷ 97 ∷ 109 ∷ 101 ∷ 32 ∷ 97 ∷ 102 ∷ 116 ∷ 101 ∷ 114 ∷ 58 ∷ 32 ∷ []
+
 unfoldable pub complaint : ℕ → List ℕ
-complaint kind = if eqb kind 2 then unknownCall else if eqb kind 3 then noNumber else tooMany
+complaint kind =
+    if eqb kind 2 then unknownCall else if eqb kind 3 then noNumber else if eqb kind 4 then tooMany else if eqb kind 5 then noDestination else noName
 
 -- a byte of a word, if it is printable ASCII; else a question mark
 abbrev pub shownByte : ℕ → ℕ

@@ -146,13 +146,15 @@ pub fn first_bad(text: &[u8], from: usize, line: u64) -> Bad
 
 // What is wrong with a line.
 fn put_complaint(out: &mut [u8], at: usize, kind: u64) -> usize
-    requires { ⌜ at + 29 ≤ length (now out) ⌝ }
-    ensures { λ r. ⌜ Puts (complaint kind) at (now (out .entry)) r (now (out .exit)) × (r ≤ at + 29) ⌝ }
+    requires { ⌜ at + 30 ≤ length (now out) ⌝ }
+    ensures { λ r. ⌜ Puts (complaint kind) at (now (out .entry)) r (now (out .exit)) × (r ≤ at + 30) ⌝ }
 {
     match kind {
         calltext::UNKNOWN => callfile::put_all(out, at, b": unknown call: "),
         calltext::NO_NUMBER => callfile::put_all(out, at, b": not a number of 64 bits: "),
-        _ => callfile::put_all(out, at, b": more than eight arguments: "),
+        calltext::TOO_MANY => callfile::put_all(out, at, b": more than eight arguments: "),
+        calltext::NO_DESTINATION => callfile::put_all(out, at, b": not a destination's number: "),
+        _ => callfile::put_all(out, at, b": no call's name after: "),
     }
 }
 
@@ -198,8 +200,8 @@ fn put_shown(out: &mut [u8], at: usize, word: &[u8]) -> usize
 
 // What is wrong with a line, and the word at fault.
 fn put_fault(out: &mut [u8], at: usize, line: &[u8]) -> usize
-    requires { ⌜ at + 72 ≤ length (now out) ⌝ }
-    ensures { λ r. ⌜ Puts (complaint (textLineKind (now (line .entry))) ++ shownWord (faultWord (now (line .entry)))) at (now (out .entry)) r (now (out .exit)) × (r ≤ at + 72) ⌝ }
+    requires { ⌜ at + 73 ≤ length (now out) ⌝ }
+    ensures { λ r. ⌜ Puts (complaint (textLineKind (now (line .entry))) ++ shownWord (faultWord (now (line .entry)))) at (now (out .entry)) r (now (out .exit)) × (r ≤ at + 73) ⌝ }
 {
     let p = calltext::parse(line);
     let kind = p.kind;
@@ -220,8 +222,8 @@ fn marked(n: u64, line: &[u8]) -> bool
 }
 
 fn put_wrong(out: &mut [u8], at: usize, n: u64, line: &[u8]) -> usize
-    requires { ⌜ at + 72 ≤ length (now out) ⌝ }
-    ensures { λ r. ⌜ Puts (wrongWith n (now (line .entry))) at (now (out .entry)) r (now (out .exit)) × (r ≤ at + 72) ⌝ }
+    requires { ⌜ at + 73 ≤ length (now out) ⌝ }
+    ensures { λ r. ⌜ Puts (wrongWith n (now (line .entry))) at (now (out .entry)) r (now (out .exit)) × (r ≤ at + 73) ⌝ }
 {
     if marked(n, line) {
         return callfile::put_all(

@@ -2,6 +2,7 @@
 //!
 //! `name NUMBER ...`    a call; missing arguments are 0, up to eight may be given
 //! `code NUMBER ...`    a call by its code
+//! `raw NUMBER ...`     a call by its word 0, as `showcalls` writes it
 //! `@D name NUMBER ...` a call for destination D of a station; without `@D` for destination 0; also before `code`
 //! `start`              starts a station
 //! `for A B: LINE`      the line for each number from A to B, `$` being the number
@@ -151,6 +152,7 @@ fn read_line(line: &str, blocks: &mut Blocks, expected: &mut String) -> Result<(
                 }
                 blocks.add(station::placed(place, &call));
             }
+            ["raw", word, ref args @ ..] => blocks.add(call(number(word)?, args)?),
             ref call => blocks.add(read_call(call)?),
         }
     }

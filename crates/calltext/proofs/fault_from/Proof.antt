@@ -6,7 +6,7 @@ use lib.ListN.{length, drop}
 use Rattle.textwords.specs.declared.Stop.the-variants.{Word}
 use Rattle.textwords.specs.Text.{run, wordsOf}
 use Rattle.textwords.proofs.Words.{to-word, at-word, word-within, passed, no-words}
-use Rattle.calltext.specs.Faults.{faultAmong}
+use Rattle.calltext.specs.Faults.{isNumber, faultAmong}
 use Rattle.calltext.proofs.Faulting.{among-none, among-many, among-here, among-later, stands, stands-not, also}
 use native.Mathlib.Omega.{arith}
 use borrow.Author.Needs.{needs}
@@ -40,8 +40,8 @@ returns c =
     let p = passed (a .text .now) (g .loop .i) (e .result) (omega arith) (v .1) (e .ensures) in
     also (stands (g .loop .i) (e .result) (omega (arith, p .more)) (p .within) refl) (sym (among-many (g .loop .n) _ _ (c .if1 .taken)) ∙ ap (faultAmong (g .loop .n)) (sym (p .words)) ∙ v .3)
 
-sub-is-number : tie.Need-sub-is-number Inv-loop μ-loop
-sub-is-number c =
+sub-number-of : tie.Need-sub-number-of Inv-loop μ-loop
+sub-number-of c =
     let g = c .before .before .before in
     let a = g .before .before .before .args in
     let v = g .loop .inv in
@@ -49,8 +49,8 @@ sub-is-number c =
     let p = passed (a .text .now) (g .loop .i) (e .result) (omega arith) (v .1) (e .ensures) in
     omega (arith, p .more)
 
-part-is-number-start : tie.Need-part-is-number-start Inv-loop μ-loop
-part-is-number-start c =
+part-number-of-start : tie.Need-part-number-of-start Inv-loop μ-loop
+part-number-of-start c =
     let g = c .before .before .before in
     let a = g .before .before .before .args in
     let v = g .loop .inv in
@@ -58,8 +58,8 @@ part-is-number-start c =
     let p = passed (a .text .now) (g .loop .i) (e .result) (omega arith) (v .1) (e .ensures) in
     omega (arith, p .more)
 
-part-is-number-end : tie.Need-part-is-number-end Inv-loop μ-loop
-part-is-number-end c =
+part-number-of-end : tie.Need-part-number-of-end Inv-loop μ-loop
+part-number-of-end c =
     let g = c .before .before .before in
     let a = g .before .before .before .args in
     let v = g .loop .inv in
@@ -67,17 +67,21 @@ part-is-number-end c =
     let p = passed (a .text .now) (g .loop .i) (e .result) (omega arith) (v .1) (e .ensures) in
     omega (arith, p .within)
 
+number-of-requires : tie.Need-number-of-requires Inv-loop μ-loop
+number-of-requires c κs = search needs
+
 is-number-requires : tie.Need-is-number-requires Inv-loop μ-loop
 is-number-requires c κs = search needs
 
 returns-2 : tie.Need-returns-2 Inv-loop μ-loop
 returns-2 c =
-    let g = c .before .before .before .before .before .before in
+    let g = c .before .before .before .before .before .before .before in
     let a = g .before .before .before .args in
     let v = g .loop .inv in
-    let e = c .before .before .before .before .scan2 in
+    let e = c .before .before .before .before .before .scan2 in
     let p = passed (a .text .now) (g .loop .i) (e .result) (omega arith) (v .1) (e .ensures) in
-    also (stands (g .loop .i) (e .result) (omega (arith, p .more)) (p .within) refl) (sym (among-here (g .loop .n) _ _ (omega arith) (sym (c .before .is-number .ensures) ∙ not-true _ (c .if2 .taken))) ∙ ap (faultAmong (g .loop .n)) (sym (p .words)) ∙ v .3)
+    let no = sym (ap isNumber (c .before .before .number-of .ensures)) ∙ sym (c .before .is-number .ensures) ∙ not-true _ (c .if2 .taken) in
+    also (stands (g .loop .i) (e .result) (omega (arith, p .more)) (p .within) refl) (sym (among-here (g .loop .n) _ _ (omega arith) no) ∙ ap (faultAmong (g .loop .n)) (sym (p .words)) ∙ v .3)
 
 add-n : tie.Need-add-n Inv-loop μ-loop
 add-n c = search needs
@@ -87,24 +91,25 @@ scan-requires-3 c κs = search needs
 
 loop-less : tie.Need-loop-less Inv-loop μ-loop
 loop-less c =
-    let g = c .before .before .before .before .before .before .before in
+    let g = c .before .before .before .before .before .before .before .before in
     let a = g .before .before .before .args in
     let v = g .loop .inv in
-    let e = c .before .before .before .before .before .scan2 in
+    let e = c .before .before .before .before .before .before .scan2 in
     let p = passed (a .text .now) (g .loop .i) (e .result) (omega arith) (v .1) (e .ensures) in
     omega (arith, p .more, word-within (a .text .now) (e .result) (c .scan3 .result) (p .within) (c .scan3 .ensures), c .scan3 .ensures)
 
 loop-again : tie.Need-loop-again Inv-loop μ-loop
 loop-again c =
-    let g = c .before .before .before .before .before .before .before in
+    let g = c .before .before .before .before .before .before .before .before in
     let a = g .before .before .before .args in
     let v = g .loop .inv in
-    let e = c .before .before .before .before .before .scan2 in
+    let e = c .before .before .before .before .before .before .scan2 in
     let p = passed (a .text .now) (g .loop .i) (e .result) (omega arith) (v .1) (e .ensures) in
     let s = c .scan3 .ensures in
     let t = a .text .now in
     let q = p .within in
-    (word-within t (e .result) (c .scan3 .result) q s, at-word t (e .result) (c .scan3 .result) q s, omega arith, ap (faultAmong (g .loop .n + 1)) (sym (to-word t (e .result) (c .scan3 .result) q s)) ∙ sym (among-later (g .loop .n) _ _ (omega arith) (sym (c .before .before .is-number .ensures) ∙ not-false _ (c .before .if2 .left))) ∙ ap (faultAmong (g .loop .n)) (sym (p .words)) ∙ v .3)
+    let yes = sym (ap isNumber (c .before .before .before .number-of .ensures)) ∙ sym (c .before .before .is-number .ensures) ∙ not-false _ (c .before .if2 .left) in
+    (word-within t (e .result) (c .scan3 .result) q s, at-word t (e .result) (c .scan3 .result) q s, omega arith, ap (faultAmong (g .loop .n + 1)) (sym (to-word t (e .result) (c .scan3 .result) q s)) ∙ sym (among-later (g .loop .n) _ _ (omega arith) yes) ∙ ap (faultAmong (g .loop .n)) (sym (p .words)) ∙ v .3)
 
 returns-3 : tie.Need-returns-3 Inv-loop μ-loop
 returns-3 c =
@@ -123,9 +128,10 @@ fault-from-spec =
     loop-holds
     scan-requires-2
     returns
-    sub-is-number
-    part-is-number-start
-    part-is-number-end
+    sub-number-of
+    part-number-of-start
+    part-number-of-end
+    number-of-requires
     is-number-requires
     returns-2
     add-n

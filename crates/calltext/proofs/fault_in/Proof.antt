@@ -1,24 +1,34 @@
 -- `calltext::fault_in` meets its contract. Assumes nothing.
-use mathlib.Core.Path.{refl, sym, ap, _∙_}
-use Rattle.textwords.proofs.Words.{to-word, at-word, word-within, passed, no-words}
-use Rattle.calltext.specs.Faults.{faultIn}
-use Rattle.calltext.proofs.Faulting.{in-none, in-name, in-raw, in-code, stands, stands-not, also}
+use Prim.Native.Nat.{_-_}
+use mathlib.Core.Path.{_≡_, sym, ap, _∙_}
+use borrow.Author.Tests.{not-true, not-false}
+use Rattle.calltext.specs.Faults.{isNumber, faultIn}
+use Rattle.calltext.proofs.Faulting.{in-none, in-plain, in-destination, in-placed, also}
 use native.Mathlib.Omega.{arith}
 use borrow.Author.Needs.{needs}
 use Rattle.calltext.proofs.fault_in.Statement.{statement}
 use Rattle.calltext.proofs.fault_in.Tie as tie
 
-scan-requires : tie.Need-scan-requires
-scan-requires c κs = search needs
+next-word-requires : tie.Need-next-word-requires
+next-word-requires c κs = search needs
 
 returns : tie.Need-returns
 returns c =
-    let t = c .before .before .before .args .text .now in
-    let s = c .before .scan in
-    also (stands-not t (s .result) (omega (arith, c .if1 .taken))) (sym in-none ∙ ap faultIn (sym (to-word t 0 (s .result) (omega arith) (s .ensures) ∙ no-words t (s .result) (omega arith))))
+    let w = c .before .next-word in
+    let z : w .result .to - w .result .from ≡ 0 = omega arith in
+    record { order = w .ensures .order; within = w .ensures .within; bytes = rw z (sym (ap faultIn (w .ensures .none (c .if1 .taken)) ∙ in-none)) }
 
-scan-requires-2 : tie.Need-scan-requires-2
-scan-requires-2 c κs = search needs
+sub-at-sign : tie.Need-sub-at-sign
+sub-at-sign c = search needs
+
+part-at-sign-start : tie.Need-part-at-sign-start
+part-at-sign-start c = search needs
+
+part-at-sign-end : tie.Need-part-at-sign-end
+part-at-sign-end c = search needs
+
+at-sign-requires : tie.Need-at-sign-requires
+at-sign-requires c κs = search needs
 
 sub-place-of : tie.Need-sub-place-of
 sub-place-of c = search needs
@@ -27,75 +37,71 @@ part-place-of-start : tie.Need-part-place-of-start
 part-place-of-start c = search needs
 
 part-place-of-end : tie.Need-part-place-of-end
-part-place-of-end c =
-    let t = c .before .before .before .before .args .text .now in
-    let s = c .before .before .scan in
-    let e = c .scan2 in
-    let w = word-within t 0 (s .result) (omega arith) (s .ensures) in
-    let p = passed t (s .result) (e .result) (omega arith) (at-word t 0 (s .result) (omega arith) (s .ensures)) (e .ensures) in
-    omega (arith, p .within)
+part-place-of-end c = search needs
 
 place-of-requires : tie.Need-place-of-requires
 place-of-requires c κs = search needs
 
+fault-named-requires : tie.Need-fault-named-requires
+fault-named-requires c κs = (c .before .before .before .before .before .before .next-word .ensures .order, c .before .before .before .before .before .before .next-word .ensures .within, c .place-of .ensures)
+
 returns-2 : tie.Need-returns-2
 returns-2 c =
-    let t = c .before .before .before .before .before .before .before .args .text .now in
-    let s = c .before .before .before .before .before .scan in
-    let e = c .before .before .before .scan2 in
-    let w = word-within t 0 (s .result) (omega arith) (s .ensures) in
-    let p = passed t (s .result) (e .result) (omega arith) (at-word t 0 (s .result) (omega arith) (s .ensures)) (e .ensures) in
-    also (stands (s .result) (e .result) (omega (arith, p .more)) (p .within) refl) (sym (in-name _ _ (omega (arith, c .before .place-of .ensures))) ∙ ap faultIn (sym (to-word t 0 (s .result) (omega arith) (s .ensures) ∙ p .words)))
+    let plain = sym (c .before .before .before .before .at-sign .ensures) ∙ not-true _ (c .before .before .before .if2 .taken) in
+    also (c .fault-named .ensures) (sym (ap faultIn (c .before .before .before .before .before .before .before .next-word .ensures .some (c .before .before .before .before .before .before .if1 .left)) ∙ in-plain _ _ plain))
 
-fault-from-requires : tie.Need-fault-from-requires
-fault-from-requires c κs =
-    let t = c .before .before .before .before .before .before .before .before .args .text .now in
-    let s = c .before .before .before .before .before .before .scan in
-    let e = c .before .before .before .before .scan2 in
-    let w = word-within t 0 (s .result) (omega arith) (s .ensures) in
-    let p = passed t (s .result) (e .result) (omega arith) (at-word t 0 (s .result) (omega arith) (s .ensures)) (e .ensures) in
-    (p .within, omega arith)
+sub-destination-of : tie.Need-sub-destination-of
+sub-destination-of c = search needs
+
+part-destination-of-start : tie.Need-part-destination-of-start
+part-destination-of-start c = search needs
+
+part-destination-of-end : tie.Need-part-destination-of-end
+part-destination-of-end c = search needs
+
+destination-of-requires : tie.Need-destination-of-requires
+destination-of-requires c κs = search needs
+
+is-number-requires : tie.Need-is-number-requires
+is-number-requires c κs = search needs
 
 returns-3 : tie.Need-returns-3
 returns-3 c =
-    let t = c .before .before .before .before .before .before .before .before .before .args .text .now in
-    let s = c .before .before .before .before .before .before .before .scan in
-    let e = c .before .before .before .before .before .scan2 in
-    let w = word-within t 0 (s .result) (omega arith) (s .ensures) in
-    let p = passed t (s .result) (e .result) (omega arith) (at-word t 0 (s .result) (omega arith) (s .ensures)) (e .ensures) in
-    also (c .fault-from .ensures) (sym (in-raw _ _ (sym (c .before .before .before .place-of .ensures) ∙ c .before .if3 .taken)) ∙ ap faultIn (sym (to-word t 0 (s .result) (omega arith) (s .ensures) ∙ p .words)))
+    let w = c .before .before .before .before .before .before .before .before .next-word .ensures in
+    let at = sym (c .before .before .before .before .before .at-sign .ensures) ∙ not-false _ (c .before .before .before .before .if2 .left) in
+    let no = sym (ap isNumber (c .before .before .destination-of .ensures)) ∙ sym (c .before .is-number .ensures) ∙ not-true _ (c .if3 .taken) in
+    record { order = w .order; within = w .within; bytes = sym (ap faultIn (w .some (c .before .before .before .before .before .before .before .if1 .left)) ∙ in-destination _ _ at no) }
 
-fault-from-requires-2 : tie.Need-fault-from-requires-2
-fault-from-requires-2 c κs =
-    let t = c .before .before .before .before .before .before .before .before .args .text .now in
-    let s = c .before .before .before .before .before .before .scan in
-    let e = c .before .before .before .before .scan2 in
-    let w = word-within t 0 (s .result) (omega arith) (s .ensures) in
-    let p = passed t (s .result) (e .result) (omega arith) (at-word t 0 (s .result) (omega arith) (s .ensures)) (e .ensures) in
-    (p .within, omega arith)
+fault-after-requires : tie.Need-fault-after-requires
+fault-after-requires c κs = search needs
 
 returns-4 : tie.Need-returns-4
 returns-4 c =
-    let t = c .before .before .before .before .before .before .before .before .before .args .text .now in
-    let s = c .before .before .before .before .before .before .before .scan in
-    let e = c .before .before .before .before .before .scan2 in
-    let w = word-within t 0 (s .result) (omega arith) (s .ensures) in
-    let p = passed t (s .result) (e .result) (omega arith) (at-word t 0 (s .result) (omega arith) (s .ensures)) (e .ensures) in
-    also (c .fault-from2 .ensures) (sym (in-code _ _ (omega (arith, c .before .before .before .place-of .ensures))) ∙ ap faultIn (sym (to-word t 0 (s .result) (omega arith) (s .ensures) ∙ p .words)))
+    let at = sym (c .before .before .before .before .before .before .at-sign .ensures) ∙ not-false _ (c .before .before .before .before .before .if2 .left) in
+    let yes = sym (ap isNumber (c .before .before .before .destination-of .ensures)) ∙ sym (c .before .before .is-number .ensures) ∙ not-false _ (c .before .if3 .left) in
+    also (c .fault-after .ensures) (sym (ap faultIn (c .before .before .before .before .before .before .before .before .before .next-word .ensures .some (c .before .before .before .before .before .before .before .before .if1 .left)) ∙ in-placed _ _ at yes))
 
 pub fault-in-spec : {M : Type 1} → statement M
 fault-in-spec =
     tie.close
     (tie.spec
-    scan-requires
+    next-word-requires
     returns
-    scan-requires-2
+    sub-at-sign
+    part-at-sign-start
+    part-at-sign-end
+    at-sign-requires
     sub-place-of
     part-place-of-start
     part-place-of-end
     place-of-requires
+    fault-named-requires
     returns-2
-    fault-from-requires
+    sub-destination-of
+    part-destination-of-start
+    part-destination-of-end
+    destination-of-requires
+    is-number-requires
     returns-3
-    fault-from-requires-2
+    fault-after-requires
     returns-4)

@@ -10,10 +10,10 @@ use Rattle.calltext.proofs.place_of.Statement.{statement}
 use Rattle.calltext.proofs.place_of.Tie as tie
 
 abbrev Inv-loop : tie.InvT-loop
-Inv-loop word k₀ k = (k ≤ 17) × (placeIn (drop k names) k word ≡ namePlace word)
+Inv-loop word k₀ k = (k ≤ 18) × (placeIn (drop k names) k word ≡ namePlace word)
 
 abbrev μ-loop : tie.MeasureT-loop
-μ-loop word k₀ k = 17 - k
+μ-loop word k₀ k = 18 - k
 
 loop-holds : tie.Need-loop-holds Inv-loop μ-loop
 unfolding namePlace
