@@ -34,7 +34,7 @@ use Rattle.definition_station.proofs.Sound.{passed, opened, open-left, 
 
 -- ---- the words of a letter's enqueue
 
-abbrev letterWords : Entry → ℕ → List ℕ
+abbrev pub letterWords : Entry → ℕ → List ℕ
 letterWords e now = e .seq ∷ unsigned (e .expiration) ∷ boolByte (e .persistent) ∷ e .producer ∷ e .«match_word» ∷ unsigned (e .redelivery) ∷ now ∷ e .size ∷ []
 
 fits : (n : ℕ) (z : ℤ) → n ≤ 2 ^ 63 → signedWithin n z ≡ true → SFits w64 z
@@ -67,11 +67,14 @@ args-entry : (e : Entry) (now : ℕ) → argumentsOk (enqueuing e now) ≡ true 
 unfolding argumentsOk
 args-entry e now a = and-left (entryOk e) _ a
 
+pub stored-decodes : (e : Entry) (now : ℕ) (t : Dest) → call whole (enqueuing e now) t .refusal ≡ 0 → decode 1 (letterWords e now) ≡ some (enqueuing e now)
+stored-decodes e now t h =
+    let a = accepted whole (enqueuing e now) t (call-accepted whole (enqueuing e now) t h) .arguments in
+    letter-decodes e now a (args-entry e now a)
+
 stored-step : (e : Entry) (now : ℕ) (t : Dest) → call whole (enqueuing e now) t .refusal ≡ 0 → step whole 1 (letterWords e now) t ≡ call whole (enqueuing e now) t
 unfolding callStep
-stored-step e now t h =
-    let a = accepted whole (enqueuing e now) t (call-accepted whole (enqueuing e now) t h) .arguments in
-    step-call whole 1 (letterWords e now) t (omega arith) ∙ ap (callStep whole t) (letter-decodes e now a (args-entry e now a))
+stored-step e now t h = step-call whole 1 (letterWords e now) t (omega arith) ∙ ap (callStep whole t) (stored-decodes e now t h)
 
 stored-reached : (b : Bool) (e : Entry) (now : ℕ) (t : Dest) → Reached b t → call whole (enqueuing e now) t .refusal ≡ 0 → Reached b (call whole (enqueuing e now) t .dest)
 stored-reached b e now t r h =

@@ -40,8 +40,8 @@ fate-from t e (acks y) = refl
 fate-from t e clears = refl
 fate-from t e expires = refl
 
-record Says (code : ℕ) (ws : List ℕ) (c : Call) : Type 0 where
-  brings : comes code ws ≡ map (blockAt 0) (brought c)
+pub record Says (code : ℕ) (ws : List ℕ) (c : Call) : Type 0 where
+  pub brings : comes code ws ≡ map (blockAt 0) (brought c)
   loses : (w : Bool) → leavesAs code (at 3 ws) w ≡ 3 + rank (fateFrom w (means c))
 
 abbrev AllSays : ℕ → List ℕ → Option Call → Type 0
@@ -102,7 +102,7 @@ range-says : (code : ℕ) (ws : List ℕ) (o : Option Call) → AllSays code ws 
 range-says code ws none h = tt
 range-says code ws (some c) h = given-says code ws (argumentsOk c) c h
 
-decode-says : (code : ℕ) (ws : List ℕ) (c : Call) → decode code ws ≡ some c → Says code ws c
+pub decode-says : (code : ℕ) (ws : List ℕ) (c : Call) → decode code ws ≡ some c → Says code ws c
 unfolding decode
 decode-says code ws c e = subst (AllSays code ws) e (range-says code ws (read code ws) (read-says code ws))
 

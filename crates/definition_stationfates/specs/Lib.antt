@@ -1,0 +1,3 @@
+pub mod Books
+pub mod Told
+pub mod Cases
