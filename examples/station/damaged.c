@@ -1,6 +1,7 @@
 /* Random calls on stations that real calls have left, on the same with up to four words damaged in any buffer, on wholly random words and on arrays of
  * random lengths. Each call ends with the refusal that the papers say (paper.h). A refused one leaves every word as it was. An accepted one leaves a sound
  * station, its events name open destinations, and nothing changes past the state's sizes, past its events, or in the part of a destination that it does not reach.
+ * Each call is made once more with station_call_told, on a copy: it does the same, and the rows of its letters fit the events and what the destinations then hold.
  *
  *     damaged [SEED [STATIONS]]
  */
@@ -31,6 +32,7 @@ struct buffers {
 static struct buffers work;   /* what is lent */
 static struct buffers before; /* the same as it was before the call */
 static struct buffers clean;  /* what real calls have left */
+static struct buffers copy;   /* what is lent to the same call told */
 
 enum kind { REAL, DAMAGED, LENGTHS, RANDOM };
 static const char *const kinds[4] = {"real", "damaged", "of other lengths", "random"};
@@ -78,14 +80,18 @@ static void choose_lengths(void)
     *l = one_in(2) ? below(*l + 1) : *l - below(2);
 }
 
+static struct station_part part_in(const struct buffers *b, size_t k)
+{
+    struct station_part p = {b->heads + DESTINATION_HEAD_WORDS * k, b->subs + DESTINATION_CONSUMERS * k, b->rows + DESTINATION_ROWS * k};
+    return p;
+}
+
 /* what real calls have left at a place; an empty part where none is open, as it may hold anything there */
 static struct station_part clean_part(size_t k)
 {
     static struct destination empty;
-    struct station_part p = {clean.heads + DESTINATION_HEAD_WORDS * k, (const void *)(clean.subs + DESTINATION_CONSUMERS * k),
-                             (const void *)(clean.rows + DESTINATION_ROWS * k)};
     struct station_part none = {empty.head, (const void *)empty.subs, (const void *)empty.rows};
-    return clean.own[k] == 1 ? p : none;
+    return clean.own[k] == 1 ? part_in(&clean, k) : none;
 }
 
 /* ---- damage */
@@ -221,6 +227,117 @@ static void check_query(void)
         wrong("the query answers something else");
 }
 
+/* ---- the same call told */
+
+enum { LIST = STATION_LETTERS + 2, UNTOLD = 0x5A };
+
+static struct station_told told[LIST], fewer[LIST];
+static uint64_t told_stored, told_gone, told_unnumbered, told_short;
+
+/* the row of an entry, of those in use */
+static const uint64_t *row_of(const struct buffers *b, size_t k, uint64_t sequence)
+{
+    struct station_part p = part_in(b, k);
+    size_t used = traffic_used(p);
+    for (size_t i = 0; i < used; i++)
+        if (p.rows[i][0] == sequence)
+            return p.rows[i];
+    return NULL;
+}
+
+/* whether a rejected row may be this letter: with the same fields, or gone, as a queue has found it expired or a topic has nobody for it */
+static bool may_be(const uint64_t *was, const uint64_t *is, const uint64_t *head, uint64_t clock)
+{
+    if (was[2] != 1)
+        return false;
+    if (is != NULL)
+        return memcmp(is + 1, was + 1, 5 * sizeof *is) == 0 && is[9] == was[9];
+    return head[0] == DESTINATION_TOPIC || (destination_signed(was[1]) > 0 && was[1] + head[DESTINATION_HEAD_ALLOWANCE] <= clock);
+}
+
+/* a stored letter is held, with its other fields as those of a copy that was rejected */
+static void check_stored(struct station_told t, uint64_t number, uint64_t clock)
+{
+    const uint64_t *is = row_of(&work, t.destination, t.got);
+    struct station_part p = part_in(&before, number);
+    size_t used = traffic_used(p), i = 0;
+    while (i < used && !(p.rows[i][0] == t.had && may_be(p.rows[i], is, part_in(&work, t.destination).head, clock)))
+        i++;
+    if (i == used || work.own[t.destination] != 1)
+        wrong("a stored letter is not there, or was another entry");
+    told_stored++;
+    told_gone += is == NULL;
+}
+
+/* the first numbers are those of the call's dead-letter events, in order */
+static bool as_the_events(size_t letters_told, size_t events, uint64_t number)
+{
+    size_t i = 0;
+    for (size_t e = 0; e < events; e++)
+        if (STATION_EVENT_KIND(work.events[e]) == DESTINATION_DEAD_LETTER)
+            if (STATION_EVENT_DESTINATION(work.events[e]) != number || i == letters_told || told[i++].had != station_event_sequence(work.events[e]))
+                return false;
+    return i == letters_told;
+}
+
+/* the rows of a call that has letters: numbers, places, the lost count, and a call used for each that is stored */
+static void check_rows(size_t n, uint64_t number, uint64_t clock)
+{
+    uint64_t next = before.own[STATION_OWN_NEXT], room = STATION_LOST_MOST - before.own[STATION_OWN_LOST], nowhere = 0, at[8] = {0};
+    for (size_t i = 0; i < n; i++) {
+        uint64_t got_now = next < STATION_NUMBERS_END ? next++ : 0;
+        if (told[i].got != got_now || told[i].destination > STATION_LOST || (got_now == 0 && told[i].destination != STATION_LOST))
+            wrong("a letter is told with another number, or with a place that it has not");
+        told_unnumbered += got_now == 0;
+        if (told[i].destination == STATION_LOST) {
+            nowhere++;
+        } else {
+            at[told[i].destination]++;
+            check_stored(told[i], number, clock);
+        }
+    }
+    if (next != work.own[STATION_OWN_NEXT] || work.own[STATION_OWN_LOST] - before.own[STATION_OWN_LOST] != (nowhere < room ? nowhere : room))
+        wrong("the numbers taken or lost are not those that are told");
+    for (size_t k = 0; k < 8; k++)
+        if (work.own[k] == 1 && part_in(&work, k).head[DESTINATION_HEAD_CALLS_USED] != part_in(&before, k).head[DESTINATION_HEAD_CALLS_USED] + at[k] + (k == number))
+            wrong("a destination has not stored the letters that are told");
+}
+
+/* the call on a copy, with a list of some rows: it does what station_call did, and leaves the list past its rows as it was. How many letters there are. */
+static size_t tell(struct destination_outcome o, uint64_t number, struct destination_request r, struct station_told *list, size_t length)
+{
+    static struct station_told untold[LIST];
+    memcpy(&copy, &before, sizeof copy);
+    memset(list, UNTOLD, sizeof untold);
+    memset(untold, UNTOLD, sizeof untold);
+    struct station_told_outcome t = station_call_told(copy.heads, lengths.heads_length, copy.subs, lengths.subs_length, copy.rows, lengths.rows_length, copy.own,
+                                                      lengths.own_length, copy.events, lengths.events_length, list, length, number, r);
+    if (t.refusal != o.refusal || t.answer != o.answer || t.events != o.events || memcmp(&copy, &work, sizeof copy) != 0)
+        wrong("a told call does something else");
+    if (t.letters > STATION_LETTERS || (o.refusal != 0 && t.letters != 0))
+        wrong("more letters than a call can have");
+    size_t written = t.letters < length ? t.letters : length;
+    if (memcmp(list + written, untold, (LIST - written) * sizeof *list) != 0)
+        wrong("a told call has written past its rows");
+    return t.letters;
+}
+
+static void check_told(struct destination_outcome o, uint64_t number, struct destination_request r)
+{
+    static const size_t some[] = {0, 1, 3};
+    size_t n = tell(o, number, r, told, STATION_LETTERS);
+    if (!as_the_events(n, o.events, number))
+        wrong("other letters are told than the events say");
+    if (n == 0)
+        return;
+    check_rows(n, number, r.words[6]);
+    for (size_t i = 0; i < 3; i++) {
+        if (tell(o, number, r, fewer, some[i]) != n || memcmp(fewer, told, (n < some[i] ? n : some[i]) * sizeof *told) != 0)
+            wrong("a short list has other rows");
+        told_short += some[i] < n;
+    }
+}
+
 /* ---- a call */
 
 static void check(struct destination_outcome o, uint64_t expected, uint64_t number, uint64_t code)
@@ -275,8 +392,10 @@ static void call(void)
         return;
     }
     uint64_t expected = paper_station_refusal(lent_of(&work), number, r);
-    check(station_call(work.heads, lengths.heads_length, work.subs, lengths.subs_length, work.rows, lengths.rows_length, work.own, lengths.own_length, work.events,
-                       lengths.events_length, number, r), expected, number, r.code);
+    struct destination_outcome o = station_call(work.heads, lengths.heads_length, work.subs, lengths.subs_length, work.rows, lengths.rows_length, work.own,
+                                                lengths.own_length, work.events, lengths.events_length, number, r);
+    check(o, expected, number, r.code);
+    check_told(o, number, r);
 }
 
 /* ---- a start, and opens */
@@ -353,5 +472,7 @@ int main(int argc, char **argv)
         printf("\n");
     }
     printf("letters %" PRIu64 ", lost %" PRIu64 ", other destinations changed %" PRIu64 ", most events %" PRIu64 "\n", letters, lost, reached, most_sent);
+    printf("told: stored %" PRIu64 ", %" PRIu64 " of them gone again or kept by nobody, without a number %" PRIu64 ", short lists %" PRIu64 "\n", told_stored, told_gone, told_unnumbered,
+           told_short);
     return 0;
 }

@@ -26,6 +26,10 @@ static void limits(void)
     CHECK(station_own_words() == STATION_OWN_WORDS);
     CHECK(station_events() == STATION_EVENTS);
     CHECK(sizeof(struct station) == 1128672 && sizeof(struct station_numbered) == 24);
+    CHECK(sizeof(struct station_told) == 24 && offsetof(struct station_told, got) == 8 && offsetof(struct station_told, destination) == 16);
+    CHECK(sizeof(struct station_told_outcome) == 32 && offsetof(struct station_told_outcome, answer) == 8 && offsetof(struct station_told_outcome, events) == 16 &&
+          offsetof(struct station_told_outcome, letters) == 24);
+    CHECK(STATION_LETTERS == DESTINATION_ROWS && STATION_LOST == STATION_DESTINATIONS);
 }
 
 /* one array shorter than it must be, the others not: 1 */
@@ -37,13 +41,42 @@ static void shorter(void)
         uint64_t refusal = i == 0 ? 0 : 1;
         const struct station *k = &s;
         struct destination_request sweep = destination_request_sweep(1, 2);
+        struct destination_request rejects = destination_request_ack((struct destination_id){9, 1, 1}, (struct destination_acknowledgement){.type = DESTINATION_POISON}, 1);
+        struct station_told told;
         CHECK(station_start_of(&s) == 0 && station_open(&s, 4, DESTINATION_QUEUE, 0, 100, 0, 0, 0, 8).refusal == 0);
         CHECK(station_call(s.heads, h, s.subs, c, s.rows, r, s.own, o, s.events, e, 4, sweep).refusal == refusal);
+        CHECK(station_call_told(s.heads, h, s.subs, c, s.rows, r, s.own, o, s.events, e, &told, 1, 4, sweep).refusal == refusal);
+        CHECK(station_call_told(s.heads, h, s.subs, c, s.rows, r, s.own, o, s.events, e, &told, 1, 4, rejects).refusal == refusal);
+        struct destination_request listed = station_request(4, sweep);
+        struct destination_outcome outcome;
+        CHECK(station_calls(s.heads, h, s.subs, c, s.rows, r, s.own, o, s.events, e, &listed, 1, &outcome, 1).calls == (refusal == 0));
         CHECK(station_add_discarded(s.heads, h, s.subs, c, s.rows, r, s.own, o, s.events, e, 4).refusal == refusal);
         CHECK(station_expired_before_storing(s.heads, h, s.subs, c, s.rows, r, s.own, o, s.events, e, 4).refusal == refusal);
         CHECK(station_numbers(k->heads, h, k->subs, c, k->rows, r, k->own, o).refusal == (i == 5 ? 0 : refusal));
         CHECK(station_start(k->heads, h, k->subs, c, k->rows, r, s.own, o, k->events, e) == refusal);
     }
+}
+
+/* many calls: the code with the number, and what ends a list */
+static void lists(void)
+{
+    static uint64_t list[STATION_EVENTS + 1][DESTINATION_EVENT_WORDS];
+    struct destination_outcome o[3] = {{1, 1, 1}, {1, 1, 1}, {1, 1, 1}};
+    struct destination_consumer c = {.id = {9, 1, 1}, .prefetch = 1, .selector = DESTINATION_NO_SELECTOR};
+    struct destination_request r[3] = {station_request(6, station_request_open(DESTINATION_QUEUE, 0, 100, 0, 0, 0, 8)), station_request(6, destination_request_join(c, 1)),
+                                       station_request(6, destination_request_enqueue((struct destination_entry){.size = 1}, 2))};
+    CHECK(r[1].code == STATION_CODE(DESTINATION_JOIN, 6) && r[1].code == 1538 && station_request(UINT64_MAX / 256, r[0]).code == UINT64_MAX - 255 + r[0].code);
+    CHECK(station_start_of(&s) == 0);
+    struct destination_done d = station_calls_of(&s, list, STATION_EVENTS, r, 3, o, 2);
+    CHECK(d.calls == 2 && d.events == 0 && o[0].refusal == 0 && o[1].refusal == 0 && o[2].refusal == 1 && station_is_open(&s, 6));
+    d = station_calls_of(&s, list, STATION_EVENTS - 1, r + 2, 1, o + 2, 1);
+    CHECK(d.calls == 0 && d.events == 0 && o[2].refusal == 1);
+    d = station_calls_of(&s, list, STATION_EVENTS, r + 2, 1, o + 2, 1);
+    CHECK(d.calls == 1 && d.events == 1 && o[2].refusal == 0 && o[2].answer == 0 && o[2].events == 1);
+    CHECK(STATION_EVENT_DESTINATION(list[0]) == 6 && STATION_EVENT_KIND(list[0]) == DESTINATION_MESSAGE && station_event_sequence(list[0]) == 1);
+    r[0] = station_request(6, (struct destination_request){16, {0}}); /* a start has no code here */
+    d = station_calls_of(&s, list, STATION_EVENTS, r, 1, o, 3);
+    CHECK(d.calls == 1 && o[0].refusal == DESTINATION_ARGUMENTS && station_is_open(&s, 6));
 }
 
 /* the words of an open, and where its parts stand */
@@ -84,6 +117,57 @@ static void events(void)
     CHECK(station_numbers_of(&s).next == 3 && station_numbers_of(&s).lost == 0);
 }
 
+/* rows of told letters, with guards before and after those that are lent */
+static struct station_told list[STATION_LETTERS + 2];
+
+static struct station_told_outcome tell(size_t length, uint64_t number, struct destination_request r)
+{
+    for (size_t i = 0; i < STATION_LETTERS + 2; i++)
+        list[i] = (struct station_told){77, 78, 79};
+    return station_do_told(&s, list + 1, length, number, r);
+}
+
+static bool row(size_t i, uint64_t had, uint64_t got, uint64_t destination)
+{
+    return list[i].had == had && list[i].got == got && list[i].destination == destination;
+}
+
+static bool gave(struct station_told_outcome o, uint64_t refusal, uint64_t answer, size_t events, size_t letters)
+{
+    return o.refusal == refusal && o.answer == answer && o.events == events && o.letters == letters;
+}
+
+/* what became of letters: 3 stores two, as its share is 2; 5, which it names, has one call left and stores one; the others are lost */
+static void told(void)
+{
+    const struct destination_id id = {9, -1, -2};
+    struct destination_consumer c = {.id = id, .prefetch = 600, .selector = DESTINATION_NO_SELECTOR};
+    struct destination_acknowledgement a = {.type = DESTINATION_POISON, .has_last = true, .last = 4};
+    struct destination_request join = destination_request_join(c, 2), rejects = destination_request_ack(id, a, 3);
+    CHECK(station_start_of(&s) == 0 && station_open(&s, 2, DESTINATION_QUEUE, 0, 10000, 0, 0, 0, 3).refusal == 0);
+    CHECK(station_open(&s, 3, DESTINATION_QUEUE, 0, 10000, 0, 0, 2, 5).refusal == 0 && station_open(&s, 5, DESTINATION_QUEUE, 0, 1, 0, 0, 0, STATION_NONE).refusal == 0);
+    size_t untold = 0;
+    while (untold < DESTINATION_ROWS && gave(tell(1, 2, destination_request_enqueue((struct destination_entry){.persistent = true}, 1)), 0, 0, 0, 0) && row(1, 77, 78, 79))
+        untold++;
+    CHECK(untold == DESTINATION_ROWS);
+    CHECK(gave(tell(STATION_LETTERS, 2, join), 0, 0, 512, 0) && row(1, 77, 78, 79));
+    CHECK(gave(tell(STATION_LETTERS, 2, join), DESTINATION_CONSUMER_HERE, 0, 0, 0) && row(1, 77, 78, 79));
+    CHECK(gave(tell(STATION_LETTERS, 4, rejects), STATION_NOT_OPEN, 0, 0, 0) && row(1, 77, 78, 79));
+    memcpy(&other, &s, sizeof s);
+    CHECK(gave(tell(STATION_LETTERS, 2, rejects), 0, 0, 4, 4) && row(0, 77, 78, 79) && row(1, 1, 513, 3) && row(2, 2, 514, 3) && row(3, 3, 515, 5));
+    CHECK(row(4, 4, 516, STATION_LOST) && row(5, 77, 78, 79) && station_numbers_of(&s).next == 517 && station_numbers_of(&s).lost == 1);
+    memcpy(&s, &other, sizeof s);
+    CHECK(gave(tell(2, 2, rejects), 0, 0, 4, 4) && row(0, 77, 78, 79) && row(1, 1, 513, 3) && row(2, 2, 514, 3) && row(3, 77, 78, 79));
+    memcpy(&s, &other, sizeof s);
+    CHECK(gave(tell(0, 2, rejects), 0, 0, 4, 4) && row(0, 77, 78, 79) && row(1, 77, 78, 79) && station_numbers_of(&s).next == 517);
+    a.last = 512;
+    rejects = destination_request_ack(id, a, 3);
+    memcpy(&s, &other, sizeof s);
+    s.own[STATION_OWN_NEXT] = STATION_NUMBERS_END - 511; /* one has no number */
+    CHECK(gave(tell(STATION_LETTERS, 2, rejects), 0, 0, 512, 512) && row(0, 77, 78, 79) && row(1, 1, STATION_NUMBERS_END - 511, 3));
+    CHECK(row(511, 511, STATION_NUMBERS_END - 1, STATION_LOST) && row(512, 512, 0, STATION_LOST) && row(513, 77, 78, 79) && station_numbers_of(&s).lost == 509);
+}
+
 /* the two calls without a code count each its own */
 static void uncoded(void)
 {
@@ -96,19 +180,23 @@ static void uncoded(void)
 /* a damaged station: refused, and as it was */
 static void damaged(void)
 {
+    const struct destination_request rejects = destination_request_ack((struct destination_id){9, -1, -2}, (struct destination_acknowledgement){.type = DESTINATION_POISON}, 3);
     s.own[STATION_OWN_NEXT] = 0;
     memcpy(&other, &s, sizeof s);
     CHECK(station_numbers_of(&s).refusal == DESTINATION_NOT_SOUND && station_numbers_of(&s).next == 0 && station_numbers_of(&s).lost == 0);
     CHECK(station_do(&s, 5, destination_request_clear()).refusal == DESTINATION_NOT_SOUND && memcmp(&other, &s, sizeof s) == 0);
+    CHECK(gave(tell(1, 5, rejects), DESTINATION_NOT_SOUND, 0, 0, 0) && row(1, 77, 78, 79) && memcmp(&other, &s, sizeof s) == 0);
 }
 
 int main(void)
 {
     limits();
     shorter();
+    lists();
     places();
     events();
     uncoded();
+    told();
     damaged();
     printf("declarations: %d checks hold\n", checks);
     return 0;

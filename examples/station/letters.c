@@ -1,4 +1,5 @@
-/* Two queues on a station: what the first rejects goes to the second, with a number of its own. Each queue is asked by the queries of a destination. */
+/* Two queues on a station: what the first rejects goes to the second, with a number of its own, and the call says what became of each letter. Each queue is asked by the
+ * queries of a destination. */
 #include <inttypes.h>
 #include <stdio.h>
 
@@ -40,6 +41,18 @@ static void show(const char *what, struct destination_outcome o)
     show_events(o.events);
 }
 
+/* what became of a call's dead letters: so the host knows where it finds each content from now on */
+static void show_told(const struct station_told *told, size_t count)
+{
+    for (size_t i = 0; i < count; i++) {
+        printf("    letter %" PRIu64 ", now %" PRIu64 ": ", told[i].had, told[i].got);
+        if (told[i].destination == STATION_LOST)
+            printf("lost\n");
+        else
+            printf("stored at %" PRIu64 "\n", told[i].destination);
+    }
+}
+
 static void show_numbers(void)
 {
     struct station_numbered n = station_numbers_of(&station);
@@ -71,7 +84,10 @@ static void join(uint64_t k, struct destination_id id)
 static void reject(uint64_t k, struct destination_id id, int64_t last)
 {
     struct destination_acknowledgement a = {.type = DESTINATION_POISON, .has_last = true, .last = last, .cause = true};
-    show("reject", station_ack(&station, k, id, a, 30));
+    static struct station_told told[STATION_LETTERS];
+    struct station_told_outcome o = station_do_told(&station, told, STATION_LETTERS, k, destination_request_ack(id, a, 30));
+    show("reject", (struct destination_outcome){o.refusal, o.answer, o.events});
+    show_told(told, o.letters);
 }
 
 int main(void)

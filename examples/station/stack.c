@@ -17,16 +17,28 @@ static uint64_t number;
 static volatile uint64_t seen; /* so that nothing is left out */
 
 static void call(void) { seen = station_do(&state, number, request).refusal; }
+static void told(void)
+{
+    static struct station_told list[STATION_LETTERS];
+    seen = station_do_told(&state, list, STATION_LETTERS, number, request).letters;
+}
 static void uncoded(void) { seen = station_add_discarded_of(&state, number).refusal + station_expired_before_storing_of(&state, number).refusal; }
+static void many(void)
+{
+    static uint64_t sent[STATION_EVENTS + 100][DESTINATION_EVENT_WORDS];
+    struct destination_request listed[2] = {station_request(number, request), station_request(number + 1, request)};
+    struct destination_outcome outcomes[2];
+    seen = station_calls_of(&state, sent, STATION_EVENTS + 100, listed, 2, outcomes, 2).events;
+}
 static void numbers(void) { seen = station_numbers_of(&state).next; }
 static void start(void) { seen = station_start_of(&state); }
 
 static size_t most(size_t a, size_t b) { return a < b ? b : a; }
 
-static int within(const char *what, size_t used, size_t limit, int told)
+static int within(const char *what, size_t used, size_t limit, int shown)
 {
     printf("%s: %s %zu bytes\n", what, used <= limit ? "at most" : "MORE THAN", limit);
-    if (told)
+    if (shown)
         fprintf(stderr, "%s: %zu\n", what, used);
     return used > limit;
 }
@@ -54,8 +66,13 @@ static size_t ring(void)
         used = most(used, done(0, destination_request_enqueue((struct destination_entry){.persistent = true, .size = 5}, 1)));
     a.last = 100;
     used = most(used, done(0, destination_request_ack(id, a, 2)));
+    a.last = 250;
+    number = 0;
+    request = destination_request_ack(id, a, 2);
+    used = most(used, taken(told));
     a.last = 400;
-    return most(used, done(0, destination_request_ack(id, a, 2)));
+    request = destination_request_ack(id, a, 2);
+    return most(used, taken(many));
 }
 
 int main(int argc, char **argv)
@@ -70,6 +87,10 @@ int main(int argc, char **argv)
         calls = most(calls, done(k, one_in(50) ? traffic_open(i) : traffic(station_part_of(&state, k), i)));
         if (i % 50 == 0) {
             calls = most(calls, taken(uncoded));
+            request = traffic(station_part_of(&state, k), i);
+            calls = most(calls, taken(many));
+            request = traffic(station_part_of(&state, k), i);
+            calls = most(calls, taken(told));
             queries = most(queries, taken(numbers));
         }
     }

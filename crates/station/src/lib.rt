@@ -8,12 +8,17 @@ ghost use Rattle.definition_station.specs.Layout.{stationLengthsOf, stationView
 ghost use Rattle.definition_station.specs.Called.{StationCalled, StationStarted};
 ghost use Rattle.stationcalls.specs.Parts.{lentAll};
 ghost use Rattle.stationcalls.specs.Queried.{bufferNumbers};
+ghost use Rattle.stationcalls.specs.Tells.{toldRows, StationTells};
+ghost use Rattle.stationcalls.specs.Batch.{bufferStationBatch, StationBatched};
 use calls::Call;
 use consumers::SubRow;
+use engine::Done;
 use engine::Outcome;
 use entry::Row;
 use stationcalls::OwnNumbers;
 use stationcalls::Sent;
+use stationcalls::Told;
+use stationcalls::ToldOutcome;
 
 // ---- how much each buffer must hold
 
@@ -84,6 +89,24 @@ pub extern "C" fn station_call(
     stationcalls::call(heads, subs, rows, own, events, number, c)
 }
 
+// The same call, with what became of its dead letters in a list, as far as it goes.
+#[no_mangle]
+pub extern "C" fn station_call_told(
+    heads: &mut [u64],
+    subs: &mut [SubRow],
+    rows: &mut [Row],
+    own: &mut [u64],
+    events: &mut [Sent],
+    told: &mut [Told],
+    number: u64,
+    c: Call,
+) -> ToldOutcome
+    ensures { λ r. ⌜ StationCalled (bufferStationStep (lentAll (now (heads .entry)) (now (subs .entry)) (now (rows .entry)) (now (own .entry))) (length (now (events .entry))) number (c .code) (c .words)) number (c .code) (c .words) (lentAll (now (heads .entry)) (now (subs .entry)) (now (rows .entry)) (now (own .entry))) (lentAll (now (heads .exit)) (now (subs .exit)) (now (rows .exit)) (now (own .exit))) (now (events .entry)) (now (events .exit)) (r .refusal) (r .answer) (r .events) ⌝ }
+    ensures { λ r. ⌜ StationTells (bufferStationStep (lentAll (now (heads .entry)) (now (subs .entry)) (now (rows .entry)) (now (own .entry))) (length (now (events .entry))) number (c .code) (c .words)) (toldRows number (c .code) (c .words) (stationView (lentAll (now (heads .entry)) (now (subs .entry)) (now (rows .entry)) (now (own .entry))))) (now (told .entry)) (now (told .exit)) (r .letters) ⌝ }
+{
+    stationcalls::call_told(heads, subs, rows, own, events, told, number, c)
+}
+
 // `Dest::add_discarded` of the destination with that number.
 #[no_mangle]
 pub extern "C" fn station_add_discarded(
@@ -112,6 +135,22 @@ pub extern "C" fn station_expired_before_storing(
     ensures { λ r. ⌜ StationCalled (bufferStationUncoded (lentAll (now (heads .entry)) (now (subs .entry)) (now (rows .entry)) (now (own .entry))) (length (now (events .entry))) number missing) number 1 [] (lentAll (now (heads .entry)) (now (subs .entry)) (now (rows .entry)) (now (own .entry))) (lentAll (now (heads .exit)) (now (subs .exit)) (now (rows .exit)) (now (own .entry))) (now (events .entry)) (now (events .exit)) (r .refusal) (r .answer) (r .events) ⌝ }
 {
     stationcalls::expired_before_storing(heads, subs, rows, own, events, number)
+}
+
+// Many calls with one test of the station, each nine words: its code and 256 times its destination's number, and the eight after it.
+#[no_mangle]
+pub extern "C" fn station_calls(
+    heads: &mut [u64],
+    subs: &mut [SubRow],
+    rows: &mut [Row],
+    own: &mut [u64],
+    events: &mut [Sent],
+    words: &[[u64; 9]],
+    outcomes: &mut [[u64; 3]],
+) -> Done
+    ensures { λ r. ⌜ StationBatched (bufferStationBatch (lentAll (now (heads .entry)) (now (subs .entry)) (now (rows .entry)) (now (own .entry))) (length (now (events .entry))) (length (now (outcomes .entry))) (now (words .entry))) (now (words .entry)) (lentAll (now (heads .entry)) (now (subs .entry)) (now (rows .entry)) (now (own .entry))) (lentAll (now (heads .exit)) (now (subs .exit)) (now (rows .exit)) (now (own .exit))) (now (events .entry)) (now (events .exit)) (now (outcomes .entry)) (now (outcomes .exit)) r ⌝ }
+{
+    stationcalls::calls(heads, subs, rows, own, events, words, outcomes)
 }
 
 // ---- the query

@@ -2,6 +2,7 @@
 use mathlib.Core.Path.{_≡_, refl, sym, ap, _∙_, subst, subst⁻¹}
 use mathlib.Core.Bool.{Bool, true, false, not, _||_}
 use mathlib.Core.List.{List, [], _++_, map, map-append, append-nil}
+use mathlib.Core.Option.{Option}
 use Prim.Native.Nat.{ℕ, _+_, _≤_, _<_}
 use native.Mathlib.Nat.{add-zero}
 use native.Mathlib.Omega.{arith}
@@ -30,7 +31,8 @@ use Rattle.definition_station.proofs.Buffers.{heads-long, subs-long, rows-long,
 use Rattle.stationcalls.specs.Parts.{lentAll, AllPast}
 use Rattle.stationcalls.specs.Plain.{NamedAt}
 use Rattle.stationcalls.specs.Run.{callsAt, Sounds, Roomy}
-use Rattle.stationcalls.specs.All.{allRun, LendsAll, RanAll}
+use Rattle.definition_stationfates.specs.Told.{toldRow, toldAt, toldLetters}
+use Rattle.stationcalls.specs.All.{allRun, LendsAll, RanAll, allTold}
 use Rattle.stationcalls.specs.Step.{AskedAt, givenWords}
 use Rattle.stationcalls.proofs.Viewed.{shownSlot, open-at, view-put}
 use Rattle.stationcalls.proofs.All.{set-names, slots-own}
@@ -201,6 +203,13 @@ module _ (heads : List ℕ) (subs rows : List Row) (own : List ℕ) (events : Li
 
         ran-is : ran ≡ allRun now (x .name) letters after
         ran-is = ap (λ (m : ℕ). allRun now m letters (stationView b₂)) (names₁ (8 + k) (omega (arith, a .is-place))) ∙ ap (λ (t : Station). allRun now (x .name) letters t) view₂
+
+        -- what is told of the letters
+        pub told-is : map toldRow (toldLetters k code ws s) ≡ allTold now (at (8 + k) own₁) letters (stationView b₂)
+        unfolding toldAt after
+        told-is =
+            ap (λ (t : Option StationSlot). map toldRow (toldAt k code ws s t)) (slot-is b events k code ws a)
+            ∙ sym (ap (λ (m : ℕ). allTold now m letters (stationView b₂)) (names₁ (8 + k) (omega (arith, a .is-place))) ∙ ap (λ (t : Station). allTold now (x .name) letters t) view₂)
 
         answer-is : q .answer ≡ r .answer
         unfolding acceptedAt

@@ -1,26 +1,31 @@
 -- All dead letters of one call: the view while the own words change, and the whole of it. Assumes nothing.
 use mathlib.Core.Path.{_≡_, refl, sym, ap, _∙_, subst, subst⁻¹}
 use mathlib.Core.Bool.{true}
-use mathlib.Core.List.{List, map}
+use mathlib.Core.List.{List, _++_, map}
 use mathlib.Core.Option.{Option, none, some}
 use Prim.Native.Nat.{ℕ, _+_, _≤_, _<_}
 use native.Mathlib.Omega.{arith}
-use lib.ListN.{length, set, take, length-set}
-use lib.Seq.{getD-set-same, getD-set-other, ext-getD}
+use lib.ListN.{length, set, take, drop, length-set, length-map}
+use lib.Seq.{getD-set-same, getD-set-other, ext-getD, take-at, length-take-le}
+use Rattle.entry.specs.Entry.{entryOf}
 use Rattle.definition.specs.Base.{if_then_else_, all, upFrom}
 use Rattle.definition.specs.Types.{Entry}
-use Rattle.definition.specs.Calls.{clockOk}
-use Rattle.definition.specs.Words.{at}
+use Rattle.definition.specs.Calls.{seqs, clockOk}
+use Rattle.definition.specs.Words.{at, entryIn}
 use Rattle.definition.specs.Layout.{Row, flag, view}
 use Rattle.definition_station.specs.Types.{StationSlot, Station, RanLetters}
 use Rattle.definition_station.specs.Letters.{numberLetters, running, hopsMax}
+use Rattle.definition_stationfates.specs.Told.{letterPlaces, toldRow, tellEach}
 use Rattle.definition_station.specs.Layout.{StationBuffers, part, nameWord, isOpen, slotAt, stationView}
 use Rattle.stationcalls.specs.Parts.{lentAll}
-use Rattle.stationcalls.specs.Run.{shownWith, letterOk, Sounds, OnwardAt, Lends, Roomy, RunsLetters, runningOn}
+use Rattle.stationcalls.specs.Run.{shownWith, letterOk, Sounds, OnwardAt, Lends, Roomy, RunsLetters, runningOn, placesOn}
 use Rattle.stationcalls.specs.declared.letters.Given.{Given}
 use Rattle.stationcalls.specs.Numbers.{stationOf, Numbers, Letters}
-use Rattle.stationcalls.specs.All.{allRun, LendsAll, RanAll}
+use Rattle.stationcalls.specs.All.{allRun, allTold, rowsTold, numbersGot, LendsAll, RanAll}
+use Rattle.stationcalls.specs.Tells.{toldOver}
 use Rattle.stationcalls.proofs.Viewed.{slots-at}
+use Rattle.stationcalls.proofs.Whither.{places-length}
+use Rattle.stationcalls.proofs.Becoming.{rows-are, numbers-are}
 
 -- the marks and the names are the first sixteen words
 abbrev Named : List ℕ → List ℕ → Type 0
@@ -93,6 +98,21 @@ module _ (heads : List ℕ) (subs rows : List Row) (own : List ℕ) (events : Li
       ap (λ (n : ℕ). runningOn hopsMax clock n (take (g .many) letters) (shownWith c₁ (g .lost))) (name-is h)
       ∙ ap (λ (x : List Entry). running hopsMax clock (at (8 + k) own) x (shownWith c₁ (g .lost))) (ours .letters-are)
       ∙ ap (λ (s : Station). running hopsMax clock (at (8 + k) own) (numberLetters es (stationView c) .letters) s) station₁
+
+  places-are : k < 8 → placesOn hopsMax clock (at (8 + k) own₁) (take (g .many) letters) (shownWith c₁ (g .lost)) ≡ letterPlaces hopsMax clock (at (8 + k) own) (numberLetters es (stationView c) .letters) (numberLetters es (stationView c) .station)
+  places-are h =
+      ap (λ (n : ℕ). placesOn hopsMax clock n (take (g .many) letters) (shownWith c₁ (g .lost))) (name-is h)
+      ∙ ap (λ (x : List Entry). letterPlaces hopsMax clock (at (8 + k) own) x (shownWith c₁ (g .lost))) (ours .letters-are)
+      ∙ ap (λ (s : Station). letterPlaces hopsMax clock (at (8 + k) own) (numberLetters es (stationView c) .letters) s) station₁
+
+  -- the rows that are told
+  pub told-are : (ws : List Row) → es ≡ map entryOf ws → (places : List ℕ) → k < 8 → places ≡ placesOn hopsMax clock (at (8 + k) own₁) (take (g .many) letters) (shownWith c₁ (g .lost))
+      → rowsTold ws (numbersGot (g .many) letters) places ≡ allTold clock (at (8 + k) own) es (stationView c)
+  told-are ws e places h f =
+      rows-are ws (numbersGot (g .many) letters) places
+      ∙ ap (λ (x : List Entry). map toldRow (tellEach x (numbersGot (g .many) letters) places)) (sym e)
+      ∙ ap (λ (x : List ℕ). map toldRow (tellEach es x places)) (numbers-are (take (g .many) letters) ∙ ap seqs (ours .letters-are))
+      ∙ ap (λ (x : List ℕ). map toldRow (tellEach es (seqs (numberLetters es (stationView c) .letters)) x)) (f ∙ places-are h)
 
   pub lends-on : (scratch : List Row) → length scratch ≡ 545 → Lends c₁ scratch
   lends-on scratch e = record {
@@ -188,6 +208,21 @@ module _ (heads : List ℕ) (subs rows : List Row) (own : List ℕ) (events : Li
       subst⁻¹ (λ (z : ℕ). Asks own₁ z scratch) en
       (subst⁻¹ (λ (o : List ℕ). Asks o (at (8 + k) o) scratch) eo
       (lends-on heads subs rows own events sent clock k es letters g l m₁ scratch e, p .within, p .letters-ok clock t, room-on heads subs rows own events sent clock k es letters g l m₁ h r))
+
+  pub told-all : (ws : List Row) → es ≡ map entryOf ws → (places₀ places : List ℕ) → k < 8 → g .many ≤ length letters
+      → places ≡ placesOn hopsMax clock name (take (g .many) letters) (shownWith (lentAll heads subs rows own₁) (g .lost)) ++ drop (g .many) places₀
+      → (told told′ : List Row) → told′ ≡ toldOver (rowsTold ws (numbersGot (g .many) letters) (take (g .many) places)) told
+      → told′ ≡ toldOver (allTold clock (at (8 + k) own) es (stationView (lentAll heads subs rows own))) told
+  told-all ws e places₀ places h long f told told′ t = t ∙ ap (λ (l : List Row). toldOver l told) (told-are heads subs rows own events sent clock k es letters g l m₁ ws e (take (g .many) places) h (subst (λ (o : List ℕ). At o (at (8 + k) o)) eo (subst (λ (z : ℕ). At own₁ z) en first)))
+    where
+      At : List ℕ → ℕ → Type 0
+      At o z = take (g .many) places ≡ placesOn hopsMax clock z (take (g .many) letters) (shownWith (lentAll heads subs rows o) (g .lost))
+
+      found : List ℕ
+      found = placesOn hopsMax clock name (take (g .many) letters) (shownWith (lentAll heads subs rows own₁) (g .lost))
+
+      first : At own₁ name
+      first = ap (take (g .many)) f ∙ take-at found (drop (g .many) places₀) (g .many) (places-length hopsMax clock name (map entryIn (take (g .many) letters)) (shownWith (lentAll heads subs rows own₁) (g .lost)) ∙ length-map (take (g .many) letters) entryIn ∙ length-take-le (g .many) letters long)
 
   module _ (heads′ : List ℕ) (subs′ rows′ : List Row) (events′ : List Row) (sent′ lost′ : ℕ) where
     abbrev Left : List ℕ → ℕ → Type 0

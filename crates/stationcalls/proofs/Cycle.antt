@@ -109,7 +109,7 @@ sent-words k (e ∷ es) = ap (λ (x : Row). x ∷ map (named k) (map eventWords 
 
 -- ---- calls used
 
-call-counts : (lent : Lengths) (c : Call) (t : Dest) → call lent c t .refusal ≡ 0 → call lent c t .dest .callsUsed ≡ t .callsUsed + 1
+pub call-counts : (lent : Lengths) (c : Call) (t : Dest) → call lent c t .refusal ≡ 0 → call lent c t .dest .callsUsed ≡ t .callsUsed + 1
 unfolding call
 call-counts lent c t = by-test (eqb (refusal lent c t) 0)
     (λ e. rw e (λ h. let z = eqb-true (refusal lent c t) 0 e in let q = accepted lent c t z in

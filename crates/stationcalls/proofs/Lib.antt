@@ -2,6 +2,9 @@ pub mod Back
 pub mod Tell
 pub mod Viewed
 pub mod Stored
+pub mod Filling
+pub mod Whither
+pub mod Becoming
 pub mod Placed
 pub mod Cycle
 pub mod Eight
@@ -15,6 +18,10 @@ pub mod Shape
 pub mod Accepted
 pub mod Steps
 pub mod Opened
+pub mod Tells
 pub mod Rejecting
 pub mod Uncoded
 pub mod Queried
+pub mod Going
+pub mod Onward
+pub mod Batched

@@ -41,7 +41,7 @@ module _ (b : StationBuffers) where
 
   -- ---- the numbers
 
-  checked-long : stationChecked b ≡ 0 → isShort ≡ false
+  pub checked-long : stationChecked b ≡ 0 → isShort ≡ false
   checked-long e = by-test isShort (λ y. absurd (omega (arith, e, checked-short y))) (λ n. n)
 
   pub own-there : stationChecked b ≡ 0 → 20 ≤ length (b .own)

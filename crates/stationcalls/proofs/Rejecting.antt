@@ -1,15 +1,17 @@
 -- An acknowledgement that rejects: what running its dead letters asks, and what the call then leaves. Assumes nothing.
 use mathlib.Core.Path.{_≡_, refl, sym, ap, _∙_, subst}
 use mathlib.Core.Bool.{true, false}
-use mathlib.Core.List.{List, map}
+use mathlib.Core.List.{List, [], _∷_, map}
 use mathlib.Core.Option.{Option, none, some}
-use Prim.Native.Nat.{ℕ, _+_, _≤_, _<_}
+use Prim.Native.Nat.{ℕ, suc, _+_, _≤_, _<_}
 use native.Mathlib.Omega.{arith}
 use borrow.Author.Tests.{eqb-true}
 use lib.Dec.{eqb}
-use lib.ListN.{length, take}
+use lib.ListN.{length, take, drop, length-map}
+use lib.Seq.{length-take-le}
 use Rattle.entry.specs.Entry.{entryOf}
 use Rattle.definition.specs.Base.{all, is-some}
+use Rattle.definition.specs.Types.{Entry}
 use Rattle.definition.specs.Calls.{Call, asking, acknowledge, argumentsOk, idOk, ackOk, entryOk, clockOk, sound}
 use Rattle.definition.specs.Words.{at, idIn, ackIn, ackWords, read, decode}
 use Rattle.definition.specs.Layout.{Row, view, formed, soundBuffers, bufferStep}
@@ -29,11 +31,14 @@ use Rattle.stationcalls.specs.Parts.{lentAll}
 use Rattle.stationcalls.specs.Plain.{NamedAt}
 use Rattle.stationcalls.specs.Numbers.{deadOk}
 use Rattle.stationcalls.specs.Run.{Roomy}
-use Rattle.stationcalls.specs.All.{allRun, LendsAll, RanAll}
+use Rattle.definition_stationfates.specs.Told.{toldRow, tellEach}
+use Rattle.stationcalls.specs.All.{allRun, allTold, LendsAll, RanAll}
+use Rattle.stationcalls.specs.Tells.{toldOver, toldRows, StationTells}
 use Rattle.stationcalls.specs.Step.{AskedAt, givenWords}
 use Rattle.stationcalls.proofs.Tested.{all-mapped}
 use Rattle.stationcalls.proofs.Shape.{part-room, accepts}
-use Rattle.stationcalls.proofs.Steps.{none-called, other-refused, letters-lend, letters-roomy, letters-ran}
+use Rattle.stationcalls.proofs.Steps.{none-called, other-refused, letters-lend, letters-roomy, letters-told, letters-ran}
+use Rattle.stationcalls.proofs.Tells.{all-tell, none-tells}
 
 -- an acknowledgement
 abbrev ackCall : List ℕ → Call
@@ -122,6 +127,23 @@ module _ (heads : List ℕ) (subs rows : List Row) (own : List ℕ) (events : Li
     pub reject-ran : (h₂ : List ℕ) (s₂ r₂ : List Row) (own₂ : List ℕ) (events₂ : List Row) (sent : ℕ) → RanAll (allRun (at 6 ws) (at (8 + k) own) (map entryOf (take m dead′)) (stationView after)) after (lentAll h₂ s₂ r₂ own₂) events₁ events₂ (o .events) sent
         → StationCalled q k code ws b (lentAll h₂ s₂ r₂ own₂) events events₂ 0 (o .answer) sent
     reject-ran = letters-ran heads subs rows own events k code ws a h₁ s₁ r₁ events₁ o not-one n z (map entryOf (take m dead′)) (at 6 ws) entries-are clock-is
+
+    -- the rows of its letters, and how many they are
+    rows-are : toldRows k code ws (stationView b) ≡ allTold (at 6 ws) (at (8 + k) own) (map entryOf (take m dead′)) (stationView after)
+    rows-are = letters-told heads subs rows own events k code ws a h₁ s₁ r₁ events₁ o not-one n z (map entryOf (take m dead′)) (at 6 ws) entries-are clock-is
+
+    pub reject-tells : (told told′ : List Row) → q .refusal ≡ 0 → told′ ≡ toldOver (allTold (at 6 ws) (at (8 + k) own) (map entryOf (take m dead′)) (stationView after)) told → StationTells q (toldRows k code ws (stationView b)) told told′ m
+    reject-tells told told′ e t = all-tell q (toldRows k code ws (stationView b)) told told′ m e (t ∙ ap (λ (l : List Row). toldOver l told) (sym rows-are)) (sym (ap length rows-are ∙ told-length (map entryOf (take m dead′)) ∙ length-map (take m dead′) entryOf ∙ length-take-le m dead′ (omega (arith, few, p .size))))
+      where
+        each-length : (es : List Entry) (ns ps : List ℕ) → length (tellEach es ns ps) ≡ length es
+        each-length [] ns ps = refl
+        each-length (x ∷ es) ns ps = ap suc (each-length es (drop 1 ns) (drop 1 ps))
+
+        told-length : (es : List Entry) → length (allTold (at 6 ws) (at (8 + k) own) es (stationView after)) ≡ length es
+        told-length es = length-map (tellEach es _ _) toldRow ∙ each-length es _ _
+
+    pub reject-tells-none : (told : List Row) → m ≡ 0 → StationTells q (toldRows k code ws (stationView b)) told told 0
+    reject-tells-none told e = none-tells q (toldRows k code ws (stationView b)) told (rows-are ∙ ap (λ (c : ℕ). allTold (at 6 ws) (at (8 + k) own) (map entryOf (take c dead′)) (stationView after)) e)
 
     pub reject-none : m ≡ 0 → StationCalled q k code ws b after events events₁ (o .refusal) (o .answer) (o .events)
     reject-none e = none-called heads subs rows own events k code ws a h₁ s₁ r₁ events₁ o not-one n (sym entries-are ∙ ap (λ (c : ℕ). map entryOf (take c dead′)) e)

@@ -1,7 +1,7 @@
 -- The three ways of a call of an open destination, as the code has them: without letters, an enqueue, and one that rejects. Assumes nothing.
 use mathlib.Core.Path.{_≡_, refl, sym, ap, _∙_, subst, subst⁻¹}
 use mathlib.Core.Bool.{Bool, true, false}
-use mathlib.Core.List.{List, [], _∷_}
+use mathlib.Core.List.{List, [], _∷_, map}
 use Prim.Native.Nat.{ℕ, _+_, _≤_, _^_}
 use native.Mathlib.Omega.{arith}
 use borrow.Author.Tests.{eqb-true, eqb-false, eq-eqb, leb-true}
@@ -26,9 +26,10 @@ use Rattle.stationcalls.specs.Parts.{lentAll, Within}
 use Rattle.stationcalls.specs.Own.{placeOk, givenOk, ownWordsOk}
 use Rattle.stationcalls.specs.Plain.{NamedAt}
 use Rattle.stationcalls.specs.Run.{Roomy}
-use Rattle.stationcalls.specs.All.{allRun, LendsAll, RanAll}
+use Rattle.definition_stationfates.specs.Told.{toldRow, toldLetters}
+use Rattle.stationcalls.specs.All.{allRun, LendsAll, RanAll, allTold}
 use Rattle.stationcalls.specs.Step.{AskedAt, carriedWords, givenWords}
-use Rattle.stationcalls.proofs.Accepted.{none-ran, ownAfter, dest-refused, lends, roomy, dest-accepted}
+use Rattle.stationcalls.proofs.Accepted.{none-ran, ownAfter, dest-refused, lends, roomy, dest-accepted, told-is}
 
 -- an enqueue rejects nothing
 enqueued-none : (t : Dest) (b : Bool) (c : Entry) (now : ℕ) → rejected t (rangedCall (provided b (enqueuing c now))) ≡ []
@@ -145,6 +146,12 @@ module _ (heads : List ℕ) (subs rows : List Row) (own : List ℕ) (events : Li
 
       pub letters-roomy : Roomy (allRun clock (at (8 + k) own) es (stationView after)) (o .events) events₁
       letters-roomy = subst (λ (t : RanLetters). Roomy t (o .events) events₁) ran-is (roomy heads subs rows own events k code ws a h₁ s₁ r₁ events₁ o (given-named ws plain-given n) z own same-own)
+
+      pub letters-told : map toldRow (toldLetters k code ws (stationView b)) ≡ allTold clock (at (8 + k) own) es (stationView after)
+      letters-told =
+          told-is heads subs rows own events k code ws a h₁ s₁ r₁ events₁ o (given-named ws plain-given n) z own same-own
+          ∙ ap (λ (l : List Entry). allTold now (at (8 + k) own) l (stationView after)) letters-are
+          ∙ ap (λ (m : ℕ). allTold m (at (8 + k) own) es (stationView after)) clock-is
 
       pub letters-ran : (h₂ : List ℕ) (s₂ r₂ : List Row) (own₂ : List ℕ) (events₂ : List Row) (sent : ℕ) → RanAll (allRun clock (at (8 + k) own) es (stationView after)) after (lentAll h₂ s₂ r₂ own₂) events₁ events₂ (o .events) sent
           → StationCalled q k code ws b (lentAll h₂ s₂ r₂ own₂) events events₂ 0 (o .answer) sent

@@ -3,6 +3,8 @@ pub mod Run
 pub mod Own
 pub mod Numbers
 pub mod All
+pub mod Tells
 pub mod Plain
 pub mod Step
 pub mod Queried
+pub mod Batch

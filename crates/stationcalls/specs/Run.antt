@@ -11,6 +11,7 @@ use Rattle.definition.specs.Words.{at, entryIn, decode}
 use Rattle.definition.specs.Layout.{Row, view, soundBuffers}
 use Rattle.definition_station.specs.Types.{Station, RanLetters}
 use Rattle.definition_station.specs.Letters.{storing, running}
+use Rattle.definition_stationfates.specs.Told.{letterPlace, letterPlaces}
 use Rattle.definition_station.specs.Layout.{StationBuffers, part, isOpen, stationView, sentWords}
 use Rattle.stationcalls.specs.Parts.{AllPast}
 
@@ -85,3 +86,15 @@ storingOn hops clock name w s = storing hops clock name (entryIn w) s
 
 abbrev pub runningOn : ℕ → ℕ → ℕ → List Row → Station → RanLetters
 runningOn hops clock name ws s = running hops clock name (letterEntries ws) s
+
+-- where they are stored
+abbrev pub placeOn : ℕ → ℕ → ℕ → Row → Station → ℕ
+placeOn hops clock name w s = letterPlace hops clock name (entryIn w) s
+
+abbrev pub placesOn : ℕ → ℕ → ℕ → List Row → Station → List ℕ
+placesOn hops clock name ws s = letterPlaces hops clock name (letterEntries ws) s
+
+-- the last of some places; of none, this
+abbrev pub lastOf : ℕ → List ℕ → ℕ
+lastOf p [] = p
+lastOf p (x ∷ xs) = lastOf x xs

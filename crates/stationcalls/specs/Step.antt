@@ -1,7 +1,7 @@
 -- What stands before an open destination is called, and the words that it gets. Assumes nothing.
 use Prim.Native.Nat.{ℕ, _<_}
 use mathlib.Core.Path.{_≡_}
-use mathlib.Core.Bool.{true, false, not, _||_}
+use mathlib.Core.Bool.{Bool, true, false, not, _&&_, _||_}
 use mathlib.Core.List.{List, _∷_}
 use lib.Dec.{ltb, eqb}
 use lib.ListN.{drop}
@@ -21,6 +21,16 @@ pub record AskedAt (b : StationBuffers) (k code events : ℕ) : Type 0 where
   pub own-ok : ownWordsOk (b .own) ≡ true
   pub others : all (otherOk b k) (upFrom 0 8) ≡ true
   pub coded : eqb code 0 ≡ false
+
+-- whether refusal 2 stops a call before its destination is asked, of soundness the called destination apart: an open needs no sound state, and 10 comes before
+unfoldable pub stopsAs : StationBuffers → ℕ → ℕ → Bool
+stopsAs b k code =
+    not (eqb code 0) && (not (ltb 7 k || not (flag (at k (b .own)))) && not (ownWordsOk (b .own) && all (otherOk b k) (upFrom 0 8)))
+
+-- refusal 1 is passed, and that one
+pub record Unstopped (b : StationBuffers) (k code events : ℕ) : Type 0 where
+  pub long : stationShort (stationLengthsOf b events) ≡ false
+  pub goes : stopsAs b k code ≡ false
 
 -- a direct enqueue's words as its destination gets them: the next number. One that carries a number gets 0, which is no sequence number
 abbrev pub carriedWords : ℕ → List ℕ → List ℕ

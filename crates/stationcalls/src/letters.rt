@@ -1,10 +1,10 @@
 // Dead letters (`run_effects` and `to_dlq` of mod.rs): running them and storing one call each other, with remaining hops that fall from eight.
 ghost use mathlib.Core.Path.{_≡_};
 ghost use mathlib.Core.Bool.{true};
-ghost use mathlib.Core.List.{List, map};
+ghost use mathlib.Core.List.{List, [], _∷_, _++_, map};
 ghost use mathlib.Core.Option.{Option};
 ghost use Prim.Native.Nat.{_+_, _≤_, _<_, _^_};
-ghost use lib.ListN.{length, take};
+ghost use lib.ListN.{length, getD, take, drop};
 ghost use lib.Seq.{paste};
 ghost use Rattle.definition.specs.Base.{all};
 ghost use Rattle.calls.specs.Calls.{newCall};
@@ -15,9 +15,10 @@ ghost use Rattle.stationcalls.specs.Numbers.{letterWords, deadOk, statio
 ghost use Rattle.definition.specs.Words.{at};
 ghost use Rattle.definition.specs.Calls.{clockOk};
 ghost use Rattle.definition_station.specs.Layout.{stationView};
-ghost use Rattle.stationcalls.specs.All.{allRun, LendsAll, RanAll};
+ghost use Rattle.stationcalls.specs.All.{allRun, allTold, rowsTold, numbersGot, LendsAll, RanAll};
+ghost use Rattle.stationcalls.specs.Tells.{toldOver};
 ghost use Rattle.stationcalls.specs.Parts.{lentAll};
-ghost use Rattle.stationcalls.specs.Run.{named, letterCall, letterOk, shownWith, Lends, Roomy, RunsLetters, storingOn, runningOn};
+ghost use Rattle.stationcalls.specs.Run.{named, letterCall, letterOk, shownWith, Lends, Roomy, RunsLetters, storingOn, runningOn, placeOn, placesOn, lastOf};
 use crate::own;
 use crate::places;
 use calls::Call;
@@ -31,13 +32,20 @@ pub type Sent = [u64; 6];
 // A dead letter in the words of an enqueue.
 type Letter = [u64; 8];
 
+// What became of a dead letter: the number that it had, the one that it got (0: none was left), and the place where it is stored (8: it is lost).
+pub type Told = [u64; 3];
+
 // A letter makes at most so many hops.
 const HOPS: usize = 8;
 
-// What running dead letters leaves: how many events there are now, and the lost count.
+// No destination: a letter that is lost is stored nowhere.
+const NOWHERE: u64 = 8;
+
+// What running dead letters leaves: how many events there are now, the lost count, and where the last letter is stored.
 struct Ran {
     sent: usize,
     lost: u64,
+    place: u64,
 }
 
 // What numbering dead letters leaves: how many have got a number, the next number, and the lost count.
@@ -117,17 +125,20 @@ fn store(
 ) -> Ran
     requires { ⌜ Lends (lentAll (now heads) (now subs) (now rows) (now own)) (now scratch) × (letterOk clock letter ≡ true) × Roomy (storingOn hops clock name letter (shownWith (lentAll (now heads) (now subs) (now rows) (now own)) (before .lost))) (before .sent) (now events) ⌝ }
     ensures { λ r. ⌜ RunsLetters (storingOn hops clock name letter (shownWith (lentAll (now (heads .entry)) (now (subs .entry)) (now (rows .entry)) (now (own .entry))) (before .lost))) (lentAll (now (heads .entry)) (now (subs .entry)) (now (rows .entry)) (now (own .entry))) (lentAll (now (heads .exit)) (now (subs .exit)) (now (rows .exit)) (now (own .entry))) (now (events .entry)) (now (events .exit)) (before .sent) (r .sent) (r .lost) ⌝ }
+    ensures { λ r. ⌜ r .place ≡ placeOn hops clock name letter (shownWith (lentAll (now (heads .entry)) (now (subs .entry)) (now (rows .entry)) (now (own .entry))) (before .lost)) ⌝ }
 {
     if hops == 0 {
         return Ran {
             sent: before.sent,
             lost: own::one_more(before.lost),
+            place: NOWHERE,
         };
     }
     if 7 < name {
         return Ran {
             sent: before.sent,
             lost: own::one_more(before.lost),
+            place: NOWHERE,
         };
     }
     let k = name as usize;
@@ -135,6 +146,7 @@ fn store(
         return Ran {
             sent: before.sent,
             lost: own::one_more(before.lost),
+            place: NOWHERE,
         };
     }
     let c = call_of(letter, clock);
@@ -163,6 +175,7 @@ fn store(
     Ran {
         sent,
         lost: before.lost,
+        place: name,
     }
 }
 
@@ -183,6 +196,7 @@ fn run(
 ) -> Ran
     requires { ⌜ Lends (lentAll (now heads) (now subs) (now rows) (now own)) (now scratch) × (n ≤ length (now letters)) × (all (letterOk clock) (take n (now letters)) ≡ true) × Roomy (runningOn hops clock name (take n (now letters)) (shownWith (lentAll (now heads) (now subs) (now rows) (now own)) (before .lost))) (before .sent) (now events) ⌝ }
     ensures { λ r. ⌜ RunsLetters (runningOn hops clock name (take n (now (letters .entry))) (shownWith (lentAll (now (heads .entry)) (now (subs .entry)) (now (rows .entry)) (now (own .entry))) (before .lost))) (lentAll (now (heads .entry)) (now (subs .entry)) (now (rows .entry)) (now (own .entry))) (lentAll (now (heads .exit)) (now (subs .exit)) (now (rows .exit)) (now (own .entry))) (now (events .entry)) (now (events .exit)) (before .sent) (r .sent) (r .lost) ⌝ }
+    ensures { λ r. ⌜ r .place ≡ lastOf (before .place) (placesOn hops clock name (take n (now (letters .entry))) (shownWith (lentAll (now (heads .entry)) (now (subs .entry)) (now (rows .entry)) (now (own .entry))) (before .lost))) ⌝ }
 {
     let mut ran = before;
     let mut i = 0;
@@ -200,6 +214,47 @@ fn run(
             name,
             hops,
         );
+        i += 1;
+    }
+    ran
+}
+
+// Runs the first n letters, one after another, from the destination that is named on, with eight hops each; a list gets the place where each is stored.
+fn run_each(
+    heads: &mut [u64],
+    subs: &mut [SubRow],
+    rows: &mut [Row],
+    events: &mut [Sent],
+    scratch: &mut [Event],
+    own: &[u64],
+    before: Ran,
+    letters: &[Letter],
+    n: usize,
+    clock: u64,
+    name: u64,
+    places: &mut [u64],
+) -> Ran
+    requires { ⌜ Lends (lentAll (now heads) (now subs) (now rows) (now own)) (now scratch) × (n ≤ length (now letters)) × (all (letterOk clock) (take n (now letters)) ≡ true) × Roomy (runningOn 8 clock name (take n (now letters)) (shownWith (lentAll (now heads) (now subs) (now rows) (now own)) (before .lost))) (before .sent) (now events) × (n ≤ length (now places)) ⌝ }
+    ensures { λ r. ⌜ RunsLetters (runningOn 8 clock name (take n (now (letters .entry))) (shownWith (lentAll (now (heads .entry)) (now (subs .entry)) (now (rows .entry)) (now (own .entry))) (before .lost))) (lentAll (now (heads .entry)) (now (subs .entry)) (now (rows .entry)) (now (own .entry))) (lentAll (now (heads .exit)) (now (subs .exit)) (now (rows .exit)) (now (own .entry))) (now (events .entry)) (now (events .exit)) (before .sent) (r .sent) (r .lost) ⌝ }
+    ensures { λ _. ⌜ now (places .exit) ≡ placesOn 8 clock name (take n (now (letters .entry))) (shownWith (lentAll (now (heads .entry)) (now (subs .entry)) (now (rows .entry)) (now (own .entry))) (before .lost)) ++ drop n (now (places .entry)) ⌝ }
+{
+    let mut ran = before;
+    let mut i = 0;
+    while i < n {
+        ran = store(
+            heads,
+            subs,
+            rows,
+            events,
+            scratch,
+            own,
+            ran,
+            letters[i],
+            clock,
+            name,
+            HOPS,
+        );
+        places[i] = ran.place;
         i += 1;
     }
     ran
@@ -238,7 +293,39 @@ fn number(dead: &[Row], n: usize, letters: &mut [Letter], first: u64, before: u6
     Given { many, next, lost }
 }
 
-// Numbers the first n rejected rows and runs them, from the name of destination k on. How many events there are then.
+// What became of the rejected row at a place, where the first `many` have got a number.
+fn told_at(dead: &[Row], letters: &[Letter], many: usize, places: &[u64], i: usize) -> Told
+    requires { ⌜ (i < length (now dead)) × (many ≤ length (now letters)) × (many ≤ length (now places)) ⌝ }
+    ensures { λ r. ⌜ r ≡ at 0 (getD (now (dead .entry)) i []) ∷ at i (numbersGot many (now (letters .entry))) ∷ getD (take many (now (places .entry))) i 8 ∷ [] ⌝ }
+{
+    let number = dead[i][0];
+    if i < many {
+        return [number, letters[i][0], places[i]];
+    }
+    [number, 0, NOWHERE]
+}
+
+// Says of the first n rejected rows what became of them, as far as the list goes.
+fn tell_letters(
+    told: &mut [Told],
+    dead: &[Row],
+    n: usize,
+    letters: &[Letter],
+    many: usize,
+    places: &[u64],
+)
+    requires { ⌜ (n ≤ length (now dead)) × (many ≤ length (now letters)) × (many ≤ length (now places)) ⌝ }
+    ensures { λ _. ⌜ now (told .exit) ≡ toldOver (rowsTold (take n (now (dead .entry))) (numbersGot many (now (letters .entry))) (take many (now (places .entry)))) (now (told .entry)) ⌝ }
+{
+    let end = consumers::end_of(n, told.len());
+    let mut i = 0;
+    while i < end {
+        told[i] = told_at(dead, letters, many, places, i);
+        i += 1;
+    }
+}
+
+// Numbers the first n rejected rows and runs them, from the name of destination k on, and tells what became of each. How many events there are then.
 pub(crate) fn run_all(
     heads: &mut [u64],
     subs: &mut [SubRow],
@@ -250,10 +337,13 @@ pub(crate) fn run_all(
     n: usize,
     clock: u64,
     k: usize,
+    told: &mut [Told],
 ) -> usize
     requires { ⌜ LendsAll (lentAll (now heads) (now subs) (now rows) (now own)) × (n ≤ length (now dead)) × (n ≤ 512) × (all deadOk (take n (now dead)) ≡ true) × (clockOk clock ≡ true) × (k < 8) × Roomy (allRun clock (at (8 + k) (now own)) (map entryOf (take n (now dead))) (stationView (lentAll (now heads) (now subs) (now rows) (now own)))) sent (now events) ⌝ }
     ensures { λ r. ⌜ RanAll (allRun clock (at (8 + k) (now (own .entry))) (map entryOf (take n (now (dead .entry)))) (stationView (lentAll (now (heads .entry)) (now (subs .entry)) (now (rows .entry)) (now (own .entry))))) (lentAll (now (heads .entry)) (now (subs .entry)) (now (rows .entry)) (now (own .entry))) (lentAll (now (heads .exit)) (now (subs .exit)) (now (rows .exit)) (now (own .exit))) (now (events .entry)) (now (events .exit)) sent r ⌝ }
+    ensures { λ _. ⌜ now (told .exit) ≡ toldOver (allTold clock (at (8 + k) (now (own .entry))) (map entryOf (take n (now (dead .entry)))) (stationView (lentAll (now (heads .entry)) (now (subs .entry)) (now (rows .entry)) (now (own .entry))))) (now (told .entry)) ⌝ }
 {
+    let mut places = [NOWHERE; 512];
     let mut letters = [[0u64; 8]; 512];
     let mut scratch = [[0u64; 6]; 545];
     let next = own::next(own);
@@ -263,10 +353,11 @@ pub(crate) fn run_all(
     let before = Ran {
         sent,
         lost: given.lost,
+        place: NOWHERE,
     };
     let name = own::name(own, k);
     let many = given.many;
-    let ran = run(
+    let ran = run_each(
         heads,
         subs,
         rows,
@@ -278,8 +369,9 @@ pub(crate) fn run_all(
         many,
         clock,
         name,
-        HOPS,
+        &mut places,
     );
     own::set_lost(own, ran.lost);
+    tell_letters(told, dead, n, &letters, many, &places);
     ran.sent
 }

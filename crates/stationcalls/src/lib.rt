@@ -20,18 +20,22 @@ ghost use Rattle.definition.specs.Calls.{discarding, missing};
 ghost use Rattle.rejects.specs.Rejects.{rejecting};
 ghost use Rattle.definition.specs.Types.{Dest};
 ghost use Rattle.calls.specs.Calls.{newCall};
-ghost use Rattle.stationcalls.specs.Step.{AskedAt, carriedWords, barredAs};
+ghost use Rattle.stationcalls.specs.Tells.{toldRows, toldQuiet, StationTells};
+ghost use Rattle.stationcalls.specs.Step.{AskedAt, Unstopped, carriedWords, stopsAs, barredAs};
 ghost use Rattle.stationcalls.specs.Queried.{stationChecked, bufferNumbers};
 
+mod batch;
 mod letters;
 mod own;
 mod places;
 
+pub use batch::calls;
 use calls::Call;
 use consumers::SubRow;
 use engine::Outcome;
 use entry::Row;
 pub use letters::Sent;
+pub use letters::Told;
 pub use own::OWN;
 
 // The most destinations.
@@ -253,7 +257,30 @@ fn enqueue(
     r
 }
 
-// An acknowledgement that rejects entries: the persistent ones are copied before, numbered and run after.
+// The refusal (0: accepted), the answer, how many events were written, and how many dead letters there are.
+#[repr(C)]
+pub struct ToldOutcome {
+    pub refusal: u64,
+    pub answer: u64,
+    pub events: usize,
+    pub letters: usize,
+}
+
+impl ToldOutcome {
+    // Without dead letters.
+    fn quiet(r: Outcome) -> ToldOutcome
+        ensures { λ t. ⌜ t ≡ toldQuiet r ⌝ }
+    {
+        ToldOutcome {
+            refusal: r.refusal,
+            answer: r.answer,
+            events: r.events,
+            letters: 0,
+        }
+    }
+}
+
+// An acknowledgement that rejects entries: the persistent ones are copied before, numbered and run after, and a list gets what became of each.
 fn reject(
     heads: &mut [u64],
     subs: &mut [SubRow],
@@ -262,25 +289,40 @@ fn reject(
     events: &mut [Sent],
     k: usize,
     c: Call,
-) -> Outcome
+    told: &mut [Told],
+) -> ToldOutcome
     requires { ⌜ AskedAt (lentAll (now heads) (now subs) (now rows) (now own)) k (c .code) (length (now events)) × (rejecting (c .code) (c .words) ≡ true) ⌝ }
     ensures { λ r. ⌜ StationCalled (bufferStationStep (lentAll (now (heads .entry)) (now (subs .entry)) (now (rows .entry)) (now (own .entry))) (length (now (events .entry))) k (c .code) (c .words)) k (c .code) (c .words) (lentAll (now (heads .entry)) (now (subs .entry)) (now (rows .entry)) (now (own .entry))) (lentAll (now (heads .exit)) (now (subs .exit)) (now (rows .exit)) (now (own .exit))) (now (events .entry)) (now (events .exit)) (r .refusal) (r .answer) (r .events) ⌝ }
+    ensures { λ r. ⌜ StationTells (bufferStationStep (lentAll (now (heads .entry)) (now (subs .entry)) (now (rows .entry)) (now (own .entry))) (length (now (events .entry))) k (c .code) (c .words)) (toldRows k (c .code) (c .words) (stationView (lentAll (now (heads .entry)) (now (subs .entry)) (now (rows .entry)) (now (own .entry))))) (now (told .entry)) (now (told .exit)) (r .letters) ⌝ }
 {
     let mut dead = [[0u64; 10]; 512];
     let n = places::rejected(heads, subs, rows, k, c, &mut dead);
     let r = named_call(heads, subs, rows, events, k, c);
     if r.refusal != 0 {
-        return r;
+        return ToldOutcome::quiet(r);
     }
     if n == 0 {
-        return r;
+        return ToldOutcome::quiet(r);
     }
     let w = c.words;
-    let all = letters::run_all(heads, subs, rows, own, events, r.events, &dead, n, w[6], k);
-    Outcome {
+    let all = letters::run_all(
+        heads,
+        subs,
+        rows,
+        own,
+        events,
+        r.events,
+        &dead,
+        n,
+        w[6],
+        k,
+        told,
+    );
+    ToldOutcome {
         refusal: 0,
         answer: r.answer,
         events: all,
+        letters: n,
     }
 }
 
@@ -298,12 +340,68 @@ fn step(
     ensures { λ r. ⌜ StationCalled (bufferStationStep (lentAll (now (heads .entry)) (now (subs .entry)) (now (rows .entry)) (now (own .entry))) (length (now (events .entry))) k (c .code) (c .words)) k (c .code) (c .words) (lentAll (now (heads .entry)) (now (subs .entry)) (now (rows .entry)) (now (own .entry))) (lentAll (now (heads .exit)) (now (subs .exit)) (now (rows .exit)) (now (own .exit))) (now (events .entry)) (now (events .exit)) (r .refusal) (r .answer) (r .events) ⌝ }
 {
     if rejects::rejects(c) {
-        return reject(heads, subs, rows, own, events, k, c);
+        let mut told = [[0u64; 3]; 1];
+        let r = reject(heads, subs, rows, own, events, k, c, &mut told);
+        return Outcome {
+            refusal: r.refusal,
+            answer: r.answer,
+            events: r.events,
+        };
     }
     if c.code == Call::ENQUEUE {
         return enqueue(heads, subs, rows, own, events, k, c);
     }
     quiet(heads, subs, rows, own, events, k, c)
+}
+
+// Whether the own words or another destination are not sound, where that is asked: an open needs no sound state, and 10 comes before.
+fn stopped(
+    heads: &[u64],
+    subs: &[SubRow],
+    rows: &[Row],
+    own: &[u64],
+    number: u64,
+    code: u64,
+) -> bool
+    requires { ⌜ Within 0 (now heads) (now subs) (now rows) × (20 ≤ length (now own)) ⌝ }
+    ensures { λ r. ⌜ r ≡ stopsAs (lentAll (now (heads .entry)) (now (subs .entry)) (now (rows .entry)) (now (own .entry))) number code ⌝ }
+{
+    if code == Call::OPEN {
+        return false;
+    }
+    if absent(own, number) {
+        return false;
+    }
+    if !own::ok(own) {
+        return true;
+    }
+    !others_sound(heads, subs, rows, own, number as usize)
+}
+
+// A station call once these tests are passed.
+fn go(
+    heads: &mut [u64],
+    subs: &mut [SubRow],
+    rows: &mut [Row],
+    own: &mut [u64],
+    events: &mut [Sent],
+    number: u64,
+    c: Call,
+) -> Outcome
+    requires { ⌜ Unstopped (lentAll (now heads) (now subs) (now rows) (now own)) number (c .code) (length (now events)) ⌝ }
+    ensures { λ r. ⌜ StationCalled (bufferStationStep (lentAll (now (heads .entry)) (now (subs .entry)) (now (rows .entry)) (now (own .entry))) (length (now (events .entry))) number (c .code) (c .words)) number (c .code) (c .words) (lentAll (now (heads .entry)) (now (subs .entry)) (now (rows .entry)) (now (own .entry))) (lentAll (now (heads .exit)) (now (subs .exit)) (now (rows .exit)) (now (own .exit))) (now (events .entry)) (now (events .exit)) (r .refusal) (r .answer) (r .events) ⌝ }
+{
+    if 7 < number {
+        return Outcome::refused(10);
+    }
+    let k = number as usize;
+    if c.code == Call::OPEN {
+        return open(heads, subs, rows, own, events, k, c);
+    }
+    if !own::is_open(own, k) {
+        return Outcome::refused(10);
+    }
+    step(heads, subs, rows, own, events, k, c)
 }
 
 // A station call: the destination's number, the code and the eight words. Its refusal (0: accepted), its answer, and how many events it has
@@ -322,23 +420,41 @@ pub fn call(
     if !whole(heads, subs, rows, own, events) {
         return Outcome::refused(1);
     }
-    if 7 < number {
-        return Outcome::refused(10);
-    }
-    let k = number as usize;
-    if c.code == Call::OPEN {
-        return open(heads, subs, rows, own, events, k, c);
-    }
-    if !own::is_open(own, k) {
-        return Outcome::refused(10);
-    }
-    if !own::ok(own) {
+    if stopped(heads, subs, rows, own, number, c.code) {
         return Outcome::refused(2);
     }
-    if !others_sound(heads, subs, rows, own, k) {
-        return Outcome::refused(2);
+    go(heads, subs, rows, own, events, number, c)
+}
+
+// A station call as `call` makes it, and what became of its dead letters: a list gets a row for each, in the order of the call's dead-letter events and as far
+// as it goes. A call that is refused, or rejects nothing, leaves the list as it was.
+pub fn call_told(
+    heads: &mut [u64],
+    subs: &mut [SubRow],
+    rows: &mut [Row],
+    own: &mut [u64],
+    events: &mut [Sent],
+    told: &mut [Told],
+    number: u64,
+    c: Call,
+) -> ToldOutcome
+    ensures { λ r. ⌜ StationCalled (bufferStationStep (lentAll (now (heads .entry)) (now (subs .entry)) (now (rows .entry)) (now (own .entry))) (length (now (events .entry))) number (c .code) (c .words)) number (c .code) (c .words) (lentAll (now (heads .entry)) (now (subs .entry)) (now (rows .entry)) (now (own .entry))) (lentAll (now (heads .exit)) (now (subs .exit)) (now (rows .exit)) (now (own .exit))) (now (events .entry)) (now (events .exit)) (r .refusal) (r .answer) (r .events) ⌝ }
+    ensures { λ r. ⌜ StationTells (bufferStationStep (lentAll (now (heads .entry)) (now (subs .entry)) (now (rows .entry)) (now (own .entry))) (length (now (events .entry))) number (c .code) (c .words)) (toldRows number (c .code) (c .words) (stationView (lentAll (now (heads .entry)) (now (subs .entry)) (now (rows .entry)) (now (own .entry))))) (now (told .entry)) (now (told .exit)) (r .letters) ⌝ }
+{
+    if !whole(heads, subs, rows, own, events) {
+        return ToldOutcome::quiet(Outcome::refused(1));
     }
-    step(heads, subs, rows, own, events, k, c)
+    if stopped(heads, subs, rows, own, number, c.code) {
+        return ToldOutcome::quiet(Outcome::refused(2));
+    }
+    if rejects::rejects(c) {
+        if absent(own, number) {
+            return ToldOutcome::quiet(Outcome::refused(10));
+        }
+        return reject(heads, subs, rows, own, events, number as usize, c, told);
+    }
+    let r = go(heads, subs, rows, own, events, number, c);
+    ToldOutcome::quiet(r)
 }
 
 // ---- the two calls without a code

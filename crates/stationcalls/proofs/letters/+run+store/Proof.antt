@@ -13,11 +13,12 @@ use Rattle.definition.proofs.Tests.{and-both}
 use Rattle.calls.specs.declared.Call.{Call}
 use Rattle.definition_station.specs.Types.{RanLetters}
 use Rattle.definition_station.specs.Layout.{part, isOpen}
-use Rattle.stationcalls.specs.Run.{letterOk, shownWith, Roomy, RunsLetters, storingOn, runningOn}
+use Rattle.stationcalls.specs.Run.{letterOk, shownWith, Roomy, RunsLetters, storingOn, runningOn, placesOn, lastOf}
 use denote.Ref.{now}
 use borrow.Author.Needs.{needs}
 use Rattle.stationcalls.specs.Parts.{lentAll, CalledAt}
-use Rattle.stationcalls.proofs.Cycle.{runs-lost, lost-hops, lost-name, lost-closed, enqueued, stored-fits, runs-stored, runs-passed, lends-stay, passes, Sofar, none-yet, all-run, letter-ok, store-room, one-more-run}
+use Rattle.stationcalls.proofs.Whither.{place-hops, place-name, place-closed, place-here, place-on, LastSofar, last-turn, last-all}
+use Rattle.stationcalls.proofs.Cycle.{runs-lost, lost-hops, lost-name, lost-closed, enqueued, stored-fits, runs-stored, runs-passed, lends-stay, shown-stays, passes, Sofar, none-yet, all-run, letter-ok, store-room, one-more-run}
 use Prim.Native.Nat.{ℕ, _<_}
 use borrow.Fn.Kinds.{In}
 use borrow.Fn.PlainCycle.{Measures, is, falls, and}
@@ -63,6 +64,7 @@ store-below t = and 6 store-kinds.ps (falls 6 store-kinds.ps _<_ μ-store t) sto
 abbrev run-Inv-loop : run-lts.InvT-loop
 run-Inv-loop heads₀ subs₀ rows₀ events₀ scratch₀ own letters n clock name hops ran₀ i₀ heads subs rows events scratch ran i =
     Sofar hops clock name letters n (lentAll heads₀ subs₀ rows₀ own) events₀ (ran₀ .sent) (ran₀ .lost) (lentAll heads subs rows own) events scratch (ran .sent) (ran .lost) i
+    × LastSofar hops clock name letters n (shownWith (lentAll heads₀ subs₀ rows₀ own) (ran₀ .lost)) (ran₀ .place) (shownWith (lentAll heads subs rows own) (ran .lost)) (ran .place) i
 
 abbrev run-μ-loop : run-lts.MeasureT-loop
 run-μ-loop heads₀ subs₀ rows₀ events₀ scratch₀ own letters n clock name hops ran₀ i₀ heads subs rows events scratch ran i =
@@ -80,7 +82,7 @@ run-loop-holds :
 run-loop-holds t c =
     let a = c .before .before .args in
     let p = c .before .before .pre in
-    none-yet (a .hops) (a .clock) (a .name) (now (a .letters)) (a .n) (lentAll (now (a .heads)) (now (a .subs)) (now (a .rows)) (now (a .own))) (now (a .events)) (a .before .sent) (a .before .lost) (now (a .scratch)) (p .1 .1) (p .1 .2) (p .1 .0) (p .1 .3)
+    (none-yet (a .hops) (a .clock) (a .name) (now (a .letters)) (a .n) (lentAll (now (a .heads)) (now (a .subs)) (now (a .rows)) (now (a .own))) (now (a .events)) (a .before .sent) (a .before .lost) (now (a .scratch)) (p .1 .1) (p .1 .2) (p .1 .0) (p .1 .3), refl)
 
 -- src/letters.rt:136:67
 run-mul-store :
@@ -109,7 +111,7 @@ run-store-requires t c κs =
     let p = c .before .before .before .before .before .before .before .before .before .before .pre in
     let l = c .before .before .before .before .before .before .before .loop in
     let less = c .before .before .before .before .before .before .loop-test .taken in
-    (subst (λ (j : ℕ). a .hops + a .hops < j) (p .0) (below (a .hops)), (l .inv .lends, letter-ok (a .hops) (a .clock) (a .name) (now (a .letters)) (a .n) (lentAll (now (a .heads)) (now (a .subs)) (now (a .rows)) (now (a .own))) (now (a .events)) (a .before .sent) (a .before .lost) (lentAll (l .heads) (l .subs) (l .rows) (now (a .own))) (l .events) (l .scratch) (l .ran .sent) (l .ran .lost) (l .i) (l .inv) [] less, store-room (a .hops) (a .clock) (a .name) (now (a .letters)) (a .n) (lentAll (now (a .heads)) (now (a .subs)) (now (a .rows)) (now (a .own))) (now (a .events)) (a .before .sent) (a .before .lost) (lentAll (l .heads) (l .subs) (l .rows) (now (a .own))) (l .events) (l .scratch) (l .ran .sent) (l .ran .lost) (l .i) (l .inv) [] less))
+    (subst (λ (j : ℕ). a .hops + a .hops < j) (p .0) (below (a .hops)), (l .inv .0 .lends, letter-ok (a .hops) (a .clock) (a .name) (now (a .letters)) (a .n) (lentAll (now (a .heads)) (now (a .subs)) (now (a .rows)) (now (a .own))) (now (a .events)) (a .before .sent) (a .before .lost) (lentAll (l .heads) (l .subs) (l .rows) (now (a .own))) (l .events) (l .scratch) (l .ran .sent) (l .ran .lost) (l .i) (l .inv .0) [] less, store-room (a .hops) (a .clock) (a .name) (now (a .letters)) (a .n) (lentAll (now (a .heads)) (now (a .subs)) (now (a .rows)) (now (a .own))) (now (a .events)) (a .before .sent) (a .before .lost) (lentAll (l .heads) (l .subs) (l .rows) (now (a .own))) (l .events) (l .scratch) (l .ran .sent) (l .ran .lost) (l .i) (l .inv .0) [] less))
 
 -- src/letters.rt:137:9
 run-add-i :
@@ -136,8 +138,10 @@ run-loop-again t c =
     let a = c .before .before .before .before .before .before .before .before .before .before .before .before .before .before .before .before .before .args in
     let p = c .before .before .before .before .before .before .before .before .before .before .before .before .before .before .before .before .before .pre in
     let l = c .before .before .before .before .before .before .before .before .before .before .before .before .before .before .loop in
-    let s = c .before .before .before .before .before .before .store in
-    one-more-run (a .hops) (a .clock) (a .name) (now (a .letters)) (a .n) (lentAll (now (a .heads)) (now (a .subs)) (now (a .rows)) (now (a .own))) (now (a .events)) (a .before .sent) (a .before .lost) (lentAll (l .heads) (l .subs) (l .rows) (now (a .own))) (l .events) (l .scratch) (l .ran .sent) (l .ran .lost) (l .i) (l .inv) [] (c .before .before .before .before .before .before .before .before .before .before .before .before .before .loop-test .taken) (lentAll (s .last .0) (s .last .1 .0) (s .last .1 .1 .0) (now (a .own))) (s .last .1 .1 .1 .0) (s .last .1 .1 .1 .1 .0) (s .result .sent) (s .result .lost) refl (s .kept .1 .1 .1 .1 .0) (s .ensures)
+    let s = c .before .before .before .before .before .before .store in (
+      one-more-run (a .hops) (a .clock) (a .name) (now (a .letters)) (a .n) (lentAll (now (a .heads)) (now (a .subs)) (now (a .rows)) (now (a .own))) (now (a .events)) (a .before .sent) (a .before .lost) (lentAll (l .heads) (l .subs) (l .rows) (now (a .own))) (l .events) (l .scratch) (l .ran .sent) (l .ran .lost) (l .i) (l .inv .0) [] (c .before .before .before .before .before .before .before .before .before .before .before .before .before .loop-test .taken) (lentAll (s .last .0) (s .last .1 .0) (s .last .1 .1 .0) (now (a .own))) (s .last .1 .1 .1 .0) (s .last .1 .1 .1 .1 .0) (s .result .sent) (s .result .lost) refl (s .kept .1 .1 .1 .1 .0) (s .ensures .0),
+      last-turn (a .hops) (a .clock) (a .name) (now (a .letters)) (a .n) (shownWith (lentAll (now (a .heads)) (now (a .subs)) (now (a .rows)) (now (a .own))) (a .before .lost)) (a .before .place) (shownWith (lentAll (l .heads) (l .subs) (l .rows) (now (a .own))) (l .ran .lost)) (shownWith (lentAll (s .last .0) (s .last .1 .0) (s .last .1 .1 .0) (now (a .own))) (s .result .lost)) (l .ran .place) (s .result .place) (l .i) [] (l .inv .1) (c .before .before .before .before .before .before .before .before .before .before .before .before .before .loop-test .taken) (p .1 .1) (s .ensures .1) (s .ensures .0 .shows),
+    )
 
 -- src/letters.rt:116:1
 run-same-length :
@@ -201,8 +205,10 @@ run-returns :
 run-returns t c =
     let a = c .before .before .before .before .args in
     let p = c .before .before .before .before .pre in
-    let l = c .before .loop in
-    all-run (a .hops) (a .clock) (a .name) (now (a .letters)) (a .n) (lentAll (now (a .heads)) (now (a .subs)) (now (a .rows)) (now (a .own))) (now (a .events)) (a .before .sent) (a .before .lost) (lentAll (l .heads) (l .subs) (l .rows) (now (a .own))) (l .events) (l .scratch) (l .ran .sent) (l .ran .lost) (l .i) (l .inv) (c .loop-test .left)
+    let l = c .before .loop in (
+      all-run (a .hops) (a .clock) (a .name) (now (a .letters)) (a .n) (lentAll (now (a .heads)) (now (a .subs)) (now (a .rows)) (now (a .own))) (now (a .events)) (a .before .sent) (a .before .lost) (lentAll (l .heads) (l .subs) (l .rows) (now (a .own))) (l .events) (l .scratch) (l .ran .sent) (l .ran .lost) (l .i) (l .inv .0) (c .loop-test .left),
+      last-all (a .hops) (a .clock) (a .name) (now (a .letters)) (a .n) (shownWith (lentAll (now (a .heads)) (now (a .subs)) (now (a .rows)) (now (a .own))) (a .before .lost)) (a .before .place) (shownWith (lentAll (l .heads) (l .subs) (l .rows) (now (a .own))) (l .ran .lost)) (l .ran .place) (l .i) (l .inv .1) (c .loop-test .left) (l .inv .0 .few),
+    )
 
 -- src/letters.rt:83:19
 store-one-more-requires : (t : ℕ) → store-lts.Need-one-more-requires (
@@ -242,8 +248,10 @@ store-returns : (t : ℕ) → store-lts.Need-returns (
 ) (store-at t) store.Post
 store-returns t c =
     let a = c .before .before .before .before .args in
-    let p = c .before .before .before .before .pre in
-    runs-lost (storingOn (a .hops) (a .clock) (a .name) (a .letter) (shownWith (lentAll (now (a .heads)) (now (a .subs)) (now (a .rows)) (now (a .own))) (a .before .lost))) (lentAll (now (a .heads)) (now (a .subs)) (now (a .rows)) (now (a .own))) (now (a .events)) (a .before .sent) (a .before .lost) (c .one-more .result) (lost-hops (a .hops) (a .clock) (a .name) (a .letter) (lentAll (now (a .heads)) (now (a .subs)) (now (a .rows)) (now (a .own))) (a .before .lost) (c .before .if1 .taken)) (c .one-more .ensures) (p .1 .0 .sound)
+    let p = c .before .before .before .before .pre in (
+      runs-lost (storingOn (a .hops) (a .clock) (a .name) (a .letter) (shownWith (lentAll (now (a .heads)) (now (a .subs)) (now (a .rows)) (now (a .own))) (a .before .lost))) (lentAll (now (a .heads)) (now (a .subs)) (now (a .rows)) (now (a .own))) (now (a .events)) (a .before .sent) (a .before .lost) (c .one-more .result) (lost-hops (a .hops) (a .clock) (a .name) (a .letter) (lentAll (now (a .heads)) (now (a .subs)) (now (a .rows)) (now (a .own))) (a .before .lost) (c .before .if1 .taken)) (c .one-more .ensures) (p .1 .0 .sound),
+      place-hops (a .hops) (a .clock) (a .name) (a .letter) (lentAll (now (a .heads)) (now (a .subs)) (now (a .rows)) (now (a .own))) (a .before .lost) (c .before .if1 .taken),
+    )
 
 -- src/letters.rt:89:19
 store-one-more-requires-2 : (t : ℕ) → store-lts.Need-one-more-requires-2 (
@@ -283,8 +291,10 @@ store-returns-2 : (t : ℕ) → store-lts.Need-returns-2 (
 ) (store-at t) store.Post
 store-returns-2 t c =
     let a = c .before .before .before .before .before .args in
-    let p = c .before .before .before .before .before .pre in
-    runs-lost (storingOn (a .hops) (a .clock) (a .name) (a .letter) (shownWith (lentAll (now (a .heads)) (now (a .subs)) (now (a .rows)) (now (a .own))) (a .before .lost))) (lentAll (now (a .heads)) (now (a .subs)) (now (a .rows)) (now (a .own))) (now (a .events)) (a .before .sent) (a .before .lost) (c .one-more2 .result) (lost-name (a .hops) (a .clock) (a .name) (a .letter) (lentAll (now (a .heads)) (now (a .subs)) (now (a .rows)) (now (a .own))) (a .before .lost) (c .before .if2 .taken)) (c .one-more2 .ensures) (p .1 .0 .sound)
+    let p = c .before .before .before .before .before .pre in (
+      runs-lost (storingOn (a .hops) (a .clock) (a .name) (a .letter) (shownWith (lentAll (now (a .heads)) (now (a .subs)) (now (a .rows)) (now (a .own))) (a .before .lost))) (lentAll (now (a .heads)) (now (a .subs)) (now (a .rows)) (now (a .own))) (now (a .events)) (a .before .sent) (a .before .lost) (c .one-more2 .result) (lost-name (a .hops) (a .clock) (a .name) (a .letter) (lentAll (now (a .heads)) (now (a .subs)) (now (a .rows)) (now (a .own))) (a .before .lost) (c .before .if2 .taken)) (c .one-more2 .ensures) (p .1 .0 .sound),
+      place-name (a .hops) (a .clock) (a .name) (a .letter) (lentAll (now (a .heads)) (now (a .subs)) (now (a .rows)) (now (a .own))) (a .before .lost) (c .before .if2 .taken),
+    )
 
 -- src/letters.rt:93:9
 store-is-open-requires : (t : ℕ) → store-lts.Need-is-open-requires (
@@ -343,8 +353,10 @@ store-returns-3 : (t : ℕ) → store-lts.Need-returns-3 (
 ) (store-at t) store.Post
 store-returns-3 t c =
     let a = c .before .before .before .before .before .before .before .args in
-    let p = c .before .before .before .before .before .before .before .pre in
-    runs-lost (storingOn (a .hops) (a .clock) (a .name) (a .letter) (shownWith (lentAll (now (a .heads)) (now (a .subs)) (now (a .rows)) (now (a .own))) (a .before .lost))) (lentAll (now (a .heads)) (now (a .subs)) (now (a .rows)) (now (a .own))) (now (a .events)) (a .before .sent) (a .before .lost) (c .one-more3 .result) (lost-closed (a .hops) (a .clock) (a .name) (a .letter) (lentAll (now (a .heads)) (now (a .subs)) (now (a .rows)) (now (a .own))) (a .before .lost) (omega (arith, c .before .before .before .if2 .left)) (sym (c .before .before .is-open .ensures) ∙ not-true _ (c .before .if3 .taken))) (c .one-more3 .ensures) (p .1 .0 .sound)
+    let p = c .before .before .before .before .before .before .before .pre in (
+      runs-lost (storingOn (a .hops) (a .clock) (a .name) (a .letter) (shownWith (lentAll (now (a .heads)) (now (a .subs)) (now (a .rows)) (now (a .own))) (a .before .lost))) (lentAll (now (a .heads)) (now (a .subs)) (now (a .rows)) (now (a .own))) (now (a .events)) (a .before .sent) (a .before .lost) (c .one-more3 .result) (lost-closed (a .hops) (a .clock) (a .name) (a .letter) (lentAll (now (a .heads)) (now (a .subs)) (now (a .rows)) (now (a .own))) (a .before .lost) (omega (arith, c .before .before .before .if2 .left)) (sym (c .before .before .is-open .ensures) ∙ not-true _ (c .before .if3 .taken))) (c .one-more3 .ensures) (p .1 .0 .sound),
+      place-closed (a .hops) (a .clock) (a .name) (a .letter) (lentAll (now (a .heads)) (now (a .subs)) (now (a .rows)) (now (a .own))) (a .before .lost) (omega (arith, c .before .before .before .if2 .left)) (sym (c .before .before .is-open .ensures) ∙ not-true _ (c .before .if3 .taken)),
+    )
 
 -- src/letters.rt:99:9
 store-call-of-requires : (t : ℕ) → store-lts.Need-call-of-requires (
@@ -608,9 +620,11 @@ store-returns-4 t c =
     (subst (λ (x : Call). CalledAt (bufferStep (part (a .name) b) (length (now (a .scratch))) (x .code) (x .words)) (a .name) b b′ (now (a .scratch)) s′ (k .result)) (c .before .before .before .before .before .before .before .before .before .before .before .before .before .before .before .before .before .before .before .before .before .before .before .before .before .before .call-of .ensures) (k .ensures (now (a .own)))) in
     let z = c .before .before .before .before .before .before .before .before .before .before .before .before .before .before .if4 .taken in
     let r = c .before .before .before .before .before .before .run in
-    let b″ = lentAll (r .last .0) (r .last .1 .0) (r .last .1 .1 .0) (now (a .own)) in
-    runs-passed (a .name) (a .clock) (a .letter) (now (a .heads)) (k .last .0) (now (a .subs)) (k .last .1 .0) (now (a .rows)) (k .last .1 .1 .0) (now (a .own)) (now (a .scratch)) s′ (k .result) (a .before .lost) f z (a .hops) b″ (now (a .events)) (r .last .1 .1 .1 .0) (a .before .sent) (r .result .sent) (r .result .lost) (c .before .before .before .before .before .before .before .before .before .before .before .before .before .before .before .before .before .before .before .before .before .before .before .before .before .before .before .before .before .before .if1 .left) h o
-    (subst (λ (n : ℕ). RunsLetters (runningOn (a .hops - 1) (a .clock) n (a .letter ∷ []) (shownWith b′ (a .before .lost))) b′ b″ (now (a .events)) (r .last .1 .1 .1 .0) (a .before .sent) (r .result .sent) (r .result .lost)) (c .before .before .before .before .before .before .before .before .before .before .before .before .before .name .ensures) (r .ensures))
+    let b″ = lentAll (r .last .0) (r .last .1 .0) (r .last .1 .1 .0) (now (a .own)) in (
+      runs-passed (a .name) (a .clock) (a .letter) (now (a .heads)) (k .last .0) (now (a .subs)) (k .last .1 .0) (now (a .rows)) (k .last .1 .1 .0) (now (a .own)) (now (a .scratch)) s′ (k .result) (a .before .lost) f z (a .hops) b″ (now (a .events)) (r .last .1 .1 .1 .0) (a .before .sent) (r .result .sent) (r .result .lost) (c .before .before .before .before .before .before .before .before .before .before .before .before .before .before .before .before .before .before .before .before .before .before .before .before .before .before .before .before .before .before .if1 .left) h o
+          (subst (λ (n : ℕ). RunsLetters (runningOn (a .hops - 1) (a .clock) n (a .letter ∷ []) (shownWith b′ (a .before .lost))) b′ b″ (now (a .events)) (r .last .1 .1 .1 .0) (a .before .sent) (r .result .sent) (r .result .lost)) (c .before .before .before .before .before .before .before .before .before .before .before .before .before .name .ensures) (r .ensures .0)),
+      place-on (a .clock) (a .name) (a .letter) (lentAll (now (a .heads)) (now (a .subs)) (now (a .rows)) (now (a .own))) (a .before .lost) h o (a .hops) b′ (a .before .place) (r .result .place) (c .before .before .before .before .before .before .before .before .before .before .before .before .before .before .before .before .before .before .before .before .before .before .before .before .before .before .before .before .before .before .if1 .left) (λ e. z (f .here .refusal ∙ e)) (shown-stays (a .name) (a .clock) (a .letter) (now (a .heads)) (k .last .0) (now (a .subs)) (k .last .1 .0) (now (a .rows)) (k .last .1 .1 .0) (now (a .own)) (now (a .scratch)) s′ (k .result) (a .before .lost) f z) (subst (λ (n : ℕ). r .result .place ≡ lastOf (a .before .place) (placesOn (a .hops - 1) (a .clock) n (a .letter ∷ []) (shownWith b′ (a .before .lost)))) (c .before .before .before .before .before .before .before .before .before .before .before .before .before .name .ensures) (r .ensures .1)),
+    )
 
 -- src/letters.rt:108:9
 store-tell-requires : (t : ℕ) → store-lts.Need-tell-requires (
@@ -765,8 +779,10 @@ store-returns-5 t c =
     let s′ = k .last .1 .1 .1 .0 in
     let f = enqueued (a .name) (a .clock) (a .letter) (now (a .heads)) (k .last .0) (now (a .subs)) (k .last .1 .0) (now (a .rows)) (k .last .1 .1 .0) (now (a .own)) (now (a .scratch)) s′ (k .result) (a .before .lost) h o (p .1 .0) (p .1 .1)
     (subst (λ (x : Call). CalledAt (bufferStep (part (a .name) b) (length (now (a .scratch))) (x .code) (x .words)) (a .name) b b′ (now (a .scratch)) s′ (k .result)) (c .before .before .before .before .before .before .before .before .before .before .before .before .before .before .before .before .call-of .ensures) (k .ensures (now (a .own)))) in
-    let e = c .before .tell in
-    runs-stored (a .name) (a .clock) (a .letter) (now (a .heads)) (k .last .0) (now (a .subs)) (k .last .1 .0) (now (a .rows)) (k .last .1 .1 .0) (now (a .own)) (now (a .scratch)) s′ (k .result) (a .before .lost) (a .hops) (now (a .events)) (e .last .0) (a .before .sent) (e .result) (c .before .before .before .before .before .before .before .before .before .before .before .before .before .before .before .before .before .before .before .before .if1 .left) h o (p .1 .0 .sound) f (c .before .before .before .before .if4 .left) (f .here .past .events-length) (p .1 .2) (e .ensures .0) (e .ensures .1)
+    let e = c .before .tell in (
+      runs-stored (a .name) (a .clock) (a .letter) (now (a .heads)) (k .last .0) (now (a .subs)) (k .last .1 .0) (now (a .rows)) (k .last .1 .1 .0) (now (a .own)) (now (a .scratch)) s′ (k .result) (a .before .lost) (a .hops) (now (a .events)) (e .last .0) (a .before .sent) (e .result) (c .before .before .before .before .before .before .before .before .before .before .before .before .before .before .before .before .before .before .before .before .if1 .left) h o (p .1 .0 .sound) f (c .before .before .before .before .if4 .left) (f .here .past .events-length) (p .1 .2) (e .ensures .0) (e .ensures .1),
+      place-here (a .clock) (a .name) (a .letter) (lentAll (now (a .heads)) (now (a .subs)) (now (a .rows)) (now (a .own))) (a .before .lost) h o (a .hops) (c .before .before .before .before .before .before .before .before .before .before .before .before .before .before .before .before .before .before .before .before .if1 .left) (sym (f .here .refusal) ∙ c .before .before .before .before .if4 .left),
+    )
 
 pub +run+store-spec : {M : Type 1} → statement M
 +run+store-spec =
