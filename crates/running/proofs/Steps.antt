@@ -103,16 +103,16 @@ module _ {S : Type 0} (one : Doing S) (at : Reading) (piece : List ℕ) (from : 
     abbrev now : List ℕ
     now = take (at .have) block ++ lacked (take (at .have) block) rest
 
-    had : length (take (at .have) block) ≡ at .have
+    pub had : length (take (at .have) block) ≡ at .have
     had = length-take-le (at .have) block (omega arith)
 
     same-bytes : lacked (take (at .have) block) rest ≡ take (length block - at .have) rest
     same-bytes = ap₂ (λ (x y : ℕ). take (x - y) rest) (sym fits) had
 
-    took : n ≡ length (lacked (take (at .have) block) rest)
+    pub took : n ≡ length (lacked (take (at .have) block) rest)
     took = f .count ∙ ap length (sym same-bytes)
 
-    now-length : length now ≡ at .have + n
+    pub now-length : length now ≡ at .have + n
     now-length = length-append (take (at .have) block) (lacked (take (at .have) block) rest) ∙ ap₂ (λ (x y : ℕ). x + y) had (sym took)
 
     stands : take (at .have + n) block′ ≡ now
@@ -121,7 +121,7 @@ module _ {S : Type 0} (one : Doing S) (at : Reading) (piece : List ℕ) (from : 
     still : length block′ ≡ 512
     still = filled-length (omega arith) f ∙ fits
 
-    bytes-so : block′ ≡ blockAs true (at .have) rest block
+    pub bytes-so : block′ ≡ blockAs true (at .have) rest block
     bytes-so = f .bytes ∙ ap₂ (λ (x : List ℕ) (k : ℕ). take (at .have) block ++ (x ++ drop (at .have + k) block)) (sym same-bytes) took
 
     pub few : at .have + n ≤ 512

@@ -1,0 +1,270 @@
+-- A step of a call file taken a call at a time, of any program. Assumes nothing.
+use Prim.Native.Nat.{ℕ, _+_, _*_, _-_, _≤_, _<_}
+use native.Mathlib.Omega.{arith}
+use mathlib.Core.Path.{_≡_, refl, sym, ap, ap₂, _∙_, subst⁻¹}
+use mathlib.Core.Bool.{Bool, true, false, _&&_, _||_, true≢false}
+use mathlib.Core.List.{List, [], _++_, append-nil}
+use borrow.Author.Tests.{eqb-true, leb-true, leb-false, ltb-true, ltb-false, eq-eqb, ne-eqb, lt-ltb, le-ltb, le-leb, lt-leb}
+use lib.Dec.{eqb, ltb, leb}
+use lib.ListN.{length, take, drop, length-take, length-drop, drop-of-length-le}
+use lib.Seq.{length-take-le, take-all}
+use Rattle.definition.specs.Base.{if_then_else_}
+use Rattle.definition.proofs.Tests.{by-if, if-true, if-false, and-left, and-right}
+use Rattle.stats.specs.Counted.{more}
+use Rattle.callfile.specs.declared.Reading.{Reading}
+use Rattle.callfile.specs.declared.Took.{Took}
+use Rattle.callfile.specs.Blocks.{callsIn, callAt}
+use Rattle.callfile.specs.Cutting.{Stage, lacked, Filled}
+use Rattle.callfile.specs.Lines.{badLine}
+use Rattle.callfile.proofs.Checks.{calls-few}
+use Rattle.running.specs.Running.{Turned, Doing}
+use Rattle.running.specs.Files.{RunState, tookAs, blockAs, unreadAs, begunAs}
+use Rattle.running.proofs.Steps.{had, now-length, bytes-so}
+use Rattle.running.proofs.Steps as Old
+use Rattle.stationrun.specs.declared.StationReading.{StationReading}
+use Rattle.stationrun.specs.declared.StationTook.{StationTook}
+use Rattle.stationrun.specs.CallSteps.{CallStep, noCall, didCall, blockHas, callDone, blockOver, nextCall, stepFile, stepRoomy, stepDue, withRun, readingAfter, endedAs, wholeAt, TookCall}
+
+-- ---- the tests
+
+module _ (most block have out : ℕ) (on : Bool) where
+  abbrev test : Bool
+  test = (eqb block 512 && (leb have 512 && leb most out)) && on
+
+  pub no-block : (block ≡ 512 → ⊥) → false ≡ test
+  no-block h = rw (ne-eqb block 512 h)
+
+  pub past-block : block ≡ 512 → 512 < have → false ≡ test
+  past-block e h = rw (eq-eqb block 512 e, lt-leb have 512 h)
+
+  pub no-text : block ≡ 512 → have ≤ 512 → out < most → false ≡ test
+  no-text e h k = rw (eq-eqb block 512 e, le-leb have 512 h, lt-leb most out k)
+
+  pub all-room : block ≡ 512 → have ≤ 512 → most ≤ out → on ≡ test
+  all-room e h k = rw (eq-eqb block 512 e, le-leb have 512 h, le-leb most out k)
+
+-- what they say together
+module _ (most : ℕ) (at : Reading) (block out : List ℕ) (e : (stepRoomy most at block out && at .«goes_on») ≡ true) where
+  roomy : stepRoomy most at block out ≡ true
+  roomy = and-left (stepRoomy most at block out) (at .«goes_on») e
+
+  pub fits-block : length block ≡ 512
+  fits-block = eqb-true (length block) 512 (and-left (eqb (length block) 512) (leb (at .have) 512 && leb most (length out)) roomy)
+
+  others : (leb (at .have) 512 && leb most (length out)) ≡ true
+  others = and-right (eqb (length block) 512) (leb (at .have) 512 && leb most (length out)) roomy
+
+  pub fits-bytes : at .have ≤ 512
+  fits-bytes = leb-true (at .have) 512 (and-left (leb (at .have) 512) (leb most (length out)) others)
+
+  pub text-room : most ≤ length out
+  text-room = leb-true most (length out) (and-right (leb (at .have) 512) (leb most (length out)) others)
+
+-- whether a step is to be done
+module _ (goes : Bool) (have from len : ℕ) where
+  pub over : goes ≡ false → false ≡ (goes && (eqb have 512 || ltb from len))
+  over e = rw e
+
+  pub whole-due : goes ≡ true → have ≡ 512 → true ≡ (goes && (eqb have 512 || ltb from len))
+  whole-due e h = rw (e, eq-eqb have 512 h)
+
+  pub by-bytes : goes ≡ true → (have ≡ 512 → ⊥) → ltb from len ≡ (goes && (eqb have 512 || ltb from len))
+  by-bytes e h = rw (e, ne-eqb have 512 h)
+
+-- ---- the reading after a call, and after a bad block
+
+module _ (at : StationReading) (count : ℕ) {index : ℕ} (e : index ≡ more (at .reading .index)) where
+  pub same-after : at .run + 1 < count → _≡_ {A = StationReading} (record { reading = record { have = 512; number = at .reading .number; index = index; «goes_on» = true }; run = at .run + 1 }) (readingAfter at count)
+  same-after h =
+      (λ j. record { reading = record { have = 512; number = at .reading .number; index = e j; «goes_on» = true }; run = at .run + 1 })
+      ∙ sym (if-true _ _ (lt-ltb (at .run + 1) count h))
+
+  pub next-after : {number : ℕ} → number ≡ more (at .reading .number) → count ≤ at .run + 1 → _≡_ {A = StationReading} (record { reading = record { have = 0; number = number; index = index; «goes_on» = true }; run = 0 }) (readingAfter at count)
+  next-after f h =
+      (λ j. record { reading = record { have = 0; number = f j; index = e j; «goes_on» = true }; run = 0 })
+      ∙ sym (if-false _ _ (le-ltb (at .run + 1) count h))
+
+pub ended-so : (at : StationReading) (from written : ℕ) {number : ℕ} → number ≡ more (at .reading .number)
+    → _≡_ {A = StationTook} (record { reading = record { reading = record { have = 0; number = number; index = at .reading .index; «goes_on» = false }; run = 0 }; next = from; written = written }) (endedAs at from written)
+ended-so at from written e = λ j. record { reading = record { reading = record { have = 0; number = e j; index = at .reading .index; «goes_on» = false }; run = 0 }; next = from; written = written }
+
+-- ---- a step
+
+module _ {S : Type 0} (one : Doing S) (at : StationReading) (piece : List ℕ) (from : ℕ) (s : S) (block out : List ℕ) where
+  abbrev rest : List ℕ
+  rest = drop from piece
+
+  abbrev have : ℕ
+  have = at .reading .have
+
+  -- the stage, where reading goes on or not
+  abbrev g : Bool → Stage (RunState S)
+  g goes = record { begun = take have block; number = at .reading .number; goesOn = goes; state = record { index = at .reading .index; lent = s } }
+
+  abbrev p : Bool → CallStep S
+  p goes = stepFile one rest (at .run) (g goes)
+
+  -- what a step gives: whether a call was accepted, and what is left
+  pub record Steps (goes changed : Bool) (s′ : S) (block′ out′ : List ℕ) (r : StationTook) : Type 0 where
+    pub took : TookCall S (p goes) goes at from out out′ r
+    pub bytes : block′ ≡ blockAs goes have rest block
+    pub leaves : p goes .taken .stage .state .lent ≡ s′
+    pub changes : p goes .changed ≡ changed
+
+  pub not-read : (goes : Bool) → goes ≡ false → {t : Took} {r : StationTook} → t ≡ unreadAs (at .reading) from (length piece) → r ≡ withRun t (at .run) → Steps goes false s block out r
+  unfolding stepFile unreadAs
+  not-read true e q w = absurd (true≢false e)
+  not-read false e q w = record {
+    took = record {
+      answer = w ∙ ap (λ (t : Took). withRun t (at .run)) (q ∙ (λ j. record { reading = record { have = have; number = at .reading .number; index = at .reading .index; «goes_on» = false }; next = from + sym (length-drop from piece) j; written = 0 }));
+      text = refl;
+    };
+    bytes = refl;
+    leaves = refl;
+    changes = refl;
+  }
+
+  module _ (fits : length block ≡ 512) where
+    -- bytes for a block that is not whole
+    module _ (unfilled : have < 512) (n : ℕ) (block′ : List ℕ) (f : Filled have rest block n block′) where
+      abbrev now : List ℕ
+      now = take have block ++ lacked (take have block) rest
+
+      fills : p true ≡ noCall [] (length (lacked (take have block) rest)) (blockHas now (g true)) 0
+      unfolding stepFile
+      fills = if-true _ _ (lt-ltb (length (take have block)) 512 (omega (arith, had one (at .reading) piece from s block out fits unfilled n block′ f)))
+
+      pub fill-read : (goes : Bool) → goes ≡ true → {t : Took} {r : StationTook} → t ≡ begunAs (at .reading) (have + n) (from + n) → r ≡ withRun t 0 → Steps goes false s block′ out r
+      fill-read false e q w = absurd (true≢false (sym e))
+      fill-read true e {t} {r} q w = record {
+        took = subst⁻¹ (λ (x : CallStep S). TookCall S x true at from out out r) fills (record {
+          answer = w ∙ ap (λ (x : Took). withRun x 0) (q ∙ (λ j. record {
+            reading = record { have = sym (now-length one (at .reading) piece from s block out fits unfilled n block′ f) j; number = at .reading .number; index = at .reading .index; «goes_on» = true };
+            next = from + Old.took one (at .reading) piece from s block out fits unfilled n block′ f j;
+            written = 0;
+          }));
+          text = refl;
+        });
+        bytes = bytes-so one (at .reading) piece from s block out fits unfilled n block′ f;
+        leaves = ap (λ (x : CallStep S). x .taken .stage .state .lent) fills;
+        changes = ap (λ (x : CallStep S). x .changed) fills;
+      }
+
+    -- a call of one that is
+    module _ (whole : 512 ≤ have) where
+      all-bytes : take have block ≡ block
+      all-bytes = take-all have block (omega arith)
+
+      calls : p true ≡ nextCall one (at .run) (wholeAt at block s)
+      unfolding stepFile
+      calls =
+          if-false _ _ (le-ltb (length (take have block)) 512 (omega (arith, ap length all-bytes)))
+          ∙ ap (λ (x : List ℕ). nextCall one (at .run) (wholeAt at x s)) all-bytes
+
+      none-lacked : lacked (take have block) rest ≡ []
+      none-lacked = ap (λ (k : ℕ). take k rest) (let e : 512 - length (take have block) ≡ 0 = omega (arith, ap length all-bytes) in e)
+
+      same-block : block ≡ blockAs true have rest block
+      same-block =
+          sym (ap₂ (λ (x y : List ℕ). x ++ y) all-bytes (ap (λ (x : List ℕ). x ++ drop (have + length x) block) none-lacked ∙ drop-of-length-le block {i = have + 0} (omega arith)) ∙ append-nil block)
+
+      pub call-read : (goes : Bool) → goes ≡ true → {out′ : List ℕ} {r : StationTook} → TookCall S (nextCall one (at .run) (wholeAt at block s)) true at from out out′ r
+          → Steps goes (nextCall one (at .run) (wholeAt at block s) .changed) (nextCall one (at .run) (wholeAt at block s) .taken .stage .state .lent) block out′ r
+      call-read false e t = absurd (true≢false (sym e))
+      call-read true e {out′} {r} t = record {
+        took = subst⁻¹ (λ (x : CallStep S). TookCall S x true at from out out′ r) calls t;
+        bytes = same-block;
+        leaves = ap (λ (x : CallStep S). x .taken .stage .state .lent) calls;
+        changes = ap (λ (x : CallStep S). x .changed) calls;
+      }
+
+-- ---- steps come to an end
+
+-- the calls that a whole block can still have
+abbrev calls-ahead : ℕ → ℕ → ℕ
+calls-ahead have run = if eqb have 512 then 7 - run else 0
+
+-- what falls with each step, with so many bytes left
+abbrev pub ahead : StationReading → ℕ → ℕ
+ahead at left = if at .reading .«goes_on» then 1 + (8 * left + calls-ahead (at .reading .have) (at .run)) else 0
+
+seven-ahead : (have run : ℕ) → calls-ahead have run ≤ 7
+seven-ahead have run = by-if (λ (k : ℕ). k ≤ 7) (eqb have 512) (7 - run) 0 (λ _. omega arith) (λ _. omega arith)
+
+module _ {S : Type 0} (one : Doing S) (at : StationReading) (piece : List ℕ) (from : ℕ) (s : S) (block : List ℕ) (due : stepDue at from (length piece) ≡ true) where
+  abbrev g₁ : Stage (RunState S)
+  g₁ = g one at piece from s block block true
+
+  abbrev begun : List ℕ
+  begun = take (at .reading .have) block
+
+  abbrev Falls : Bool → CallStep S → Type 0
+  Falls goes x = let r = withRun (tookAs goes (at .reading) from (x .taken)) (x .run) in ahead (r .reading) (length piece - r .next) < ahead at (length piece - from)
+
+  on : at .reading .«goes_on» ≡ true
+  on = and-left (at .reading .«goes_on») (eqb (at .reading .have) 512 || ltb from (length piece)) due
+
+  before-is : ahead at (length piece - from) ≡ 1 + (8 * (length piece - from) + calls-ahead (at .reading .have) (at .run))
+  before-is = if-true _ _ on
+
+  -- reading ends
+  ends-here : (goes : Bool) (x : CallStep S) → x .taken .stage .goesOn ≡ false → Falls goes x
+  ends-here goes x e = omega (arith, before-is, after)
+    where
+      after : ahead (withRun (tookAs goes (at .reading) from (x .taken)) (x .run) .reading) (length piece - (from + x .taken .used)) ≡ 0
+      after = if-false _ _ e
+
+  module _ (fits : length block ≡ 512) (filled : at .reading .have ≤ 512) where
+    had-all : length begun ≡ at .reading .have
+    had-all = length-take-le (at .reading .have) block (omega arith)
+
+    abbrev new : List ℕ
+    new = lacked begun (drop from piece)
+
+    bytes-left : at .reading .have < 512 → from < length piece
+    bytes-left h = ltb-true from (length piece) (sym (ap (λ (t : Bool). t || ltb from (length piece)) (ne-eqb (at .reading .have) 512 (λ e. omega (arith, e, h)))) ∙ and-right (at .reading .«goes_on») (eqb (at .reading .have) 512 || ltb from (length piece)) due)
+
+    fill-falls : ltb (length begun) 512 ≡ true → Falls true (noCall [] (length new) (blockHas (begun ++ new) g₁) 0)
+    fill-falls e =
+        let part : at .reading .have < 512 = omega (arith, ltb-true (length begun) 512 e, had-all) in
+        omega (arith, before-is, bytes-left part, had-all, part, length-take (512 - length begun) (drop from piece), length-drop from piece, seven-ahead (length (begun ++ new)) 0)
+
+    module _ (whole : ltb (length begun) 512 ≡ false) where
+      abbrev count : ℕ
+      count = callsIn begun (length begun)
+
+      full : at .reading .have ≡ 512
+      full = omega (arith, ltb-false (length begun) 512 whole, had-all, filled)
+
+      ahead-so : calls-ahead (at .reading .have) (at .run) ≡ 7 - at .run
+      ahead-so = if-true _ _ (eq-eqb (at .reading .have) 512 full)
+
+      abbrev t : Turned S
+      t = one (at .reading .index) (callAt (at .run) begun) s
+
+      same-falls : ltb (at .run + 1) count ≡ true → Falls true (didCall t (callDone t g₁) (at .run + 1))
+      same-falls e =
+          let after : calls-ahead (length begun) (at .run + 1) ≡ 7 - (at .run + 1) = if-true _ _ (eq-eqb (length begun) 512 (had-all ∙ full)) in
+          omega (arith, before-is, ahead-so, after, ltb-true (at .run + 1) count e, calls-few begun (length begun))
+
+      last-falls : leb count (at .run) ≡ false → Falls true (didCall t (blockOver true (callDone t g₁)) 0)
+      last-falls e = omega (arith, before-is, ahead-so, leb-false count (at .run) e, calls-few begun (length begun))
+
+      call-falls : Falls true (nextCall one (at .run) g₁)
+      unfolding nextCall
+      call-falls = by-if (Falls true) (leb count (at .run)) (noCall (badLine (at .reading .number)) 0 (blockOver false g₁) 0) (if ltb (at .run + 1) count then didCall t (callDone t g₁) (at .run + 1) else didCall t (blockOver true (callDone t g₁)) 0)
+          (λ _. ends-here true (noCall (badLine (at .reading .number)) 0 (blockOver false g₁) 0) refl)
+          (λ e. by-if (Falls true) (ltb (at .run + 1) count) (didCall t (callDone t g₁) (at .run + 1)) (didCall t (blockOver true (callDone t g₁)) 0) same-falls (λ _. last-falls e))
+
+    step-falls : Falls true (stepFile one (drop from piece) (at .run) g₁)
+    unfolding stepFile
+    step-falls = by-if (Falls true) (ltb (length begun) 512) (noCall [] (length new) (blockHas (begun ++ new) g₁) 0) (nextCall one (at .run) g₁) fill-falls call-falls
+
+  not-falls : Falls false (p one at piece from s block block false)
+  unfolding stepFile
+  not-falls = ends-here false (p one at piece from s block block false) refl
+
+  -- a step that is due goes on
+  pub moves-on : (goes : Bool) → (goes ≡ true → length block ≡ 512) → (goes ≡ true → at .reading .have ≤ 512) → {out out′ : List ℕ} {r : StationTook} → TookCall S (p one at piece from s block block goes) goes at from out out′ r → ahead (r .reading) (length piece - r .next) < ahead at (length piece - from)
+  moves-on false f h {r = r} t = subst⁻¹ (λ (x : StationTook). ahead (x .reading) (length piece - x .next) < ahead at (length piece - from)) (t .answer) not-falls
+  moves-on true f h {r = r} t = subst⁻¹ (λ (x : StationTook). ahead (x .reading) (length piece - x .next) < ahead at (length piece - from)) (t .answer) (step-falls (f refl) (h refl))

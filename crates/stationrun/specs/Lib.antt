@@ -1,0 +1,4 @@
+pub mod StationRuns
+pub mod CallSteps
+pub mod StationFiles
+pub mod StationCases
