@@ -1,4 +1,4 @@
-//! With the feature `library`: where the proved engine's static library is.
+//! With the feature `library`: where the proved engine's static libraries are.
 
 fn main() {
     println!("cargo:rerun-if-changed=build.rs");
@@ -7,5 +7,6 @@ fn main() {
         let folder = std::env::var("DESTINATION_LIBRARY").expect("DESTINATION_LIBRARY names a folder");
         println!("cargo:rustc-link-search=native={folder}");
         println!("cargo:rerun-if-changed={folder}/libdestination.a");
+        println!("cargo:rerun-if-changed={folder}/libstation.a");
     }
 }

@@ -635,7 +635,8 @@ fn meta_of(connection: u64) -> ProducerMeta {
     }
 }
 
-fn rejected(effect: &Effect) -> EntryNumbers {
+/// The entry of a dead letter.
+pub fn rejected(effect: &Effect) -> EntryNumbers {
     let Effect::ToDlq { entry, .. } = effect;
     host::entry_numbers(entry)
 }

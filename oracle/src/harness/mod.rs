@@ -19,6 +19,8 @@ pub mod sides;
 #[cfg(feature = "library")]
 pub mod spoil;
 pub mod station;
+#[cfg(feature = "library")]
+pub mod stationlib;
 pub mod text;
 pub mod traffic;
 pub mod whole;

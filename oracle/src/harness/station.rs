@@ -6,7 +6,8 @@ use std::fmt;
 use super::arguments::SEQUENCE_MAX;
 use super::callfile::{code, Call};
 use super::dump::{self, Audits};
-use super::engine::{refusal, Engine, Event};
+use super::engine::{refusal, rejected, Engine, Event};
+use crate::broker::destination::Effect;
 use super::held::Held;
 use super::host::EntryNumbers;
 use super::whole::Whole;
@@ -212,6 +213,32 @@ impl Station {
             code::ENQUEUE => self.enqueue(at, &own),
             _ => self.run(at, &own),
         }
+    }
+
+    /// A call that is known to be accepted, and its letters, which the first destination takes: the broker's own code alone, for times.
+    pub fn replay(&mut self, call: &Call) -> u64 {
+        let (place, code) = place_of(call);
+        let at = place as usize;
+        let mut own = Call { code, ..*call };
+        if code == code::ENQUEUE {
+            own.args[0] = self.next;
+            self.next += 1;
+        }
+        let (answer, letters) = self.replay_at(at, &own);
+        for letter in &letters {
+            let stored = letter_call(rejected(letter), self.next, call.args[6]);
+            self.next += 1;
+            self.replay_at(self.names[at] as usize, &stored);
+        }
+        answer + letters.len() as u64
+    }
+
+    fn replay_at(&mut self, at: usize, call: &Call) -> (u64, Vec<Effect>) {
+        let engine = &mut self.engines[at];
+        let dest = &engine.opened().expect("it is open").dest;
+        let done = engine.prepare(call).run(dest);
+        engine.drop_sent();
+        done
     }
 
     fn not_there(&mut self) -> StationReply {
