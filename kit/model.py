@@ -1,8 +1,9 @@
 #!/usr/bin/env python3
-"""model.py [--bytes|--fates] <CALL_FILE: the definitions of crates/definition/specs in Python, function by function and under the same names, with a
-mark for each branch. Prints what a run of the file prints, with --bytes also the bytes held after each call, with --fates instead what `blockfates`
+"""model.py [--station] [--bytes|--fates] <CALL_FILE: the definitions of crates/definition/specs in Python, function by function and under the same names,
+with a mark for each branch. Prints what a run of the file prints, with --bytes also the bytes held after each call, with --fates instead what `blockfates`
 prints. With --station it is a station's call file, and the definitions of crates/definition_station/specs are there too; --bytes is of all
-destinations then. No proof covers it: it shows which branches a call file reaches (see `reach`), and it can be the reference of `run` where there is no other."""
+destinations then, and --fates prints the report on a station (docs/BLOCKS.md). No proof covers it: it shows which branches a call file reaches (see
+`reach`), and it can be the reference of `run` where there is no other."""
 import struct
 import sys
 from dataclasses import dataclass, field, replace
@@ -1257,27 +1258,178 @@ def station_bytes(s):
     return sum(bytes_held(x.dest) for x in s.slots if x)
 
 
-def run_station(data, held=False):
-    """The lines that a run of a station's call file prints."""
-    lines, s, index = [], zeros(), 0
+def calls_in(data):
+    """Each call's index and words; for a bad block its number and None."""
+    index = 0
     for k in range(0, len(data), 512):
         calls = calls_of(data[k : k + 512])
         if calls is None:
-            lines.append(f"b {k // 512}")
-            break
+            yield k // 512, None
+            return
         for words in calls:
-            refused, answer, events, s = station_call(words, s)
-            lines.append(f"{index} {refused} {answer}")
-            lines += [" ".join(map(str, e)) for e in events]
-            lines += [f"h {station_bytes(s)}"] if held else []
+            yield index, words
             index += 1
-    lines += [counters(x.dest).replace("=", f"= {k}") for k, x in enumerate(s.slots) if x]
-    return lines + [f"s {s.next} {s.lost} 0 {station_bytes(s)}"]
+
+
+def counters_at(k, x):
+    return counters(x.dest).replace("=", f"= {k}")
+
+
+def station_line(s):
+    return f"s {s.next} {s.lost} 0 {station_bytes(s)}"
+
+
+def run_station(data, held=False):
+    """The lines that a run of a station's call file prints."""
+    lines, s = [], zeros()
+    for index, words in calls_in(data):
+        if words is None:
+            lines.append(f"b {index}")
+            break
+        refused, answer, events, s = station_call(words, s)
+        lines.append(f"{index} {refused} {answer}")
+        lines += [" ".join(map(str, e)) for e in events]
+        lines += [f"h {station_bytes(s)}"] if held else []
+    return lines + [counters_at(k, x) for k, x in enumerate(s.slots) if x] + [station_line(s)]
+
+
+# ---- where each block of a station ended (document 02 §7 with §1): the definitions of definition_stationfates
+
+
+@dataclass
+class Gets:
+    """An accepted call that a destination gets, and the blocks that it holds after it."""
+    place: int
+    code: int
+    words: tuple
+    queue: bool
+    blocks: dict
+
+
+@dataclass
+class Book:
+    """The blocks that a destination holds, and of those that left since its latest accepted open how many went to each place."""
+    blocks: dict = field(default_factory=dict)
+    gone: list = field(default_factory=lambda: [0] * 8)
+
+
+def held_blocks(t):
+    """As `places`, in the order of an account: what waits, what is reserved, what is in flight."""
+    held = places(t)
+    return {n: held[n] for place in (0, 2, 1) for n in held if held[n][0] == place}
+
+
+def gets(k, code, ws, u):
+    t = u.slots[k].dest
+    return Gets(k, code, ws, t.kind == "queue", held_blocks(t))
+
+
+def copied(s):
+    return Station([x and Slot(replace(x.dest, stats=dict(x.dest.stats)), x.name) for x in s.slots], s.next, s.lost)
+
+
+def letter_gets(now, k, e, u):
+    """Where a letter is stored, as `storing` goes, or 8; and the call that stores it."""
+    for _ in range(HOPS_MAX):
+        x = place(k, u)
+        if x is None:
+            break
+        if step(1, enqueuing(e, now), x.dest)[0] == 0:
+            return k, [gets(k, 1, enqueuing(e, now), u)]
+        k = x.name
+    return 8, []
+
+
+def call_gets(k, code, ws, u):
+    """The calls that destinations get in an accepted call, open and start apart, and its letters: the number each had, the one it got, its destination. Changes u."""
+    x = u.slots[k]
+    carried = (u.next,) + ws[1:] if code == 1 else ws
+    letters = rejected(code, carried, x.dest)
+    step(code, carried, x.dest)
+    all_gets, told = [gets(k, code, carried, u)], []
+    u.next += code == 1
+    numbered = number(letters, u)
+    for e in numbered:
+        at, more = letter_gets(carried[6], x.name, e, u)
+        all_gets += more
+        told.append(at)
+    without = len(letters) - len(numbered)
+    return all_gets, list(zip(seqs(letters), seqs(numbered) + [0] * without, told + [8] * without))
+
+
+def comes(g):
+    """The block that a call brings."""
+    return {g.words[0]: (0, g.words[2] == 1)} if g.code == 1 and g.queue else {}
+
+
+def note_one(g, b):
+    """A call in the book of its destination: what left in it, and how."""
+    left = {n: (left_as(g.code, g.words, x[0] == 0), x[1]) for n, x in {**b.blocks, **comes(g)}.items() if n not in g.blocks}
+    b.blocks = g.blocks
+    for place, _ in left.values():
+        b.gone[place] += 1
+    return left
+
+
+def notes(j, all_gets, b):
+    """Those that the destination j gets: the lines of what left, in the order what it held before them, what came."""
+    order, left = list(b.blocks), {}
+    for g in all_gets:
+        if g.place == j:
+            order += comes(g)
+            left.update(note_one(g, b))
+    return ["f %d %d %s %d" % (j, n, PLACES[left[n][0]], left[n][1]) for n in order if n in left]
+
+
+def ways(b):
+    return tuple(sum(place == p for p, _ in b.blocks.values()) for place in range(3))
+
+
+def brought_lines(g):
+    """The line of what the call itself brought."""
+    if g.code == 2:
+        return ["j %d %d %d %d %d" % ((g.place,) + ident(g.words) + (g.words[5],))]
+    return ["e %d %d %d" % (g.place, n, persistent) for n, (_, persistent) in comes(g).items()]
+
+
+def noted_lines(k, code, ws, u, events, books):
+    """The lines of an accepted call below its first."""
+    all_gets, told = call_gets(k, code, ws, u)
+    left = [line for j in range(8) if books[j] for line in notes(j, all_gets, books[j])]
+    others = sorted({g.place for g in all_gets if g.place != k and g.queue})
+    return (["w %d %d %d %d" % ((e,) + ways(books[e])) for e in others] + brought_lines(all_gets[0]) + [" ".join(map(str, e)) for e in events]
+            + ["l %d %d %d %d" % ((k,) + row) for row in told] + left)
+
+
+def last_lines(k, x, b):
+    """An open destination's at the end: what it holds, totals, counters."""
+    totals = map(sum, zip(b.gone, ways(b) + (0,) * 5))
+    return ["f %d %d %s %d" % (k, n, PLACES[p], persistent) for n, (p, persistent) in b.blocks.items()] + ["t %d " % k + " ".join(map(str, totals)), counters_at(k, x)]
+
+
+def station_fates(data):
+    """The lines of the report on a station's call file."""
+    lines, s, books = [], zeros(), [None] * 8
+    for index, words in calls_in(data):
+        if words is None:
+            lines.append(f"b {index}")
+            break
+        before, (k, code), more = copied(s), divmod(words[0], 256), []
+        refused, _, events, s = station_call(words, s)
+        if refused == 0 and code == 16:
+            books = [None] * 8
+        elif refused == 0 and code == 0:
+            books[k] = Book()
+        elif refused == 0:
+            more = noted_lines(k, code, words[1:], before, events, books)
+        held = ways(books[k]) if k < 8 and books[k] else (0, 0, 0)
+        lines += ["c %d %d %d %d %d %d %d" % ((index, k, code, refused) + held)] + more
+    return lines + [line for k, x in enumerate(s.slots) if x for line in last_lines(k, x, books[k])] + [station_line(s)]
 
 
 def main(options, data):
     if "--station" in options:
-        return run_station(data, "--bytes" in options)
+        return station_fates(data) if "--fates" in options else run_station(data, "--bytes" in options)
     return fates(data) if "--fates" in options else run(data, "--bytes" in options)
 
 

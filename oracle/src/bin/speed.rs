@@ -18,6 +18,7 @@ use destination_oracle::harness::callfile::Call;
 use destination_oracle::harness::engine::{Engine, Prepared};
 use destination_oracle::harness::library::{CallWords, Lent, Outcome, Row, EVENTS};
 use destination_oracle::harness::sides;
+use destination_oracle::harness::times::{best_and_median, nanoseconds, ratio};
 use destination_oracle::harness::traffic::{Traffic, PROFILES};
 
 const ROWS: [usize; 4] = [8, 64, 256, 512];
@@ -93,29 +94,6 @@ fn line(name: &str, rows: usize, traffic: &Traffic, runs: usize) {
         nanoseconds(move_up),
     ];
     println!("| {name} | {rows} | {} |", cells.join(" | "));
-}
-
-type BestAndMedian = (f64, f64);
-
-fn nanoseconds(time: BestAndMedian) -> String {
-    format!("{:.0} ({:.0})", time.0, time.1)
-}
-
-fn ratio(part: BestAndMedian, whole: BestAndMedian) -> String {
-    format!("{:.2} ({:.2})", part.0 / whole.0, part.1 / whole.1)
-}
-
-/// Nanoseconds a call: each part's best of all runs, and each part's median. A part that another
-/// process has interrupted so counts for nothing.
-fn best_and_median(runs: &[Vec<Duration>], calls: usize) -> BestAndMedian {
-    let mut sums = (0, 0);
-    for part in 0..runs[0].len() {
-        let mut times: Vec<u128> = runs.iter().map(|run| run[part].as_nanos()).collect();
-        times.sort();
-        sums.0 += times[0];
-        sums.1 += times[times.len() / 2];
-    }
-    (sums.0 as f64 / calls as f64, sums.1 as f64 / calls as f64)
 }
 
 /// The broker after the calls that are not timed.

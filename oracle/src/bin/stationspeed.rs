@@ -20,6 +20,7 @@ use destination_oracle::harness::host::{Id, NO_SELECTOR};
 use destination_oracle::harness::library::{event_words, CallWords, Lent, Outcome};
 use destination_oracle::harness::station::{place_of, placed, Station, NAME_AT};
 use destination_oracle::harness::stationlib::{LentStation, EVENTS};
+use destination_oracle::harness::times::{best_and_median, nanoseconds, ratio};
 use destination_oracle::openwire::model::ack_type;
 
 const OPEN: [usize; 2] = [1, 8];
@@ -180,28 +181,6 @@ fn counted(side: &str, rows: usize) -> ExitCode {
         _ => black_box(single(&traffic)),
     };
     ExitCode::SUCCESS
-}
-
-type BestAndMedian = (f64, f64);
-
-fn nanoseconds(time: BestAndMedian) -> String {
-    format!("{:.0} ({:.0})", time.0, time.1)
-}
-
-fn ratio(part: BestAndMedian, whole: BestAndMedian) -> String {
-    format!("{:.2} ({:.2})", part.0 / whole.0, part.1 / whole.1)
-}
-
-/// Nanoseconds a call: each part's best of all runs, and each part's median.
-fn best_and_median(runs: &[Vec<Duration>], calls: usize) -> BestAndMedian {
-    let mut sums = (0, 0);
-    for part in 0..runs[0].len() {
-        let mut times: Vec<u128> = runs.iter().map(|run| run[part].as_nanos()).collect();
-        times.sort();
-        sums.0 += times[0];
-        sums.1 += times[times.len() / 2];
-    }
-    (sums.0 as f64 / calls as f64, sums.1 as f64 / calls as f64)
 }
 
 /// Both sides, call by call: refusal, answer and events; and a batch.

@@ -22,5 +22,6 @@ pub mod station;
 #[cfg(feature = "library")]
 pub mod stationlib;
 pub mod text;
+pub mod times;
 pub mod traffic;
 pub mod whole;
