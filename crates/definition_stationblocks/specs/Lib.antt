@@ -1,2 +1,0 @@
-pub mod StationBlocks
-pub mod Wanted
