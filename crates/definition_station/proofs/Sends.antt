@@ -14,7 +14,7 @@ use Rattle.definition.specs.Base.{all, empty}
 use Rattle.definition.specs.Types.{queue, Id, Entry, Sub, Dest, Event}
 use Rattle.definition.specs.Consumer.{Ack, ackSub}
 use Rattle.definition.specs.Destination.{due, Out, subOf, count, putSub, touchIdle, reservedOf, ackReserved, ackAt, ack, isId}
-use Rattle.definition.specs.Calls.{sound, acknowledge, pulling, timedOut, prefetching, ask, Call, enqueuing, joining, leaving, asking, unmarking, releasing, sweeping, clearing, adding, removing, testing, forgetting, discarding, missing, perform, Result, call}
+use Rattle.definition.specs.Calls.{sound, acknowledge, ask, Call, enqueuing, asking, perform, Result, call}
 use Rattle.definition.specs.Words.{decode, callStep, step}
 use Rattle.definition.proofs.Tests.{by-if, by-test, and-left, and-right}
 use Rattle.definition.proofs.Made.{step-call, call-accepted}
@@ -32,6 +32,7 @@ use Rattle.definition_station.proofs.Letters as Letters
 use Rattle.definition_station.proofs.Sound.{passed, opened, called-facts, number-facts, running-facts}
 use Rattle.definition_station.proofs.Refusals.{station-kept}
 use Rattle.definition_station.proofs.Grow.{weights, dispatch-grows, enqueuing-grows, sound-weights}
+use Rattle.definition_station.proofs.Rejected.{by-rejected}
 
 -- ---- what a station has in flight
 
@@ -120,25 +121,8 @@ ack-call now i a t h =
 
 -- a call that makes a dead letter is one
 makes : (t : Dest) (o : Option Call) → callStep whole t o .refusal ≡ 0 → (rejected t o ≡ [] → ⊥) → length (callStep whole t o .events) ≤ 512 + weights (callStep whole t o .dest .subs)
-unfolding callStep rejected
-makes t none h n = absurd (n refl)
-makes t (some (asking i (acknowledge a now))) h n = ack-call now i a t h
-makes t (some (asking i (pulling timeout now))) h n = absurd (n refl)
-makes t (some (asking i (timedOut generation))) h n = absurd (n refl)
-makes t (some (asking i (prefetching p now))) h n = absurd (n refl)
-makes t (some (enqueuing e now)) h n = absurd (n refl)
-makes t (some (joining p now)) h n = absurd (n refl)
-makes t (some (leaving i last now)) h n = absurd (n refl)
-makes t (some (unmarking i)) h n = absurd (n refl)
-makes t (some (releasing i now)) h n = absurd (n refl)
-makes t (some (sweeping now most)) h n = absurd (n refl)
-makes t (some clearing) h n = absurd (n refl)
-makes t (some (adding i)) h n = absurd (n refl)
-makes t (some (removing i now)) h n = absurd (n refl)
-makes t (some (testing i q)) h n = absurd (n refl)
-makes t (some (forgetting conn)) h n = absurd (n refl)
-makes t (some discarding) h n = absurd (n refl)
-makes t (some missing) h n = absurd (n refl)
+unfolding callStep
+makes t = by-rejected t (λ o l. callStep whole t o .refusal ≡ 0 → (l ≡ [] → ⊥) → length (callStep whole t o .events) ≤ 512 + weights (callStep whole t o .dest .subs)) (λ o h n. absurd (n refl)) (λ i a now h n. ack-call now i a t h)
 
 -- ---- the call
 

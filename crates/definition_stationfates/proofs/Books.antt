@@ -43,7 +43,7 @@ under n l = all (λ m. ltb m n) l
 abbrev within : ℕ → ℕ → List ℕ → Bool
 within low high l = all (λ m. leb low m && ltb m high) l
 
-under-new : (n x : ℕ) (l : List ℕ) → under n l ≡ true → n ≤ x → member x l ≡ false
+pub under-new : (n x : ℕ) (l : List ℕ) → under n l ≡ true → n ≤ x → member x l ≡ false
 under-new n x [] h g = refl
 under-new n x (m ∷ l) h g =
     let a = ltb-true m n (and-left (ltb m n) _ h) in
@@ -91,7 +91,7 @@ notes-join j [] h b = refl
 notes-join j (x ∷ g) h b = notes-join j g h (if eqb (x .place) j then noteOne x b else b)
 
 -- an open gets no call
-open-gets : (j k : ℕ) (ws : List ℕ) (s : Station) (b : Book) (o : Option StationSlot) → notes j (getsAt k 0 ws s o) b ≡ b
+pub open-gets : (j k : ℕ) (ws : List ℕ) (s : Station) (b : Book) (o : Option StationSlot) → notes j (getsAt k 0 ws s o) b ≡ b
 unfolding getsAt decode read rejected numberLetters lettersGet
 open-gets j k ws s b none = refl
 open-gets j k ws s b (some x) = refl
@@ -258,7 +258,7 @@ opened-right lent j ws s h k =
     let e = open-left (openingWords ws) (openedBy (openingWords ws)) (and-left (openWords (openingWords ws)) _ (opened lent j ws s h .0)) in
     subst (λ (r : Result). Account [] [] (r .dest)) e (opening whole (openingWords ws) (openedBy (openingWords ws)) (ap (λ (r : Result). r .refusal) e) (ap (λ (r : Result). r .dest .kind) e ∙ ap kindOf (first-word ws) ∙ k))
 
-booked : (j : ℕ) (b : Book) (s : Station) → Booked j b s → At Right j b (s .next) s
+pub booked : (j : ℕ) (b : Book) (s : Station) → Booked j b s → At Right j b (s .next) s
 booked j b s (opens {cleared = c} {s = u} lent ws r h k) = opens-at Right account-keeps j lent ws u (reached-station-sound c u r) h (opened-right lent j ws u h k)
 booked j b s (calls {b = d} {s = u} lent k code ws r h g) = any-at Right account-keeps j lent k code ws u d g h (booked j d u r)
 booked j b s (discards {s = u} lent k r h g) = counted-at Right account-keeps j lent k discarding u b g h (booked j b u r)

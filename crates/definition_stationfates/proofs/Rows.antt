@@ -26,7 +26,7 @@ module _ {A : Type 0} (f : Entry → A) where
   entries-told [] ns ps = refl
   entries-told (e ∷ es) ns ps = ap (λ (l : List A). f e ∷ l) (entries-told es (drop 1 ns) (drop 1 ps))
 
-rows-many : (es : List Entry) (ns ps : List ℕ) → length (tellEach es ns ps) ≡ length es
+pub rows-many : (es : List Entry) (ns ps : List ℕ) → length (tellEach es ns ps) ≡ length es
 rows-many [] ns ps = refl
 rows-many (e ∷ es) ns ps = ap suc (rows-many es (drop 1 ns) (drop 1 ps))
 

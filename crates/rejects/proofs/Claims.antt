@@ -10,7 +10,7 @@ use Rattle.definition.specs.Base.{keep, all}
 use Rattle.definition.specs.Types.{Id, Entry, Inflight, Held, Sub, Dest}
 use Rattle.definition.specs.Consumer.{Ack, ackType, isBrowser, snapshot, ackRange}
 use Rattle.definition.specs.Destination.{isId, subOf, heldBy, reservedOf, reservedHit}
-use Rattle.definition.specs.Calls.{entryOk, flying, subTests, subSound, sound, Call, asking, acknowledge, pulling, timedOut, prefetching, enqueuing, joining, leaving, unmarking, releasing, sweeping, clearing, adding, removing, testing, forgetting, discarding, missing}
+use Rattle.definition.specs.Calls.{entryOk, flying, subTests, subSound, sound, Call}
 use Rattle.definition.specs.Words.{decode}
 use Rattle.definition.specs.Layout.{Buffers, view, soundBuffers}
 use Rattle.definition.proofs.Tests.{by-if, by-test, if-true, and-left, and-right, and-both}
@@ -22,6 +22,7 @@ use Rattle.state.specs.State.{loaded}
 use Rattle.state.specs.Fits.{fits}
 use Rattle.state.proofs.Fitting.{Long, facts-fit, sound-facts, sound-loaded}
 use Rattle.definition_station.specs.Letters.{isPoison, takenReserved, rejectedOf, rejectedBy, rejected}
+use Rattle.definition_station.proofs.Rejected.{by-rejected}
 use Rattle.rejects.specs.Rejects.{bufferRejected}
 
 -- ---- sound buffers
@@ -66,22 +67,4 @@ module _ (t : Dest) (s : sound t ≡ true) where
   by-ok i a = by-if (λ (l : List Entry). all entryOk l ≡ true) (not (a .transacted) && isPoison (ackType (a .type))) _ [] (λ _. of-ok i a (subOf i t) refl) (λ _. refl)
 
   pub rejected-ok : (o : Option Call) → all entryOk (rejected t o) ≡ true
-  unfolding rejected
-  rejected-ok none = refl
-  rejected-ok (some (asking i (acknowledge a now))) = by-ok i a
-  rejected-ok (some (asking i (pulling timeout now))) = refl
-  rejected-ok (some (asking i (timedOut generation))) = refl
-  rejected-ok (some (asking i (prefetching p now))) = refl
-  rejected-ok (some (enqueuing e now)) = refl
-  rejected-ok (some (joining p now)) = refl
-  rejected-ok (some (leaving i last now)) = refl
-  rejected-ok (some (unmarking i)) = refl
-  rejected-ok (some (releasing i now)) = refl
-  rejected-ok (some (sweeping now most)) = refl
-  rejected-ok (some clearing) = refl
-  rejected-ok (some (adding i)) = refl
-  rejected-ok (some (removing i now)) = refl
-  rejected-ok (some (testing i q)) = refl
-  rejected-ok (some (forgetting conn)) = refl
-  rejected-ok (some discarding) = refl
-  rejected-ok (some missing) = refl
+  rejected-ok = by-rejected t (λ o l. all entryOk l ≡ true) (λ o. refl) (λ i a now. by-ok i a)

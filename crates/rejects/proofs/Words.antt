@@ -10,11 +10,12 @@ use Rattle.model.specs.declared.AckType.{AckType}
 use Rattle.definition.specs.Base.{if_then_else_, is-some}
 use Rattle.definition.specs.Types.{Dest}
 use Rattle.definition.specs.Consumer.{Standard, Redelivered, Individual, Unmatched, Expired, Other, Ack, ackType}
-use Rattle.definition.specs.Calls.{Call, asking, acknowledge, argumentsOk}
-use Rattle.definition.specs.Words.{at, idIn, ackIn, ackWords, provided, read, rangedCall, decode}
+use Rattle.definition.specs.Calls.{Call, asking, acknowledge}
+use Rattle.definition.specs.Words.{at, idIn, ackIn, ackWords, read, rangedCall, decode}
 use Rattle.definition.proofs.Tests.{by-test, by-if, if-true, if-false, and-left, and-right}
 use Rattle.calls.proofs.Decoded.{decoded}
 use Rattle.definition_station.specs.Letters.{isPoison, rejectedBy, rejected}
+use Rattle.definition_station.proofs.Rejected.{Silent, silent-given, other-silent}
 use Rattle.rejects.specs.Rejects.{rejecting, ackRejected}
 
 -- ---- the type
@@ -32,25 +33,7 @@ poison-is k =
 
 -- ---- the words
 
--- no letters
-abbrev Silent : Dest → Option Call → Type 0
-Silent t o = rejected t (rangedCall o) ≡ []
-
-silent-given : (t : Dest) (b : Bool) (c : Call) → rejected t (some c) ≡ [] → Silent t (provided b c)
-unfolding provided rejected
-silent-given t b c h = by-if (Silent t) b (some c) none (λ _. by-if (λ (o : Option Call). rejected t o ≡ []) (argumentsOk c) (some c) none (λ _. h) (λ _. refl)) (λ _. refl)
-
 module _ (code : ℕ) (ws : List ℕ) (t : Dest) where
-  -- any other code
-  other-silent : eqb code 4 ≡ false → Silent t (read code ws)
-  unfolding read rejected
-  other-silent n =
-      let next : (k : ℕ) (b : Bool) (c : Call) (o : Option Call) → rejected t (some c) ≡ [] → Silent t o → Silent t (if eqb code k then provided b c else o) =
-      λ k b c o h r. by-if (Silent t) (eqb code k) (provided b c) o (λ _. silent-given t b c h) (λ _. r) in
-      next 1 _ _ _ refl (next 2 _ _ _ refl (next 3 _ _ _ refl (rw n (
-      next 5 _ _ _ refl (next 6 _ _ _ refl (next 7 _ _ _ refl (next 8 _ _ _ refl (next 9 _ _ _ refl (next 10 _ _ _ refl
-      (next 11 _ _ _ refl (next 12 _ _ _ refl (next 13 _ _ _ refl (next 14 _ _ _ refl (next 15 _ _ none refl refl))))))))))))))
-
   -- an ack that does not reject
   ack-silent : (not (ackIn ws .transacted) && isPoison (ackType (ackIn ws .type))) ≡ false → Silent t (read 4 ws)
   unfolding read rejected rejectedBy
@@ -60,7 +43,7 @@ module _ (code : ℕ) (ws : List ℕ) (t : Dest) where
   unfolding rejecting decode
   none-rejected n = by-test (eqb code 4)
       (λ y. ap (λ (k : ℕ). rejected t (rangedCall (read k ws))) (eqb-true code 4 y) ∙ ack-silent (sym (ap (λ (b : Bool). b && (not (ackIn ws .transacted) && isPoison (ackType (ackIn ws .type)))) y) ∙ n))
-      other-silent
+      (other-silent code ws t)
 
   -- words that are no arguments
   pub not-arguments : is-some (decode code ws) ≡ false → rejected t (decode code ws) ≡ []

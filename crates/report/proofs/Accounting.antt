@@ -1,6 +1,6 @@
 -- The blocks that a queue holds, by the rows of its tables, and the two lists after a call. Assumes nothing.
 use mathlib.Core.Path.{_≡_, refl, sym, ap, ap₂, _∙_}
-use mathlib.Core.Bool.{Bool, true, false, _||_}
+use mathlib.Core.Bool.{Bool, true, false, not, _||_}
 use mathlib.Core.List.{List, [], _∷_, _++_, map, map-append}
 use Prim.Native.Nat.{ℕ, _+_, _≤_}
 use native.Mathlib.Nat.{zero-add}
@@ -10,6 +10,7 @@ use lib.Dec.{ltb}
 use lib.ListN.{length, take, drop, length-append, length-map, length-drop}
 use lib.Seq.{sets, sets-eq, drop-drop, take-at}
 use Rattle.entry.specs.Entry.{entryOf}
+use Rattle.definition.specs.Base.{keep, member}
 use Rattle.definition.specs.Types.{queue, Entry, Dest}
 use Rattle.definition.specs.Calls.{seqs, taken, held}
 use Rattle.definition.specs.Words.{at, kindBy}
@@ -19,8 +20,8 @@ use Rattle.definition.proofs.Stored.{held-rows}
 use Rattle.state.specs.declared.Head.{Head}
 use Rattle.state.specs.State.{headView, firstWaiting, firstReserved}
 use Rattle.fates.specs.Fates.{holding}
-use Rattle.fates.specs.Blocks.{Block, blockAt, heldBlocks}
-use Rattle.report.specs.Report.{rowBlock, listsShort, listWith, allLeavers, HeldNumbers, AccountKept}
+use Rattle.fates.specs.Blocks.{Block, blockAt, heldBlocks, wentAs, isGone}
+use Rattle.report.specs.Report.{rowBlock, listsShort, listWith, leaversOf, allLeavers, HeldNumbers, AccountKept}
 use Rattle.report.proofs.Filling.{sets-append, rows-blocks, gathered-many}
 
 -- ---- as the code gathers them
@@ -94,6 +95,11 @@ numbers-are t =
     map-append (at 0) (map (blockAt 0) (t .pending)) (map (blockAt 2) (held t) ++ map (blockAt 1) (taken (t .subs)))
     ∙ ap₂ (λ (l m : List ℕ). l ++ m) (numbers-at 0 (t .pending)) (map-append (at 0) (map (blockAt 2) (held t)) (map (blockAt 1) (taken (t .subs))) ∙ ap₂ (λ (l m : List ℕ). l ++ m) (numbers-at 2 (held t)) (numbers-at 1 (taken (t .subs))))
     ∙ sym (map-append (λ e. e .seq) (t .pending) (held t ++ taken (t .subs)) ∙ ap (λ (m : List ℕ). seqs (t .pending) ++ m) (map-append (λ e. e .seq) (held t) (taken (t .subs))))
+
+-- those that leave, told from what a queue holds
+pub leavers-gone : (code : ℕ) (ws : List ℕ) (u : Dest) (bs : List Block) → leaversOf code ws (heldBlocks u) bs ≡ map (wentAs code ws) (keep (isGone u) bs)
+unfolding leaversOf
+leavers-gone code ws u bs = ap (λ (l : List ℕ). map (wentAs code ws) (keep (λ (b : Block). not (member (at 0 b) l)) bs)) (numbers-are u)
 
 -- ---- lists
 

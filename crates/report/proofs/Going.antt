@@ -1,22 +1,23 @@
 -- The blocks that leave, one after another. Assumes nothing.
 use mathlib.Core.Path.{_≡_, refl, sym, ap, ap₂, _∙_}
 use mathlib.Core.Bool.{Bool, true, false, not}
-use mathlib.Core.List.{List, [], _∷_, _++_, map, map-append}
-use Prim.Native.Nat.{ℕ, suc, _+_, _≤_, _<_}
+use mathlib.Core.List.{List, [], _∷_, _++_, append-nil, map, map-append}
+use Prim.Native.Nat.{ℕ, suc, _+_, _≤_, _<_, min}
 use native.Mathlib.Numerals.{add-one}
 use native.Mathlib.Omega.{arith}
-use borrow.Author.Tests.{eq-eqb, ne-eqb}
+use borrow.Author.Tests.{eq-eqb, ne-eqb, le-leb, lt-leb}
 use lib.Dec.{eqb}
-use lib.ListN.{length, getD, set, length-append}
-use lib.Seq.{sets, slice}
+use lib.ListN.{length, take, getD, set, length-append, length-take, take-append-drop}
+use lib.Seq.{sets, slice, take-take}
 use mir.Val.{boolByte}
 use Rattle.definition.specs.Base.{if_then_else_, keep, member}
 use Rattle.definition.specs.Words.{at}
 use Rattle.definition.proofs.Tests.{if-true, if-false}
 use Rattle.definition.proofs.Reorder.{keep-yes, keep-no, keep-append}
+use Rattle.consumers.proofs.Lists.{first-ended}
 use Rattle.subrows.proofs.Tests.{part-turn, part-end}
 use Rattle.fates.specs.Blocks.{Block, blockOf, wentAs, comes}
-use Rattle.report.specs.Report.{goneFrom, leaversOf, allLeavers}
+use Rattle.report.specs.Report.{goneFrom, leaversOf, leaversPut, allLeavers}
 use Rattle.report.proofs.Filling.{sets-append, mark-word}
 
 -- one put, of those that are left to put
@@ -86,3 +87,42 @@ module _ (code : ℕ) (ws : List ℕ) (now : List Block) where
           let z : k ≡ 0 + length (leaversOf code ws now bs) = omega (arith, p) in
           f ∙ ap₂ (λ (l : List Block) (j : ℕ). sets l j (leaversOf code ws now (comes code ws))) e z
           ∙ sym (ap (sets out 0) (leaves-both o) ∙ sets-append (leaversOf code ws now bs) (leaversOf code ws now (comes code ws)) out 0)
+
+-- ---- with a place for each, or without
+
+-- the first n are those that there are
+first-there : (n : ℕ) (l : List Block) → take (min n (length l)) l ≡ take n l
+first-there n l =
+    let m = min n (length l) in
+    sym (sym (take-append-drop m (take n l)) ∙ ap₂ (λ (x y : List Block). x ++ y) (take-take m n l (omega arith)) (first-ended m n l (omega arith)) ∙ append-nil (take m l))
+
+module _ (code : ℕ) (ws : List ℕ) (now bs : List Block) (start room : ℕ) where
+  pub without-room : room < start + length bs → leaversPut code ws now bs start room ≡ []
+  unfolding leaversPut
+  without-room h = if-false _ [] (lt-leb (start + length bs) room h)
+
+  pub with-room : start + length bs ≤ room → leaversPut code ws now bs start room ≡ leaversOf code ws now bs
+  unfolding leaversPut
+  with-room h = if-true _ [] (le-leb (start + length bs) room h)
+
+module _ (code : ℕ) (ws : List ℕ) (bs held left : List Block) (n m start : ℕ) where
+  abbrev put : List Block
+  put = leaversPut code ws (take m held) (take n bs) start (length left)
+
+  abbrev Placed : ℕ → List Block → Type 0
+  Placed r left′ = (r ≡ start + length put) × ((r ≤ start + n) × (left′ ≡ sets left start put))
+
+  pub none-placed : length left < start + min n (length bs) → Placed start left
+  none-placed h =
+      let e = without-room code ws (take m held) (take n bs) start (length left) (omega (arith, h, length-take n bs)) in
+      (omega (arith, ap length e), (omega arith, sym (ap (sets left start) e)))
+
+  module _ (to among : ℕ) (p : to ≡ min n (length bs)) (q : among ≡ min m (length held)) where
+    abbrev those : List Block
+    those = leaversOf code ws (take among held) (take to bs)
+
+    pub some-placed : start + to ≤ length left → (r : ℕ) (left′ : List Block) → r ≡ start + length those → r ≤ start + to → left′ ≡ sets left start those → Placed r left′
+    some-placed h r left′ c f l =
+        let e : those ≡ put = ap₂ (leaversOf code ws) (ap (λ (k : ℕ). take k held) q ∙ first-there m held) (ap (λ (k : ℕ). take k bs) p ∙ first-there n bs)
+        ∙ sym (with-room code ws (take m held) (take n bs) start (length left) (omega (arith, h, p, length-take n bs))) in
+        (c ∙ ap (λ (v : List Block). start + length v) e, (omega (arith, f, p), l ∙ ap (sets left start) e))

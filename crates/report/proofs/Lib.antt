@@ -5,4 +5,5 @@ pub mod Going
 pub mod Accounting
 pub mod Loaded
 pub mod Noting
+pub mod Holding
 pub mod Listing

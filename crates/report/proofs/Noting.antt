@@ -1,18 +1,17 @@
 -- A call with its account: what the code leaves is what the definition has. Assumes nothing.
 use mathlib.Core.Path.{_≡_, refl, sym, ap, ap₂, _∙_, subst⁻¹}
 use mathlib.Core.Bool.{Bool, true, false, not, _||_}
-use mathlib.Core.List.{List, [], _++_, map}
+use mathlib.Core.List.{List, [], _++_}
 use Prim.Native.Nat.{ℕ, _≤_}
 use native.Mathlib.Omega.{arith}
 use borrow.Author.Tests.{eq-eqb, ne-eqb}
 use lib.Dec.{eqb}
 use lib.ListN.{length, take}
-use Rattle.definition.specs.Base.{if_then_else_, keep, member}
+use Rattle.definition.specs.Base.{if_then_else_}
 use Rattle.definition.specs.Types.{Dest}
-use Rattle.definition.specs.Calls.{short, Result, refused, seqs}
+use Rattle.definition.specs.Calls.{short, Result, refused}
 use Rattle.definition.specs.Queries.{isQueue}
-use Rattle.definition.specs.Words.{at}
-use Rattle.definition.specs.Layout.{Row, Buffers, view, soundBuffers, lengthsOf, bufferStep}
+use Rattle.definition.specs.Layout.{Row, Buffers, view, lengthsOf, bufferStep}
 use Rattle.definition.proofs.Tests.{by-test, if-true, if-false}
 use Rattle.state.specs.declared.Head.{Head}
 use Rattle.state.specs.State.{headView, loaded}
@@ -21,12 +20,11 @@ use Rattle.calls.specs.declared.Call.{Call}
 use Rattle.engine.specs.Called.{outcome, Called}
 use Rattle.engine.proofs.Refusing.{step-short}
 use Rattle.engine.proofs.Called.{refused-called}
-use Rattle.fates.specs.Fates.{holding}
-use Rattle.fates.specs.Blocks.{Block, heldBlocks, accountOf, wentAs, comes, leftBlocks}
+use Rattle.fates.specs.Blocks.{Block, heldBlocks, accountOf, comes, leftBlocks}
 use Rattle.report.specs.declared.Noted.{Noted}
-use Rattle.report.specs.Report.{listsShort, notedStep, isAccepted, holdsNow, leavesNow, listWith, leaversOf, allLeavers, HeldNumbers, AccountKept, NotedCall}
-use Rattle.report.proofs.Accounting.{numbers-are, as-long, long-lists}
-use Rattle.report.proofs.Loaded.{kind-is, queue-numbers, holds-are}
+use Rattle.report.specs.Report.{listsShort, notedStep, isAccepted, holdsNow, leavesNow, listWith, countsFit, leaversOf, allLeavers, HeldNumbers, AccountKept, NotedCall}
+use Rattle.report.proofs.Accounting.{leavers-gone, as-long, long-lists}
+use Rattle.report.proofs.Loaded.{sound-counts, kind-is, queue-numbers, holds-are}
 
 abbrev noted : ℕ → ℕ → ℕ → ℕ → ℕ → Noted
 noted refusal answer events held left = record { refusal = refusal; answer = answer; events = events; held = held; left = left }
@@ -98,11 +96,11 @@ module _ (c : Call) (n : ℕ) (b : Buffers) (events : List Row) (held left : Lis
               events = f .events;
             }
 
-        is-sound : soundBuffers b′ ≡ true
-        is-sound = called .leaves-sound taken-on
+        counts : countsFit b′ ≡ true
+        counts = sound-counts b′ (called .leaves-sound taken-on)
 
         dest-kind : isQueue (q .dest .kind) ≡ d .queue
-        dest-kind = ap (λ (t : Dest). isQueue (t .kind)) (sym (called .shows)) ∙ kind-is b′ (length events) long is-sound d l
+        dest-kind = ap (λ (t : Dest). isQueue (t .kind)) (sym (called .shows)) ∙ kind-is b′ (length events) long counts d l
 
         -- a topic
         topic-holds : d .queue ≡ false → holdsNow q ≡ []
@@ -128,26 +126,25 @@ module _ (c : Call) (n : ℕ) (b : Buffers) (events : List Row) (held left : Lis
 
         -- a queue
         pub made-numbers : d .queue ≡ true → HeldNumbers d (b′ .subs) (b′ .rows)
-        made-numbers t = queue-numbers b′ (length events) long is-sound d l t
+        made-numbers t = queue-numbers b′ (length events) long counts d l t
 
         abbrev holds : List Block
         holds = heldBlocks (headView d (b′ .subs) (b′ .rows) [] [])
 
         holds-is : heldBlocks (q .dest) ≡ holds
-        holds-is = ap heldBlocks (sym (called .shows)) ∙ holds-are b′ (length events) long is-sound d l
+        holds-is = ap heldBlocks (sym (called .shows)) ∙ holds-are b′ (length events) long counts d l
 
         queue-holds : d .queue ≡ true → holdsNow q ≡ holds
         unfolding accountOf
         queue-holds t = if-true _ [] (dest-kind ∙ t) ∙ holds-is
 
-        numbers : seqs (holding (q .dest)) ≡ map (at 0) holds
-        numbers = sym (numbers-are (q .dest)) ∙ ap (map (at 0)) holds-is
-
         queue-leaves : d .queue ≡ true → leavesNow q c n held ≡ allLeavers (c .code) (c .words) holds (take n held)
-        unfolding leftBlocks allLeavers leaversOf
-        queue-leaves t = ap₂ (λ (x : Bool) (y : List ℕ). if x then [] else map (wentAs (c .code) (c .words)) (keep (λ (w : Block). not (member (at 0 w) y)) (take n held ++ comes (c .code) (c .words))))
+        unfolding leftBlocks allLeavers
+        queue-leaves t =
+            let bs = take n held ++ comes (c .code) (c .words) in
+            ap₂ (λ (x : Bool) (l : List Block). if x then [] else l)
             (ap (λ (x : Bool). eqb (c .code) 0 || not x) (dest-kind ∙ t) ∙ or-false (eqb (c .code) 0))
-            numbers
+            (sym (leavers-gone (c .code) (c .words) (q .dest) bs) ∙ ap (λ (l : List Block). leaversOf (c .code) (c .words) l bs) holds-is)
 
         pub queue-noted : d .queue ≡ true → (held′ left′ : List Block) (h g : ℕ) → AccountKept d (b′ .subs) (b′ .rows) (c .code) (c .words) n held held′ left left′ h g → NotedCall q c n b b′ events events′ held held′ left left′ (noted k a e h g)
         queue-noted t held′ left′ h g r =

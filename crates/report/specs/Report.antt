@@ -1,15 +1,15 @@
 -- A call with the account of a queue's blocks beside it, in two lent lists: those that the queue holds, and those that leave in the call. Assumes nothing.
 use Prim.Native.Nat.{ℕ, _+_, _≤_}
 use mathlib.Core.Path.{_≡_}
-use mathlib.Core.Bool.{Bool, true, not, _||_}
+use mathlib.Core.Bool.{Bool, true, not, _&&_, _||_}
 use mathlib.Core.List.{List, [], _++_, map}
-use lib.Dec.{ltb, eqb}
+use lib.Dec.{leb, ltb, eqb}
 use lib.ListN.{length, take, drop}
 use Rattle.entry.specs.Entry.{entryOf}
 use Rattle.definition.specs.Base.{if_then_else_, keep, member}
 use Rattle.definition.specs.Calls.{stateShort, Result, refused}
 use Rattle.definition.specs.Words.{at}
-use Rattle.definition.specs.Layout.{Row, Buffers, subRows, view, lengthsOf, soundBuffers, bufferStep}
+use Rattle.definition.specs.Layout.{Row, Buffers, subRows, usedRows, view, lengthsOf, soundBuffers, bufferStep}
 use Rattle.state.specs.declared.Head.{Head}
 use Rattle.state.specs.State.{headView}
 use Rattle.calls.specs.declared.Call.{Call}
@@ -73,21 +73,44 @@ asHeld b room = let r = heldRefusal b room in record { refusal = r; count = if e
 unfoldable pub heldList : Buffers → List Block → List Block
 heldList b bs = if eqb (heldRefusal b (length bs)) 0 then listWith (accountOf (view b)) bs else bs
 
+-- ---- the same of whatever words: the whole test of soundness is not made
+
+-- two of the tests of `formed`: the consumers in use and the rows in use are within the tables
+unfoldable pub countsFit : Buffers → Bool
+countsFit b = leb (at 12 (b .head)) 32 && leb (usedRows b) 512
+
+-- none where a list has under 512 places, a buffer is short, or the counts do not fit
+unfoldable pub blocksIn : Buffers → ℕ → List Block
+blocksIn b room =
+    if ltb room 512 || stateShort (lengthsOf b 0) then []
+    else if countsFit b then accountOf (view b)
+    else []
+
+-- ---- what leaves, of any two lists
+
+-- its number is none of the blocks'
+abbrev pub goneFrom : List Block → Block → Bool
+goneFrom now b = not (member (at 0 b) (map (at 0) now))
+
+-- those that leave, of a list, each with the place where it went
+unfoldable pub leaversOf : ℕ → List ℕ → List Block → List Block → List Block
+leaversOf code ws now bs = map (wentAs code ws) (keep (goneFrom now) bs)
+
+-- a list of so many places has one for each block, from place start on
+abbrev pub leaversRoom : List Block → ℕ → ℕ → Bool
+leaversRoom bs start room = leb (start + length bs) room
+
+-- what is put into such a list: without that room, nothing
+unfoldable pub leaversPut : ℕ → List ℕ → List Block → List Block → ℕ → ℕ → List Block
+leaversPut code ws now bs start room = if leaversRoom bs start room then leaversOf code ws now bs else []
+
 -- ---- as the code goes
 
 -- the block of a row
 abbrev pub rowBlock : ℕ → Row → Block
 rowBlock place w = blockAt place (entryOf w)
 
--- its number is none of the blocks'
-abbrev pub goneFrom : List Block → Block → Bool
-goneFrom now b = not (member (at 0 b) (map (at 0) now))
-
--- those that leave, of a list
-unfoldable pub leaversOf : ℕ → List ℕ → List Block → List Block → List Block
-leaversOf code ws now bs = map (wentAs code ws) (keep (goneFrom now) bs)
-
--- and of the one that the call brought; none in an open
+-- those that leave, of a list and of the one that the call brought; none in an open
 unfoldable pub allLeavers : ℕ → List ℕ → List Block → List Block → List Block
 allLeavers code ws now bs = if eqb code 0 then [] else leaversOf code ws now (bs ++ comes code ws)
 

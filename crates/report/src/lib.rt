@@ -14,7 +14,7 @@ ghost use Rattle.definition.specs.Words.{at};
 ghost use Rattle.definition.specs.Layout.{flag, subsAt, subRows, lent};
 ghost use Rattle.state.specs.State.{headView};
 ghost use Rattle.fates.specs.Blocks.{blockAt, heldBlocks, ackedAs, leavesAs, wentAs, comes};
-ghost use Rattle.report.specs.Report.{isAtPlace, listsShort, notedStep, NotedCall, asHeld, heldList, rowBlock, leaversOf, allLeavers, HeldNumbers, AccountKept};
+ghost use Rattle.report.specs.Report.{isAtPlace, listsShort, notedStep, NotedCall, listWith, asHeld, heldList, blocksIn, rowBlock, leaversOf, leaversPut, allLeavers, HeldNumbers, AccountKept};
 use calls::Call;
 use consumers::BROWSER;
 use consumers::INFLIGHT;
@@ -215,7 +215,8 @@ fn find(blocks: &[Block], n: usize, seq: u64, hint: usize) -> usize
     n
 }
 
-// Of the first n blocks those whose number is none of the first m that are held now, into left; how many. A block that stays is nearly always the next one.
+// Of the first n blocks those whose number is none of the first m that are held now, into left from place start; the place after them. A block that stays is
+// nearly always the next one.
 fn leave(
     blocks: &[Block],
     n: usize,
@@ -224,16 +225,17 @@ fn leave(
     code: u64,
     words: [u64; 8],
     left: &mut [Block],
+    start: usize,
 ) -> usize
     requires { do ⌜ n ≤ (← ⟦blocks.len()⟧) ⌝ }
     requires { do ⌜ m ≤ (← ⟦held.len()⟧) ⌝ }
-    requires { do ⌜ n ≤ (← ⟦left.len()⟧) ⌝ }
-    ensures { λ r. ⌜ r ≡ length (leaversOf code words (take m (now (held .entry))) (take n (now (blocks .entry)))) ⌝ }
-    ensures { λ r. ⌜ r ≤ n ⌝ }
-    ensures { λ _. ⌜ now (left .exit) ≡ sets (now (left .entry)) 0 (leaversOf code words (take m (now (held .entry))) (take n (now (blocks .entry)))) ⌝ }
+    requires { do ⌜ start + n ≤ (← ⟦left.len()⟧) ⌝ }
+    ensures { λ r. ⌜ r ≡ start + length (leaversOf code words (take m (now (held .entry))) (take n (now (blocks .entry)))) ⌝ }
+    ensures { λ r. ⌜ r ≤ start + n ⌝ }
+    ensures { λ _. ⌜ now (left .exit) ≡ sets (now (left .entry)) start (leaversOf code words (take m (now (held .entry))) (take n (now (blocks .entry)))) ⌝ }
 {
     let mut hint = 0;
-    let mut k = 0;
+    let mut k = start;
     let mut i = 0;
     while i < n {
         let b = blocks[i];
@@ -298,7 +300,7 @@ fn leave_all(
     if code == Call::OPEN {
         return 0;
     }
-    let k = leave(blocks, n, held, m, code, words, left);
+    let k = leave(blocks, n, held, m, code, words, left, 0);
     leave_new(held, m, code, words, left, k)
 }
 
@@ -436,15 +438,61 @@ pub fn held(head: &[u64], subs: &[SubRow], rows: &[Row], list: &mut [Block]) -> 
             count: 0,
         };
     }
-    let d = state::load(head, subs);
-    if !d.queue {
-        return Listed {
-            refusal: 0,
-            count: 0,
-        };
-    }
-    let count = gather_all(d, subs, rows, list);
+    let count = blocks_in(head, subs, rows, list);
     Listed { refusal: 0, count }
+}
+
+// The same of whatever words, for a host that knows them for a state: the whole test of soundness is not made, only that the counts are within the tables, as
+// those of each sound state are. How many blocks are put first in the list; none where the list has under 512 places, a buffer is short, or the counts do not fit.
+pub fn blocks_in(head: &[u64], subs: &[SubRow], rows: &[Row], list: &mut [Block]) -> usize
+    ensures { λ r. ⌜ r ≡ length (blocksIn (lent (now (head .entry)) (now (subs .entry)) (now (rows .entry))) (length (now (list .entry)))) ⌝ }
+    ensures { λ r. ⌜ r ≤ 512 ⌝ }
+    ensures { λ _. ⌜ now (list .exit) ≡ listWith (blocksIn (lent (now (head .entry)) (now (subs .entry)) (now (rows .entry))) (length (now (list .entry)))) (now (list .entry)) ⌝ }
+{
+    if list.len() < HELD_MOST {
+        return 0;
+    }
+    if !sound::whole(head, subs, rows) {
+        return 0;
+    }
+    let d = state::load(head, subs);
+    if state::CONSUMERS < d.consumers {
+        return 0;
+    }
+    if state::ROWS < d.used {
+        return 0;
+    }
+    if !d.queue {
+        return 0;
+    }
+    gather_all(d, subs, rows, list)
+}
+
+// Of the first n blocks those whose number is none of the first m of held, each with the place where it goes in a call of this code and these words, into left
+// from place start; the place after them. Where left has no place for each of the n from there on, nothing is put.
+pub fn leavers(
+    blocks: &[Block],
+    n: usize,
+    held: &[Block],
+    m: usize,
+    code: u64,
+    words: [u64; 8],
+    left: &mut [Block],
+    start: usize,
+) -> usize
+    ensures { λ r. ⌜ r ≡ start + length (leaversPut code words (take m (now (held .entry))) (take n (now (blocks .entry))) start (length (now (left .entry)))) ⌝ }
+    ensures { λ r. ⌜ r ≤ start + n ⌝ }
+    ensures { λ _. ⌜ now (left .exit) ≡ sets (now (left .entry)) start (leaversPut code words (take m (now (held .entry))) (take n (now (blocks .entry))) start (length (now (left .entry)))) ⌝ }
+{
+    let end = consumers::end_of(n, blocks.len());
+    let among = consumers::end_of(m, held.len());
+    if left.len() < end {
+        return start;
+    }
+    if left.len() - end < start {
+        return start;
+    }
+    leave(blocks, end, held, among, code, words, left, start)
 }
 
 // How many of the first n blocks are at a place.

@@ -1,7 +1,7 @@
 -- What a report keeps along the calls of a file are the books of the account. Assumes nothing.
 use Prim.Native.Nat.{ℕ, _+_}
 use native.Mathlib.Omega.{arith}
-use mathlib.Core.Path.{_≡_, refl, sym, ap, ap₂, _∙_, subst}
+use mathlib.Core.Path.{_≡_, refl, sym, ap, ap₂, _∙_, subst, subst⁻¹}
 use mathlib.Core.Bool.{Bool, true, false, not, _&&_, _||_, and-true, and-false, or-true}
 use mathlib.Core.List.{List, [], _∷_, _++_, map, map-append, append-assoc, append-nil}
 use borrow.Author.Tests.{eqb-false}
@@ -19,18 +19,18 @@ use Rattle.definition.proofs.Thin.{tally-append}
 use Rattle.definition.proofs.Refusals.{step-refuses}
 use Rattle.fates.specs.Blocks.{Block, accountOf, leftBlocks}
 use Rattle.fates.specs.Books.{Books, booked, booksNext, along}
-use Rattle.fates.proofs.Books.{along-append, from-the-open}
+use Rattle.fates.proofs.Books.{from-the-open}
 use Rattle.calls.specs.declared.Call.{Call}
 use Rattle.callfile.specs.Blocks.{callsIn}
 use Rattle.callfile.specs.Cutting.{cutBlocks, Did, silent, alongBlocks}
 use Rattle.report.specs.Report.{isAtPlace, holdsNow, leavesNow}
 use Rattle.reportlines.specs.declared.Gone.{Gone}
 use Rattle.reportlines.specs.ReportLines.{noneGone, moreAt, oneGone, allGone, goneAfter}
-use Rattle.running.specs.Running.{LentState, accepted, stepOn, Run, blockCalls, eachCall, eachOfBlock}
+use Rattle.running.specs.Running.{LentState, accepted, stepOn, Run, Doing, blockCalls, eachCall, eachOfBlock}
 use Rattle.running.specs.Files.{RunState, afterRun, workBlock, runLengths, zeroState}
 use Rattle.reporting.specs.Reporting.{Noting, noted, reportCall}
 use Rattle.reporting.specs.ReportFiles.{zeroNoting}
-use Rattle.reporting.specs.ReportBooks.{lentCall, upTo, goneTo, Keeps, zeroBooks, readCalls, keptAtEnd, CallsKeepBooks, FileKeepsBooks, FileKeepsAccount}
+use Rattle.reporting.specs.ReportBooks.{lentCall, upTo, goneTo, Keeps, zeroBooks, readCalls, fileCalls, keptAtEnd, CallsKeepBooks, FileKeepsBooks, FileKeepsAccount}
 
 -- ---- counts
 
@@ -57,7 +57,7 @@ none-more g = refl
 none-gone : noneGone ≡ goneTo []
 none-gone = refl
 
-counted : (anew : Bool) (bs l : List Block) (g : Gone) → g ≡ goneTo l → goneAfter anew bs g ≡ goneTo ((if anew then [] else l) ++ bs)
+pub counted : (anew : Bool) (bs l : List Block) (g : Gone) → g ≡ goneTo l → goneAfter anew bs g ≡ goneTo ((if anew then [] else l) ++ bs)
 counted true bs l g e = ap (allGone bs) none-gone ∙ all-gone bs []
 counted false bs l g e = ap (allGone bs) e ∙ all-gone bs l
 
@@ -113,30 +113,12 @@ module _ (c : Call) (s : Noting) (b : Books) (h : s .lent .formed ≡ true) (k :
 
 -- ---- calls, one after another
 
-each-formed : (calls : List Call) (index : ℕ) (s : Noting) (b : Books) → s .lent .formed ≡ true → Keeps s b → eachCall (reportCall runLengths) calls index s .lent .lent .formed ≡ true
-unfolding eachCall reportCall
-each-formed [] index s b h k = h
-each-formed (c ∷ cs) index s b h k = each-formed cs (more index) (noted c (stepOn runLengths c (s .lent)) s) (booksNext (lentCall c) b) (next-formed c s b h k) (next-keeps c s b h k)
-
-each-goes : (calls : List Call) (index : ℕ) (s : Noting) → eachCall (reportCall runLengths) calls index s .goesOn ≡ true
-unfolding eachCall reportCall
-each-goes [] index s = refl
-each-goes (c ∷ cs) index s = each-goes cs (more index) (noted c (stepOn runLengths c (s .lent)) s)
-
 pub calls-keep-books : CallsKeepBooks
 unfolding eachCall reportCall
 calls-keep-books [] index s b h k = k
 calls-keep-books (c ∷ cs) index s b h k = calls-keep-books cs (more index) (noted c (stepOn runLengths c (s .lent)) s) (booksNext (lentCall c) b) (next-formed c s b h k) (next-keeps c s b h k)
 
--- ---- blocks
-
--- what is left after a block that did this, and the blocks after it
-abbrev after : List (List ℕ) → ℕ → Run Noting → Noting
-after bs number y = (if y .goesOn then alongBlocks (workBlock (reportCall runLengths)) bs (more number) (afterRun y) else silent false (afterRun y)) .state .lent
-
-one-after : (x : List ℕ) (bs : List (List ℕ)) (number : ℕ) (s : RunState Noting) → alongBlocks (workBlock (reportCall runLengths)) (x ∷ bs) number s .state .lent ≡ after bs number (eachOfBlock (reportCall runLengths) x (s .index) number (s .lent))
-unfolding alongBlocks workBlock
-one-after x bs number s = refl
+-- ---- blocks, of any program: they are the calls of the file
 
 calls-bad : (x : List ℕ) (bs : List (List ℕ)) → eqb (callsIn x (length x)) 0 ≡ true → readCalls (x ∷ bs) ≡ []
 unfolding readCalls
@@ -146,19 +128,39 @@ calls-good : (x : List ℕ) (bs : List (List ℕ)) → eqb (callsIn x (length x)
 unfolding readCalls
 calls-good x bs e = if-false _ _ e
 
-blocks-keep : (bs : List (List ℕ)) (number : ℕ) (s : RunState Noting) (b : Books) → s .lent .lent .formed ≡ true → Keeps (s .lent) b
-    → Keeps (alongBlocks (workBlock (reportCall runLengths)) bs number s .state .lent) (along (map lentCall (readCalls bs)) b)
-unfolding alongBlocks readCalls eachOfBlock
-blocks-keep [] number s b h k = k
-blocks-keep (x ∷ bs) number s b h k = by-test (eqb (callsIn x (length x)) 0)
-    (λ e. subst (λ (m : Noting). Keeps m (along (map lentCall (readCalls (x ∷ bs))) b)) (sym (one-after x bs number s ∙ ap (after bs number) (if-true _ _ e)))
-    (subst (λ (l : List Call). Keeps (s .lent) (along (map lentCall l) b)) (sym (calls-bad x bs e)) k))
-    (λ e. let cs = blockCalls 0 (callsIn x (length x)) x in
-    let q = eachCall (reportCall runLengths) cs (s .index) (s .lent) in
-    subst (λ (m : Noting). Keeps m (along (map lentCall (readCalls (x ∷ bs))) b)) (sym (one-after x bs number s ∙ ap (after bs number) (if-false _ _ e) ∙ ap (λ (d : Did (RunState Noting)). d .state .lent) (if-true _ _ (each-goes cs (s .index) (s .lent)))))
-    (subst (λ (y : Books). Keeps (alongBlocks (workBlock (reportCall runLengths)) bs (more number) (afterRun q) .state .lent) y)
-    (sym (ap (λ (l : List Call). along (map lentCall l) b) (calls-good x bs e) ∙ ap (λ (l : List Lent). along l b) (map-append lentCall cs (readCalls bs)) ∙ along-append (map lentCall cs) (map lentCall (readCalls bs)) b))
-    (blocks-keep bs (more number) (afterRun q) (along (map lentCall cs) b) (each-formed cs (s .index) (s .lent) b h k) (calls-keep-books cs (s .index) (s .lent) b h k))))
+module _ {S : Type 0} (one : Doing S) where
+  abbrev lentAfter : List Call → ℕ → S → S
+  lentAfter calls index s = eachCall one calls index s .lent
+
+  each-goes : (calls : List Call) (index : ℕ) (s : S) → eachCall one calls index s .goesOn ≡ true
+  unfolding eachCall
+  each-goes [] index s = refl
+  each-goes (c ∷ cs) index s = each-goes cs (more index) (one index c s .lent)
+
+  pub each-joined : (l m : List Call) (index : ℕ) (s : S) → lentAfter (l ++ m) index s ≡ lentAfter m (eachCall one l index s .index) (lentAfter l index s)
+  unfolding eachCall
+  each-joined [] m index s = refl
+  each-joined (c ∷ l) m index s = each-joined l m (more index) (one index c s .lent)
+
+  -- what is left after a block that did this, and the blocks after it
+  abbrev after : List (List ℕ) → ℕ → Run S → S
+  after bs number y = (if y .goesOn then alongBlocks (workBlock one) bs (more number) (afterRun y) else silent false (afterRun y)) .state .lent
+
+  one-after : (x : List ℕ) (bs : List (List ℕ)) (number : ℕ) (s : RunState S) → alongBlocks (workBlock one) (x ∷ bs) number s .state .lent ≡ after bs number (eachOfBlock one x (s .index) number (s .lent))
+  unfolding alongBlocks workBlock
+  one-after x bs number s = refl
+
+  pub blocks-are-calls : (bs : List (List ℕ)) (number : ℕ) (s : RunState S) → alongBlocks (workBlock one) bs number s .state .lent ≡ lentAfter (readCalls bs) (s .index) (s .lent)
+  unfolding alongBlocks readCalls eachOfBlock eachCall
+  blocks-are-calls [] number s = refl
+  blocks-are-calls (x ∷ bs) number s = by-test (eqb (callsIn x (length x)) 0)
+      (λ e. one-after x bs number s ∙ ap (after bs number) (if-true _ _ e) ∙ ap (λ (l : List Call). lentAfter l (s .index) (s .lent)) (sym (calls-bad x bs e)))
+      (λ e. let cs = blockCalls 0 (callsIn x (length x)) x in
+      let q = eachCall one cs (s .index) (s .lent) in
+      one-after x bs number s ∙ ap (after bs number) (if-false _ _ e) ∙ ap (λ (d : Did (RunState S)). d .state .lent) (if-true _ _ (each-goes cs (s .index) (s .lent)))
+      ∙ blocks-are-calls bs (more number) (afterRun q) ∙ sym (each-joined cs (readCalls bs) (s .index) (s .lent)) ∙ ap (λ (l : List Call). lentAfter l (s .index) (s .lent)) (sym (calls-good x bs e)))
+
+-- ---- a file
 
 zero-keeps : Keeps zeroNoting zeroBooks
 unfolding zeroNoting zeroState
@@ -169,7 +171,8 @@ unfolding zeroNoting zeroState
 zero-formed = refl
 
 pub file-keeps-books : FileKeepsBooks
-file-keeps-books bytes = blocks-keep (cutBlocks bytes) 0 (record { index = 0; lent = zeroNoting }) zeroBooks zero-formed zero-keeps
+file-keeps-books bytes = subst⁻¹ (λ (m : Noting). Keeps m (along (map lentCall (fileCalls bytes)) zeroBooks)) (blocks-are-calls (reportCall runLengths) (cutBlocks bytes) 0 (record { index = 0; lent = zeroNoting }))
+    (calls-keep-books (fileCalls bytes) 0 zeroNoting zeroBooks zero-formed zero-keeps)
 
 pub file-keeps-account : FileKeepsAccount
 file-keeps-account bytes before after c e z h q f =

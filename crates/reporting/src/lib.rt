@@ -56,7 +56,7 @@ pub struct Heard {
 // ---- a call
 
 // How many of the first n blocks are held in each way.
-fn ways(held: &[Block], n: usize) -> Ways
+pub fn ways(held: &[Block], n: usize) -> Ways
     ensures { λ r. ⌜ r ≡ waysOf (take n (now (held .entry))) ⌝ }
 {
     let waiting = report::total(held, n, report::WAITING) as u64;

@@ -91,7 +91,7 @@ brought-length refusal code ws queue =
     (λ _. by-if (λ (t : List ℕ). length t ≤ 128) (eqb code 2) _ _ (λ _. join-length ws)
     (λ _. by-if (λ (t : List ℕ). length t ≤ 128) (eqb code 1 && queue) _ _ (λ _. enqueue-length ws) (λ _. omega arith)))
 
-name-length : (place : ℕ) → length (placeName place) ≤ 14
+pub name-length : (place : ℕ) → length (placeName place) ≤ 14
 unfolding placeName
 name-length place =
     by-if (λ (t : List ℕ). length t ≤ 14) (eqb place 0) _ _ (λ _. omega arith)
@@ -106,7 +106,7 @@ pub cleared-name : (place : ℕ) → (place ≡ 0 → ⊥) → (place ≡ 1 → 
 unfolding placeName
 cleared-name place a b c d e f g = rw (ne-eqb place 0 a, ne-eqb place 1 b, ne-eqb place 2 c, ne-eqb place 3 d, ne-eqb place 4 e, ne-eqb place 5 f, ne-eqb place 6 g)
 
-block-length : (b : Block) → length (blockLine b) ≤ 64
+pub block-length : (b : Block) → length (blockLine b) ≤ 64
 unfolding blockLine
 block-length b = simp length-append (omega (arith, word-length (at 0 b), name-length (at 1 b), word-length (at 2 b)))
 

@@ -168,6 +168,19 @@ fn put_place(out: &mut [u8], at: usize, place: u64) -> usize
     }
 }
 
+// A place's name.
+pub fn put_name(out: &mut [u8], at: usize, place: u64) -> usize
+    ensures { λ r. ⌜ PutLine 14 (placeName place) at (now (out .entry)) r (now (out .exit)) ⌝ }
+{
+    if out.len() < 14 {
+        return at;
+    }
+    if out.len() - 14 < at {
+        return at;
+    }
+    put_place(out, at, place)
+}
+
 // A block's line: its sequence number, its place, and whether it is persistent.
 fn block_line(out: &mut [u8], at: usize, b: [u64; 3]) -> usize
     requires { ⌜ at + 192 ≤ length (now out) ⌝ }

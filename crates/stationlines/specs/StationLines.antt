@@ -23,10 +23,14 @@ plainWords ws = (at 0 ws % 256) ∷ drop 1 ws
 unfoldable pub sentWordsLine : List ℕ → List ℕ
 sentWordsLine ws = if ltb (at 0 ws) 2048 then numberedLine (at 0 ws / 256) (wordsLine (plainWords ws)) else []
 
--- those of events, one after another
-unfoldable pub sentRowsText : List Row → List ℕ
-sentRowsText [] = []
-sentRowsText (w ∷ ws) = sentWordsLine w ++ sentRowsText ws
+-- a row's line for each, one after another
+unfoldable pub rowLines : (List ℕ → List ℕ) → List (List ℕ) → List ℕ
+rowLines line [] = []
+rowLines line (r ∷ rs) = line r ++ rowLines line rs
+
+-- those of events
+abbrev pub sentRowsText : List Row → List ℕ
+sentRowsText ws = rowLines sentWordsLine ws
 
 -- `=` D enqueued dequeued expired discarded dispatched
 abbrev pub countedLine : ℕ → Stats → List ℕ

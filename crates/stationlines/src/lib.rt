@@ -2,6 +2,7 @@
 ghost use mathlib.Core.Path.{_≡_};
 ghost use mathlib.Core.List.{[], _∷_};
 ghost use Prim.Native.Nat.{_+_, _*_, _≤_, _<_};
+ghost use lib.Dec.{leb};
 ghost use lib.ListN.{length, take};
 ghost use Rattle.words.specs.Words.{signed};
 ghost use Rattle.callfile.specs.Lines.{field, signedField, idFields, eventLine, letterAt, messageAt, nullAt};
@@ -110,6 +111,44 @@ pub fn put_sent(out: &mut [u8], at: usize, e: [u64; 6]) -> usize
         3 => null_line(out, at, d, e),
         _ => at,
     }
+}
+
+// ---- lines of rows
+
+// Whether there is room for n lines, and for a longest one besides.
+pub fn rows_fit(len: usize, at: usize, n: usize) -> bool
+    ensures { λ r. ⌜ r ≡ leb (at + (128 + 128 * n)) len ⌝ }
+{
+    if len < callfile::LINE {
+        return false;
+    }
+    callfile::lines_fit(len - callfile::LINE, at, n)
+}
+
+fn each_sent(out: &mut [u8], from: usize, events: &[[u64; 6]], n: usize) -> usize
+    requires { ⌜ from + (128 + 128 * n) ≤ length (now out) ⌝ }
+    ensures { λ r. ⌜ Puts (sentRowsText (take n (now (events .entry)))) from (now (out .entry)) r (now (out .exit)) × (r ≤ from + (128 + 128 * n)) ⌝ }
+{
+    let mut at = from;
+    let mut i = 0;
+    while i < n {
+        if events.len() <= i {
+            return at;
+        }
+        at = put_sent(out, at, events[i]);
+        i += 1;
+    }
+    at
+}
+
+// The lines of the first n events.
+pub fn put_all_sent(out: &mut [u8], from: usize, events: &[[u64; 6]], n: usize) -> usize
+    ensures { λ r. ⌜ PutLine (128 + 128 * n) (sentRowsText (take n (now (events .entry)))) from (now (out .entry)) r (now (out .exit)) ⌝ }
+{
+    if !rows_fit(out.len(), from, n) {
+        return from;
+    }
+    each_sent(out, from, events, n)
 }
 
 // ---- the last lines

@@ -1,5 +1,6 @@
 -- A step of a call file taken a call at a time, of any program. Assumes nothing.
 use Prim.Native.Nat.{ℕ, _+_, _*_, _-_, _≤_, _<_}
+use native.Mathlib.Nat.{add-zero}
 use native.Mathlib.Omega.{arith}
 use mathlib.Core.Path.{_≡_, refl, sym, ap, ap₂, _∙_, subst⁻¹}
 use mathlib.Core.Bool.{Bool, true, false, _&&_, _||_, true≢false}
@@ -9,21 +10,26 @@ use lib.Dec.{eqb, ltb, leb}
 use lib.ListN.{length, take, drop, length-take, length-drop, drop-of-length-le}
 use lib.Seq.{length-take-le, take-all}
 use Rattle.definition.specs.Base.{if_then_else_}
-use Rattle.definition.proofs.Tests.{by-if, if-true, if-false, and-left, and-right}
+use Rattle.definition.proofs.Tests.{by-if, by-test, if-true, if-false, and-left, and-right}
 use Rattle.stats.specs.Counted.{more}
+use Rattle.calls.specs.declared.Call.{Call}
 use Rattle.callfile.specs.declared.Reading.{Reading}
 use Rattle.callfile.specs.declared.Took.{Took}
 use Rattle.callfile.specs.Blocks.{callsIn, callAt}
 use Rattle.callfile.specs.Cutting.{Stage, lacked, Filled}
 use Rattle.callfile.specs.Lines.{badLine}
+use Rattle.callfile.specs.Placed.{Puts, PutLine}
 use Rattle.callfile.proofs.Checks.{calls-few}
+use Rattle.callfile.proofs.Digits.{bad-length}
+use Rattle.callfile.proofs.Parts.{line-puts}
+use Rattle.callfile.proofs.Texts.{first-next, first-text}
 use Rattle.running.specs.Running.{Turned, Doing}
 use Rattle.running.specs.Files.{RunState, tookAs, blockAs, unreadAs, begunAs}
-use Rattle.running.proofs.Steps.{had, now-length, bytes-so}
+use Rattle.running.proofs.Steps.{had, now-length, bytes-so, few}
 use Rattle.running.proofs.Steps as Old
 use Rattle.stationrun.specs.declared.StationReading.{StationReading}
 use Rattle.stationrun.specs.declared.StationTook.{StationTook}
-use Rattle.stationrun.specs.CallSteps.{CallStep, noCall, didCall, blockHas, callDone, blockOver, nextCall, stepFile, stepRoomy, stepDue, withRun, readingAfter, endedAs, wholeAt, TookCall}
+use Rattle.stationrun.specs.CallSteps.{CallStep, noCall, didCall, blockHas, callDone, blockOver, nextCall, stepFile, stepRoomy, stepDue, withRun, nextBlock, readingAfter, endedAs, wholeAt, TookCall, CallStepped, CallTakes, TakesCallStep}
 
 -- ---- the tests
 
@@ -71,7 +77,11 @@ module _ (goes : Bool) (have from len : ℕ) where
   pub by-bytes : goes ≡ true → (have ≡ 512 → ⊥) → ltb from len ≡ (goes && (eqb have 512 || ltb from len))
   by-bytes e h = rw (e, ne-eqb have 512 h)
 
--- ---- the reading after a call, and after a bad block
+-- ---- the reading at the next block, after a call, and after a bad block
+
+pub next-so : (at : StationReading) (index : ℕ) (on : Bool) {number : ℕ} → number ≡ more (at .reading .number)
+    → _≡_ {A = StationReading} (record { reading = record { have = 0; number = number; index = index; «goes_on» = on }; run = 0 }) (nextBlock at index on)
+next-so at index on e = λ j. record { reading = record { have = 0; number = e j; index = index; «goes_on» = on }; run = 0 }
 
 module _ (at : StationReading) (count : ℕ) {index : ℕ} (e : index ≡ more (at .reading .index)) where
   pub same-after : at .run + 1 < count → _≡_ {A = StationReading} (record { reading = record { have = 512; number = at .reading .number; index = index; «goes_on» = true }; run = at .run + 1 }) (readingAfter at count)
@@ -79,14 +89,80 @@ module _ (at : StationReading) (count : ℕ) {index : ℕ} (e : index ≡ more (
       (λ j. record { reading = record { have = 512; number = at .reading .number; index = e j; «goes_on» = true }; run = at .run + 1 })
       ∙ sym (if-true _ _ (lt-ltb (at .run + 1) count h))
 
-  pub next-after : {number : ℕ} → number ≡ more (at .reading .number) → count ≤ at .run + 1 → _≡_ {A = StationReading} (record { reading = record { have = 0; number = number; index = index; «goes_on» = true }; run = 0 }) (readingAfter at count)
-  next-after f h =
-      (λ j. record { reading = record { have = 0; number = f j; index = e j; «goes_on» = true }; run = 0 })
-      ∙ sym (if-false _ _ (le-ltb (at .run + 1) count h))
+  pub next-after : {r : StationReading} → r ≡ nextBlock at index true → count ≤ at .run + 1 → r ≡ readingAfter at count
+  next-after f h = f ∙ ap (λ (i : ℕ). nextBlock at i true) e ∙ sym (if-false _ _ (le-ltb (at .run + 1) count h))
 
-pub ended-so : (at : StationReading) (from written : ℕ) {number : ℕ} → number ≡ more (at .reading .number)
-    → _≡_ {A = StationTook} (record { reading = record { reading = record { have = 0; number = number; index = at .reading .index; «goes_on» = false }; run = 0 }; next = from; written = written }) (endedAs at from written)
-ended-so at from written e = λ j. record { reading = record { reading = record { have = 0; number = e j; index = at .reading .index; «goes_on» = false }; run = 0 }; next = from; written = written }
+pub ended-so : (at : StationReading) (from written : ℕ) {x : StationReading} → x ≡ nextBlock at (at .reading .index) false → _≡_ {A = StationTook} (record { reading = x; next = from; written = written }) (endedAs at from written)
+ended-so at from written e = λ j. record { reading = e j; next = from; written = written }
+
+-- ---- a call of a block that is whole
+
+module _ {S : Type 0} (one : Doing S) (at : StationReading) (from : ℕ) (block : List ℕ) (s : S) (out : List ℕ) (count : ℕ) (counted : count ≡ callsIn block (length block)) (Keeps : Bool → Type 0) where
+  abbrev whole : Stage (RunState S)
+  whole = wholeAt at block s
+
+  abbrev q : CallStep S
+  q = nextCall one (at .run) whole
+
+  -- there is none
+  none-so : count ≤ at .run → q ≡ noCall (badLine (at .reading .number)) 0 (blockOver false whole) 0
+  unfolding nextCall
+  none-so h = if-true _ _ (le-leb (callsIn block (length block)) (at .run) (omega (arith, counted)))
+
+  pub none-there : count ≤ at .run → 128 ≤ length out → {n : ℕ} {out′ : List ℕ} → PutLine 128 (badLine (at .reading .number)) 0 out n out′ → {r : StationTook} → r ≡ endedAs at from n → Keeps false → CallStepped S q true at from s Keeps out out′ r
+  none-there h room {n} {out′} l {r} e k =
+      let put = line-puts (omega (arith, room)) (bad-length (at .reading .number)) l in
+      subst⁻¹ (λ (x : CallStep S). CallStepped S x true at from s Keeps out out′ r) (none-so h) (record {
+        took = record {
+          answer = e ∙ (λ j. record { reading = endedAs at from n .reading; next = sym (add-zero from) j; written = first-next put j });
+          text = first-text put (omega (arith, room, bad-length (at .reading .number)));
+        };
+        shows = refl;
+        left = k;
+      })
+
+  -- there is one
+  module _ (there : at .run < count) (fits : length block ≡ 512) (x : Call) (named : x ≡ callAt (at .run) block) (t : Turned S) (does : one (at .reading .index) x s ≡ t) where
+    turned : one (at .reading .index) (callAt (at .run) block) s ≡ t
+    turned = ap (λ (y : Call). one (at .reading .index) y s) (sym named) ∙ does
+
+    goes-so : ltb (at .run + 1) count ≡ true → q ≡ didCall t (callDone t whole) (at .run + 1)
+    unfolding nextCall
+    goes-so e =
+        if-false _ _ (lt-leb (callsIn block (length block)) (at .run) (omega (arith, counted)))
+        ∙ if-true _ _ (ap (ltb (at .run + 1)) (sym counted) ∙ e)
+        ∙ ap (λ (y : Turned S). didCall y (callDone y whole) (at .run + 1)) turned
+
+    over-so : ltb (at .run + 1) count ≡ false → q ≡ didCall t (blockOver true (callDone t whole)) 0
+    unfolding nextCall
+    over-so e =
+        if-false _ _ (lt-leb (callsIn block (length block)) (at .run) (omega (arith, counted)))
+        ∙ if-false _ _ (ap (ltb (at .run + 1)) (sym counted) ∙ e)
+        ∙ ap (λ (y : Turned S). didCall y (blockOver true (callDone y whole)) 0) turned
+
+    pub call-done : {n : ℕ} {out′ : List ℕ} → Puts (t .text) 0 out n out′ → length (t .text) ≤ length out → {reading : StationReading} → reading ≡ readingAfter at count → Keeps (t .changed)
+        → CallStepped S q true at from (t .lent) Keeps out out′ (record { reading = reading; next = from; written = n })
+    call-done {n} {out′} puts room {reading} e k = by-test (ltb (at .run + 1) count)
+        (λ y. subst⁻¹ (λ (z : CallStep S). CallStepped S z true at from (t .lent) Keeps out out′ (record { reading = reading; next = from; written = n })) (goes-so y) (record {
+          took = record {
+            answer = λ j. record {
+              reading = (e ∙ if-true _ _ y ∙ (λ i. record { reading = record { have = sym fits i; number = at .reading .number; index = more (at .reading .index); «goes_on» = true }; run = at .run + 1 })) j;
+              next = sym (add-zero from) j;
+              written = first-next puts j;
+            };
+            text = first-text puts room;
+          };
+          shows = refl;
+          left = k;
+        }))
+        (λ y. subst⁻¹ (λ (z : CallStep S). CallStepped S z true at from (t .lent) Keeps out out′ (record { reading = reading; next = from; written = n })) (over-so y) (record {
+          took = record {
+            answer = λ j. record { reading = (e ∙ if-false _ _ y) j; next = sym (add-zero from) j; written = first-next puts j };
+            text = first-text puts room;
+          };
+          shows = refl;
+          left = k;
+        }))
 
 -- ---- a step
 
@@ -104,24 +180,23 @@ module _ {S : Type 0} (one : Doing S) (at : StationReading) (piece : List ℕ) (
   abbrev p : Bool → CallStep S
   p goes = stepFile one rest (at .run) (g goes)
 
-  -- what a step gives: whether a call was accepted, and what is left
-  pub record Steps (goes changed : Bool) (s′ : S) (block′ out′ : List ℕ) (r : StationTook) : Type 0 where
-    pub took : TookCall S (p goes) goes at from out out′ r
-    pub bytes : block′ ≡ blockAs goes have rest block
-    pub leaves : p goes .taken .stage .state .lent ≡ s′
-    pub changes : p goes .changed ≡ changed
+  -- what a step gives
+  abbrev Gives : Bool → S → (Bool → Type 0) → List ℕ → List ℕ → StationTook → Type 0
+  Gives goes s′ Keeps block′ out′ r = CallTakes S (p goes) goes at rest from s′ Keeps block block′ out out′ r
 
-  pub not-read : (goes : Bool) → goes ≡ false → {t : Took} {r : StationTook} → t ≡ unreadAs (at .reading) from (length piece) → r ≡ withRun t (at .run) → Steps goes false s block out r
+  none-read : (goes : Bool) → goes ≡ false → {t : Took} {r : StationTook} → t ≡ unreadAs (at .reading) from (length piece) → r ≡ withRun t (at .run) → (Keeps : Bool → Type 0) → Keeps false → Gives goes s Keeps block out r
   unfolding stepFile unreadAs
-  not-read true e q w = absurd (true≢false e)
-  not-read false e q w = record {
-    took = record {
-      answer = w ∙ ap (λ (t : Took). withRun t (at .run)) (q ∙ (λ j. record { reading = record { have = have; number = at .reading .number; index = at .reading .index; «goes_on» = false }; next = from + sym (length-drop from piece) j; written = 0 }));
-      text = refl;
+  none-read true e q w Keeps k = absurd (true≢false e)
+  none-read false e q w Keeps k = record {
+    stepped = record {
+      took = record {
+        answer = w ∙ ap (λ (t : Took). withRun t (at .run)) (q ∙ (λ j. record { reading = record { have = have; number = at .reading .number; index = at .reading .index; «goes_on» = false }; next = from + sym (length-drop from piece) j; written = 0 }));
+        text = refl;
+      };
+      shows = refl;
+      left = k;
     };
     bytes = refl;
-    leaves = refl;
-    changes = refl;
   }
 
   module _ (fits : length block ≡ 512) where
@@ -134,24 +209,26 @@ module _ {S : Type 0} (one : Doing S) (at : StationReading) (piece : List ℕ) (
       unfolding stepFile
       fills = if-true _ _ (lt-ltb (length (take have block)) 512 (omega (arith, had one (at .reading) piece from s block out fits unfilled n block′ f)))
 
-      pub fill-read : (goes : Bool) → goes ≡ true → {t : Took} {r : StationTook} → t ≡ begunAs (at .reading) (have + n) (from + n) → r ≡ withRun t 0 → Steps goes false s block′ out r
-      fill-read false e q w = absurd (true≢false (sym e))
-      fill-read true e {t} {r} q w = record {
-        took = subst⁻¹ (λ (x : CallStep S). TookCall S x true at from out out r) fills (record {
-          answer = w ∙ ap (λ (x : Took). withRun x 0) (q ∙ (λ j. record {
-            reading = record { have = sym (now-length one (at .reading) piece from s block out fits unfilled n block′ f) j; number = at .reading .number; index = at .reading .index; «goes_on» = true };
-            next = from + Old.took one (at .reading) piece from s block out fits unfilled n block′ f j;
-            written = 0;
-          }));
-          text = refl;
+      bytes-read : (goes : Bool) → goes ≡ true → {t : Took} {r : StationTook} → t ≡ begunAs (at .reading) (have + n) (from + n) → r ≡ withRun t 0 → (Keeps : Bool → Type 0) → Keeps false → Gives goes s Keeps block′ out r
+      bytes-read false e q w Keeps k = absurd (true≢false (sym e))
+      bytes-read true e {t} {r} q w Keeps k = record {
+        stepped = subst⁻¹ (λ (x : CallStep S). CallStepped S x true at from s Keeps out out r) fills (record {
+          took = record {
+            answer = w ∙ ap (λ (x : Took). withRun x 0) (q ∙ (λ j. record {
+              reading = record { have = sym (now-length one (at .reading) piece from s block out fits unfilled n block′ f) j; number = at .reading .number; index = at .reading .index; «goes_on» = true };
+              next = from + Old.took one (at .reading) piece from s block out fits unfilled n block′ f j;
+              written = 0;
+            }));
+            text = refl;
+          };
+          shows = refl;
+          left = k;
         });
         bytes = bytes-so one (at .reading) piece from s block out fits unfilled n block′ f;
-        leaves = ap (λ (x : CallStep S). x .taken .stage .state .lent) fills;
-        changes = ap (λ (x : CallStep S). x .changed) fills;
       }
 
     -- a call of one that is
-    module _ (whole : 512 ≤ have) where
+    module _ (full : 512 ≤ have) where
       all-bytes : take have block ≡ block
       all-bytes = take-all have block (omega arith)
 
@@ -168,15 +245,39 @@ module _ {S : Type 0} (one : Doing S) (at : StationReading) (piece : List ℕ) (
       same-block =
           sym (ap₂ (λ (x y : List ℕ). x ++ y) all-bytes (ap (λ (x : List ℕ). x ++ drop (have + length x) block) none-lacked ∙ drop-of-length-le block {i = have + 0} (omega arith)) ∙ append-nil block)
 
-      pub call-read : (goes : Bool) → goes ≡ true → {out′ : List ℕ} {r : StationTook} → TookCall S (nextCall one (at .run) (wholeAt at block s)) true at from out out′ r
-          → Steps goes (nextCall one (at .run) (wholeAt at block s) .changed) (nextCall one (at .run) (wholeAt at block s) .taken .stage .state .lent) block out′ r
-      call-read false e t = absurd (true≢false (sym e))
-      call-read true e {out′} {r} t = record {
-        took = subst⁻¹ (λ (x : CallStep S). TookCall S x true at from out out′ r) calls t;
+      next-read : (goes : Bool) → goes ≡ true → {s′ : S} {Keeps : Bool → Type 0} {out′ : List ℕ} {r : StationTook} → CallStepped S (nextCall one (at .run) (wholeAt at block s)) true at from s′ Keeps out out′ r → Gives goes s′ Keeps block out′ r
+      next-read false e t = absurd (true≢false (sym e))
+      next-read true e {s′} {Keeps} {out′} {r} t = record {
+        stepped = subst⁻¹ (λ (x : CallStep S). CallStepped S x true at from s′ Keeps out out′ r) calls t;
         bytes = same-block;
-        leaves = ap (λ (x : CallStep S). x .taken .stage .state .lent) calls;
-        changes = ap (λ (x : CallStep S). x .changed) calls;
       }
+
+-- no more bytes than are left
+pub within-piece : (have from : ℕ) (piece block : List ℕ) {n : ℕ} {block′ : List ℕ} → Filled have (drop from piece) block n block′ → n ≤ length piece - from
+within-piece have from piece block f = omega (arith, f .count, length-take (length block - have) (drop from piece), length-drop from piece)
+
+-- by what the tests say
+module _ {S : Type 0} (one : Doing S) (most : ℕ) (at : StationReading) (piece : List ℕ) (from : ℕ) (s : S) (block out : List ℕ) where
+  abbrev goes : Bool
+  goes = stepRoomy most (at .reading) block out && at .reading .«goes_on»
+
+  pub not-read : goes ≡ false → {t : Took} {r : StationTook} → t ≡ unreadAs (at .reading) from (length piece) → r ≡ withRun t (at .run) → (Keeps : Bool → Type 0) → Keeps false → TakesCallStep one most at piece from s s Keeps block block out out r
+  not-read e = none-read one at piece from s block out goes e
+
+  module _ (e : goes ≡ true) where
+    fits : length block ≡ 512
+    fits = fits-block most (at .reading) block out e
+
+    pub few-read : at .reading .have < 512 → {n : ℕ} {block′ : List ℕ} → Filled (at .reading .have) (drop from piece) block n block′ → at .reading .have + n ≤ 512
+    few-read h {n} {block′} f = few one (at .reading) piece from s block out fits h n block′ f
+
+    pub fill-read : at .reading .have < 512 → {n : ℕ} {block′ : List ℕ} → Filled (at .reading .have) (drop from piece) block n block′
+        → {t : Took} {r : StationTook} → t ≡ begunAs (at .reading) (at .reading .have + n) (from + n) → r ≡ withRun t 0 → (Keeps : Bool → Type 0) → Keeps false → TakesCallStep one most at piece from s s Keeps block block′ out out r
+    fill-read h {n} {block′} f = bytes-read one at piece from s block out fits h n block′ f goes e
+
+    pub call-read : 512 ≤ at .reading .have → {s′ : S} {Keeps : Bool → Type 0} {out′ : List ℕ} {r : StationTook} → CallStepped S (nextCall one (at .run) (wholeAt at block s)) true at from s′ Keeps out out′ r
+        → TakesCallStep one most at piece from s s′ Keeps block block out out′ r
+    call-read h t = next-read one at piece from s block out fits h goes e t
 
 -- ---- steps come to an end
 
@@ -264,7 +365,13 @@ module _ {S : Type 0} (one : Doing S) (at : StationReading) (piece : List ℕ) (
   unfolding stepFile
   not-falls = ends-here false (p one at piece from s block block false) refl
 
-  -- a step that is due goes on
-  pub moves-on : (goes : Bool) → (goes ≡ true → length block ≡ 512) → (goes ≡ true → at .reading .have ≤ 512) → {out out′ : List ℕ} {r : StationTook} → TookCall S (p one at piece from s block block goes) goes at from out out′ r → ahead (r .reading) (length piece - r .next) < ahead at (length piece - from)
-  moves-on false f h {r = r} t = subst⁻¹ (λ (x : StationTook). ahead (x .reading) (length piece - x .next) < ahead at (length piece - from)) (t .answer) not-falls
-  moves-on true f h {r = r} t = subst⁻¹ (λ (x : StationTook). ahead (x .reading) (length piece - x .next) < ahead at (length piece - from)) (t .answer) (step-falls (f refl) (h refl))
+  falls : (goes : Bool) → (goes ≡ true → length block ≡ 512) → (goes ≡ true → at .reading .have ≤ 512) → {out out′ : List ℕ} {r : StationTook} → TookCall S (p one at piece from s block block goes) goes at from out out′ r
+      → ahead (r .reading) (length piece - r .next) < ahead at (length piece - from)
+  falls false f h {r = r} t = subst⁻¹ (λ (x : StationTook). ahead (x .reading) (length piece - x .next) < ahead at (length piece - from)) (t .answer) not-falls
+  falls true f h {r = r} t = subst⁻¹ (λ (x : StationTook). ahead (x .reading) (length piece - x .next) < ahead at (length piece - from)) (t .answer) (step-falls (f refl) (h refl))
+
+-- a step that is due goes on
+pub moves-on : {S : Type 0} (one : Doing S) (most : ℕ) (piece : List ℕ) (s : S) {at : StationReading} {from : ℕ} {s′ : S} {Keeps : Bool → Type 0} {block block′ out out′ : List ℕ} {r : StationTook}
+    → TakesCallStep one most at piece from s s′ Keeps block block′ out out′ r → stepDue at from (length piece) ≡ true → ahead (r .reading) (length piece - r .next) < ahead at (length piece - from)
+moves-on one most piece s {at} {from} {block = block} {out = out} t due =
+    falls one at piece from s block due (goes one most at piece from s block out) (fits-block most (at .reading) block out) (fits-bytes most (at .reading) block out) (t .stepped .took)

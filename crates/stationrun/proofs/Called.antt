@@ -30,9 +30,9 @@ use Rattle.callfile.specs.Lines.{callLine}
 use Rattle.callfile.specs.Placed.{Puts, PutLine}
 use Rattle.callfile.proofs.Parts.{then, line-puts}
 use Rattle.callfile.proofs.Texts.{call-length}
-use Rattle.stationlines.specs.StationLines.{sentRowsText}
+use Rattle.stationlines.specs.StationLines.{sentWordsLine, sentRowsText}
+use Rattle.stationlines.proofs.Rows.{sent-length, rows-length, rows-few}
 use Rattle.stationrun.specs.StationRuns.{LentStation, stationBy, fileCode, filePlace, stationOn, fileCall, takenBy, fitsAfter, ownWordsAfter, leftStation, stationLines, outcomeFrom, StationKeeps, FileCalled}
-use Rattle.stationrun.proofs.Texts.{rows-length}
 
 abbrev eight : List ℕ
 eight = upFrom 0 8
@@ -203,14 +203,11 @@ module _ (c : Call) (b b′ : StationBuffers) (events events′ : List Row) (o :
 
 pub text-length : (index : ℕ) (q : StationResult) → length (q .events) ≤ 4872 → length (stationLines index q) ≤ 623744
 unfolding stationLines
-text-length index q few = simp length-append (omega (arith, few, call-length index (q .refusal) (q .answer), rows-length (map sentWords (q .events)), length-map (q .events) sentWords))
+text-length index q few = simp length-append (omega (arith, few, call-length index (q .refusal) (q .answer), rows-length sentWordsLine sent-length (map sentWords (q .events)), length-map (q .events) sentWords))
 
 module _ {q : StationResult} {c : Call} {b b′ : StationBuffers} {events events′ : List Row} (f : FileCalled q c b b′ events events′) (o : Outcome) (told : o ≡ outcomeFrom q) where
   rows-are : events′ ≡ map sentWords (q .events) ++ drop (length (q .events)) events
   rows-are = ap (λ (s : LentStation). s .events) (f .shows)
-
-  pub all-there : o .events ≤ length events′
-  all-there = omega (arith, ap (λ (x : Outcome). x .events) told, ap length rows-are ∙ length-append (map sentWords (q .events)) (drop (length (q .events)) events), length-map (q .events) sentWords)
 
   first-rows : take (o .events) events′ ≡ map sentWords (q .events)
   first-rows =
@@ -221,9 +218,10 @@ module _ {q : StationResult} {c : Call} {b b′ : StationBuffers} {events events
     first-line : Puts (callLine index (o .refusal) (o .answer)) at out next out₁
     first-line = line-puts (omega (arith, room)) (call-length index (o .refusal) (o .answer)) line
 
-    pub room-left : next + 128 * o .events + 128 ≤ length out₁
+    room-left : next + (128 + 128 * o .events) ≤ length out₁
     room-left = omega (arith, room, f .few, ap (λ (x : Outcome). x .events) told, first-line .next, first-line .same, call-length index (o .refusal) (o .answer))
 
-    pub printed : {m : ℕ} {out₂ : List ℕ} → Puts (sentRowsText (take (o .events) events′)) next out₁ m out₂ → Puts (stationLines index q) at out m out₂
+    pub printed : {m : ℕ} {out₂ : List ℕ} → PutLine (128 + 128 * o .events) (sentRowsText (take (o .events) events′)) next out₁ m out₂ → Puts (stationLines index q) at out m out₂
     unfolding stationLines
-    printed {m} {out₂} p = subst (λ (x : List ℕ). Puts x at out m out₂) (λ j. callLine index (told j .refusal) (told j .answer) ++ sentRowsText (first-rows j)) ((then) first-line p)
+    printed {m} {out₂} p = subst (λ (x : List ℕ). Puts x at out m out₂) (λ j. callLine index (told j .refusal) (told j .answer) ++ sentRowsText (first-rows j))
+        ((then) first-line (line-puts room-left (omega (arith, rows-few sentWordsLine sent-length (o .events) events′)) p))

@@ -6,7 +6,7 @@ use mathlib.Core.Path.{_≡_, refl, sym, ap, ap₂, _∙_, subst, subst⁻¹}
 use mathlib.Core.Bool.{Bool, true, false, not, _&&_, _||_}
 use mathlib.Core.List.{List, [], _∷_, _++_, map}
 use mathlib.Core.Option.{Option, none, some}
-use borrow.Author.Tests.{ne-eqb, leb-true, ltb-true, le-leb, lt-leb}
+use borrow.Author.Tests.{ne-eqb, leb-true, ltb-true, le-leb, lt-leb, not-true}
 use lib.Dec.{leb, ltb}
 use lib.ListN.{length, take, drop, length-append}
 use Rattle.definition.specs.Base.{if_then_else_, all, every, member, upFrom}
@@ -15,7 +15,7 @@ use Rattle.definition.specs.Calls.{stateShort, seqs, allRows, entryOk, signedWi
 use Rattle.definition.specs.Words.{at}
 use Rattle.definition.specs.Queries.{bytesOf, bytesHeld, bytes, query, queryRefusal, Asked}
 use Rattle.definition.specs.Layout.{Row, Buffers, flag, statsAt, view, formed, soundBuffers, lengthsOf, bufferQuery, lent}
-use Rattle.definition.proofs.Tests.{by-if, if-true, if-false, and-left, and-right}
+use Rattle.definition.proofs.Tests.{by-if, by-test, if-true, if-false, and-left, and-right}
 use Rattle.definition.proofs.Thin.{every-all}
 use Rattle.definition.proofs.Sums.{bad, sum-ok}
 use Rattle.definition.proofs.Sound as Def
@@ -39,7 +39,7 @@ use Rattle.stationcalls.specs.Own.{ownWordsOk, partOk}
 use Rattle.stationcalls.proofs.Placed.{at-part}
 use Rattle.stationcalls.proofs.Tested.{sound-is}
 use Rattle.stationrun.specs.StationRuns.{LentStation, stationBy}
-use Rattle.stationrun.specs.StationFiles.{slotLine, countedLines, slotBytes, slotsBytes, stationBytes, stationTail, lastStation}
+use Rattle.stationrun.specs.StationFiles.{slotLine, countedLines, slotBytes, slotsBytes, heldBytes, stationTail, lastStation}
 
 -- ---- how long
 
@@ -62,7 +62,7 @@ opened {n} e = rw (ne-eqb n 0 e)
 pub longs : (b : StationBuffers) (events : List Row) → stationShort (stationLengthsOf b (length events)) ≡ false → Within 0 (b .heads) (b .subs) (b .rows) × (20 ≤ length (b .own))
 longs b events e = (record { is-place = omega arith; heads-long = heads-long b (length events) e; subs-long = subs-long b (length events) e; rows-long = rows-long b (length events) e }, own-long b (length events) e)
 
-pub places : (b : StationBuffers) (events : List Row) → stationShort (stationLengthsOf b (length events)) ≡ false → soundStation b ≡ true → (k : ℕ) → k < 8 → Within k (b .heads) (b .subs) (b .rows) × (20 ≤ length (b .own)) × (soundStation b ≡ true)
+places : (b : StationBuffers) (events : List Row) → stationShort (stationLengthsOf b (length events)) ≡ false → soundStation b ≡ true → (k : ℕ) → k < 8 → Within k (b .heads) (b .subs) (b .rows) × (20 ≤ length (b .own)) × (soundStation b ≡ true)
 places b events e y k h = (record { is-place = h; heads-long = heads-long b (length events) e; subs-long = subs-long b (length events) e; rows-long = rows-long b (length events) e }, own-long b (length events) e, y)
 
 -- ---- a place
@@ -139,20 +139,32 @@ module _ (k : ℕ) (heads : List ℕ) (subs rows : List Row) (own : List ℕ) wh
 
 -- ---- all bytes
 
-module _ (b : StationBuffers) (events : List Row) (long : stationShort (stationLengthsOf b (length events)) ≡ false) where
-  sound-so : {t : Bool} → t ≡ (not (stationShort (stationLengthsOf b (length events))) && soundStation b) → t ≡ soundStation b
-  sound-so e = e ∙ ap (λ (x : Bool). not x && soundStation b) long
+module _ (b : StationBuffers) (events : List Row) where
+  abbrev short : Bool
+  short = stationShort (stationLengthsOf b (length events))
 
-  pub tested-sound : {t : Bool} → t ≡ (not (stationShort (stationLengthsOf b (length events))) && soundStation b) → t ≡ true → soundStation b ≡ true
-  tested-sound e h = sym (sound-so e) ∙ h
+  module _ {t : Bool} (e : t ≡ (not short && soundStation b)) where
+    -- the buffers are long enough, and hold a sound station
+    module _ (h : t ≡ true) where
+      long : short ≡ false
+      long = not-true short (and-left (not short) (soundStation b) (sym e ∙ h))
 
-  pub no-bytes : {t : Bool} → t ≡ (not (stationShort (stationLengthsOf b (length events))) && soundStation b) → t ≡ false → 0 ≡ stationBytes (stationBy b events)
-  unfolding soundStation stationFormed
-  no-bytes e h = sym (if-false _ _ (sym (sound-so e) ∙ h))
+      sound-so : soundStation b ≡ true
+      sound-so = and-right (not short) (soundStation b) (sym e ∙ h)
 
-  pub all-bytes : soundStation b ≡ true → {n : ℕ} → n ≡ slotsBytes (map (slotAt b) (upFrom 0 8)) → n ≡ stationBytes (stationBy b events)
-  unfolding soundStation stationFormed stationView
-  all-bytes y e = e ∙ sym (if-true _ _ y)
+      pub tested : (k : ℕ) → k < 8 → Within k (b .heads) (b .subs) (b .rows) × (20 ≤ length (b .own)) × (soundStation b ≡ true)
+      tested k m = places b events long sound-so k m
+
+      pub all-bytes : {n : ℕ} → n ≡ slotsBytes (map (slotAt b) (upFrom 0 8)) → n ≡ heldBytes (stationLengthsOf b (length events)) (stationBy b events)
+      unfolding soundStation stationFormed stationView
+      all-bytes f = f ∙ sym (if-false _ _ long ∙ if-true _ _ sound-so)
+
+    -- or not
+    pub no-bytes : t ≡ false → 0 ≡ heldBytes (stationLengthsOf b (length events)) (stationBy b events)
+    unfolding soundStation stationFormed
+    no-bytes h = by-test short
+        (λ y. sym (if-true _ _ y))
+        (λ y. sym (if-false _ _ y ∙ if-false _ _ (sym (ap (λ (x : Bool). not x && soundStation b) y) ∙ sym e ∙ h)))
 
 -- ---- the last lines
 
@@ -175,11 +187,11 @@ module _ (b : StationBuffers) (events : List Row) (at : Reading) (failed : Bool)
     counts-room = omega (arith, room, first .next, first .same, rest-length at failed)
 
     pub last-put : stationShort l ≡ false → {to : ℕ} {out₂ : List ℕ} → Puts (countedLines 0 (stationView b .slots)) from out₁ to out₂ × (to ≤ from + 1024)
-        → (n : ℕ) → n ≡ stationBytes (stationBy b events)
+        → (n : ℕ) → n ≡ heldBytes l (stationBy b events)
         → {r : ℕ} {out₃ : List ℕ} → PutLine 256 (stationLine (stationView b .next) (stationView b .lost) 0 n) to out₂ r out₃ → PutLine 1408 (lastStation l at failed (stationBy b events)) 0 out r out₃
     unfolding lastStation stationTail
     last-put e {to} {out₂} c n same {r} {out₃} s =
         let own-line : Puts (stationLine (stationView b .next) (stationView b .lost) 0 n) to out₂ r out₃ = line-puts (omega (arith, room, first .next, first .same, rest-length at failed, c .0 .same, c .1)) (omega (arith, station-length (stationView b .next) (stationView b .lost) 0 n)) s in
         subst⁻¹ (λ (t : List ℕ). PutLine 1408 t 0 out r out₃) (if-false [] (restLine at failed ++ stationTail (stationBy b events)) e)
-        (subst (λ (m : ℕ). PutLine 1408 (restLine at failed ++ (countedLines 0 (stationView b .slots) ++ stationLine (stationView b .next) (stationView b .lost) 0 m)) 0 out r out₃) same
+        (subst (λ (m : ℕ). PutLine 1408 (restLine at failed ++ (countedLines 0 (stationView b .slots) ++ stationLine (stationView b .next) (stationView b .lost) 0 m)) 0 out r out₃) (same ∙ if-false _ _ e)
         (whole-line (le-leb (0 + 1408) (length out) (omega (arith, room))) ((then) first ((then) (c .0) own-line), omega (arith, first .next, rest-length at failed, c .1, own-line .next, station-length (stationView b .next) (stationView b .lost) 0 n))))

@@ -17,7 +17,7 @@ use Rattle.callfile.specs.Blocks.{numberAt, wordAt, checkFrom, good, callsIn, c
 use Rattle.callfile.specs.Cases.{bytes, words, checkedBlock}
 use Rattle.callfile.specs.Cutting.{cutAtMost, cutBlocks, alongBlocks}
 use Rattle.callfile.specs.Lines.{digits, decimal, callLine, eventLine, eventAt, eventLineOf, badLine, countersLine}
-use Rattle.stationlines.specs.StationLines.{numberedLine, sentWordsLine, sentRowsText, stationLine}
+use Rattle.stationlines.specs.StationLines.{numberedLine, sentWordsLine, rowLines, stationLine}
 use Rattle.running.specs.Running.{blockCalls, eachCall, eachOfBlock}
 use Rattle.running.specs.Files.{workBlock}
 use Rattle.stationrun.specs.StationRuns.{startOn, stationOn, fileCall, stationLines, stationCall}
@@ -75,7 +75,7 @@ refusing-ten : List ℕ
 refusing-ten = 48 ∷ 32 ∷ 49 ∷ 48 ∷ 32 ∷ 48 ∷ 10 ∷ []
 
 cases : List Bool
-unfolding consumerOpen destinationOpen callsOpen wordsOpen layoutOpen lettersOpen stationOpen numberAt wordAt checkFrom good callsIn callAt digits decimal callLine eventLine eventAt eventLineOf badLine countersLine numberedLine sentWordsLine sentRowsText stationLine bytes words checkedBlock blockCalls eachCall eachOfBlock workBlock startOn stationOn fileCall stationLines stationCall countedLines stationTail zeroStation stationFile cutAtMost cutBlocks alongBlocks rejecting rejected-text arrived bad-block nothing-yet lone refusing refusing-ten
+unfolding consumerOpen destinationOpen callsOpen wordsOpen layoutOpen lettersOpen stationOpen numberAt wordAt checkFrom good callsIn callAt digits decimal callLine eventLine eventAt eventLineOf badLine countersLine numberedLine sentWordsLine rowLines stationLine bytes words checkedBlock blockCalls eachCall eachOfBlock workBlock startOn stationOn fileCall stationLines stationCall countedLines stationTail zeroStation stationFile cutAtMost cutBlocks alongBlocks rejecting rejected-text arrived bad-block nothing-yet lone refusing refusing-ten
 cases =
     -- no bytes; and a dead letter that arrives
     sameNumbers (stationFile []) nothing-yet

@@ -1,10 +1,10 @@
 -- What a whole run of a station's call file prints, from the file's bytes; and what the library's functions do along the pieces of one. Assumes nothing.
-use Prim.Native.Nat.{ℕ, suc, _+_, _≤_, _<_}
+use Prim.Native.Nat.{ℕ, suc, _+_}
 use mathlib.Core.Path.{_≡_}
 use mathlib.Core.Bool.{Bool, true, false, _&&_}
 use mathlib.Core.List.{List, [], _∷_, _++_}
 use mathlib.Core.Option.{Option, none, some}
-use lib.ListN.{length, take, drop, replicate}
+use lib.ListN.{length, replicate}
 use Rattle.definition.specs.Base.{if_then_else_, every}
 use Rattle.definition.specs.Layout.{Row}
 use Rattle.definition.specs.Queries.{bytesHeld}
@@ -15,10 +15,10 @@ use Rattle.callfile.specs.declared.Reading.{Reading}
 use Rattle.callfile.specs.Placed.{PutLine}
 use Rattle.callfile.specs.Cutting.{cutBlocks, alongBlocks, inARow}
 use Rattle.stationlines.specs.StationLines.{countedLine, stationLine}
-use Rattle.running.specs.Files.{workBlock, stageAt, heeding, blockAs, restLine}
+use Rattle.running.specs.Files.{workBlock, restLine}
 use Rattle.stationrun.specs.declared.StationReading.{StationReading}
 use Rattle.stationrun.specs.declared.StationTook.{StationTook}
-use Rattle.stationrun.specs.CallSteps.{CallStep, stepFile, stepRoomy, TookCall}
+use Rattle.stationrun.specs.CallSteps.{CallStep, CallStepped, TakesCallStep, noneRead, WritesCalls}
 use Rattle.stationrun.specs.StationRuns.{LentStation, stationBy, stationCall, StationKeeps}
 
 -- ---- a whole file
@@ -46,6 +46,10 @@ slotsBytes (o ∷ l) = slotBytes o + slotsBytes l
 abbrev pub stationBytes : LentStation → ℕ
 stationBytes s = if every (s .fits) && stationSound (s .station) then slotsBytes (s .station .slots) else 0
 
+-- of lent buffers; 0 where they are short
+abbrev pub heldBytes : StationLengths → LentStation → ℕ
+heldBytes l s = if stationShort l then 0 else stationBytes s
+
 -- the last lines: the counters, then the station's own line, whose flag is 0 until limits come (document 02 §14)
 unfoldable pub stationTail : LentStation → List ℕ
 stationTail s = countedLines 0 (s .station .slots) ++ stationLine (s .station .next) (s .station .lost) 0 (stationBytes s)
@@ -70,21 +74,13 @@ stationFile bytes = let d = alongBlocks (workBlock (stationCall stationRunLength
 -- ---- a step
 
 -- what a step p leaves: the answer, the text, the state and the event list
-pub record StationStepped (p : CallStep LentStation) (goes : Bool) (at : StationReading) (from : ℕ) (b b′ : StationBuffers) (events events′ : List Row) (out out′ : List ℕ) (r : StationTook) : Type 0 where
-  pub took : TookCall LentStation p goes at from out out′ r
-  pub shows : stationBy b′ events′ ≡ p .taken .stage .state .lent
-  pub left : StationKeeps (p .changed) b b′ events events′
+abbrev pub StationStepped : CallStep LentStation → Bool → StationReading → ℕ → StationBuffers → StationBuffers → List Row → List Row → List ℕ → List ℕ → StationTook → Type 0
+StationStepped p goes at from b b′ events events′ out out′ r = CallStepped LentStation p goes at from (stationBy b′ events′) (λ changed. StationKeeps changed b b′ events events′) out out′ r
 
--- and the block
-pub record StationTakes (p : CallStep LentStation) (goes : Bool) (at : StationReading) (rest : List ℕ) (from : ℕ) (b b′ : StationBuffers) (events events′ : List Row) (block block′ out out′ : List ℕ) (r : StationTook) : Type 0 where
-  pub stepped : StationStepped p goes at from b b′ events events′ out out′ r
-  pub bytes : block′ ≡ blockAs goes (at .reading .have) rest block
-
--- on what is left of a piece from place `from` on
+-- and the block, on what is left of a piece from place `from` on
 abbrev pub StationTakesStep : StationReading → List ℕ → ℕ → StationBuffers → StationBuffers → List Row → List Row → List ℕ → List ℕ → List ℕ → List ℕ → StationTook → Type 0
 StationTakesStep at piece from b b′ events events′ block block′ out out′ r =
-    let g = heeding (stepRoomy 623872 (at .reading) block out) (stageAt (at .reading) block (stationBy b events)) in
-    StationTakes (stepFile (stationCall (stationLengthsOf b (length events))) (drop from piece) (at .run) g) (g .goesOn) at (drop from piece) from b b′ events events′ block block′ out out′ r
+    TakesCallStep (stationCall (stationLengthsOf b (length events))) 623872 at piece from (stationBy b events) (stationBy b′ events′) (λ changed. StationKeeps changed b b′ events events′) block block′ out out′ r
 
 -- ---- the end
 
@@ -104,29 +100,23 @@ pub record StationMidway : Type 0 where
 -- before the first
 unfoldable pub atOnset : StationMidway
 atOnset = record {
-  at = record { reading = record { have = 0; number = 0; index = 0; «goes_on» = true }; run = 0 };
+  at = noneRead;
   lent = record { heads = replicate 66776 0; subs = replicate 256 (replicate 16 0); rows = replicate 4096 (replicate 10 0); own = replicate 20 0 };
   events = replicate 4872 (replicate 6 0);
   block = replicate 512 0;
 }
 
--- `run_station_end` then
+-- `run_station_step`
+abbrev pub StationSteps : StationMidway → StationMidway → List ℕ → ℕ → List ℕ → List ℕ → StationTook → Type 0
+StationSteps m m′ piece from out out′ r = StationTakesStep (m .at) piece from (m .lent) (m′ .lent) (m .events) (m′ .events) (m .block) (m′ .block) out out′ r
+
+-- `run_station_end`, where no read has failed
 abbrev pub StationEnds : StationMidway → List ℕ → ℕ → List ℕ → Type 0
 StationEnds m out r out′ = PutLine 1408 (lastStation (stationLengthsOf (m .lent) (length (m .events))) (m .at .reading) false (stationBy (m .lent) (m .events))) 0 out r out′
 
--- the bytes that the library has written at last, along what is left of a piece and the pieces after it: `run_station_step` for each place that the one before has left,
--- into any text that has room, and `run_station_end` once no piece is left and no block is whole, or reading has ended
-pub data WritesStation : List (List ℕ) → StationMidway → List ℕ → Type 0 where
-  pieces-over : {pieces : List (List ℕ)} {m : StationMidway} (out out′ : List ℕ) (r : ℕ) → pieces ≡ [] → m .at .reading .have < 512 → 1408 ≤ length out → StationEnds m out r out′ → WritesStation pieces m (take r out′)
-  reading-over : {pieces : List (List ℕ)} {m : StationMidway} (out out′ : List ℕ) (r : ℕ) → m .at .reading .«goes_on» ≡ false → 1408 ≤ length out → StationEnds m out r out′ → WritesStation pieces m (take r out′)
-  piece-over : {pieces : List (List ℕ)} {m : StationMidway} {text : List ℕ} → WritesStation pieces m text → WritesStation ([] ∷ pieces) m text
-  piece-step : {rest : List ℕ} {pieces : List (List ℕ)} {m m′ : StationMidway} {text : List ℕ} (piece : List ℕ) (from : ℕ) (out out′ : List ℕ) (r : StationTook)
-      → rest ≡ drop from piece
-      → 623872 ≤ length out
-      → StationTakesStep (m .at) piece from (m .lent) (m′ .lent) (m .events) (m′ .events) (m .block) (m′ .block) out out′ r
-      → m′ .at ≡ r .reading
-      → WritesStation (drop (r .next) piece ∷ pieces) m′ text
-      → WritesStation (rest ∷ pieces) m (take (r .written) out′ ++ text)
+-- the bytes that the library has written at last, along what is left of a piece and the pieces after it
+abbrev pub WritesStation : List (List ℕ) → StationMidway → List ℕ → Type 0
+WritesStation = WritesCalls (λ m. m .at) 623872 StationSteps 1408 StationEnds
 
 -- from buffers of zeros, wherever the file is cut, that is what a run of it prints
 unfoldable pub StationRunsAlong : Type 0

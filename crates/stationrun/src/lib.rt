@@ -1,19 +1,17 @@
 // What a run of a station's call file prints (document 02 §1): the calls of its blocks on a lent station, each with its line and those of its events. The
 // file comes in pieces, cut anywhere; reading and writing are the caller's.
 ghost use mathlib.Core.Path.{_≡_};
-ghost use Prim.Native.Nat.{_+_, _*_, _≤_, _<_};
-ghost use lib.ListN.{length, take};
+ghost use Prim.Native.Nat.{_+_, _≤_};
+ghost use lib.ListN.{length};
 ghost use Rattle.definition_station.specs.Layout.{stationLengthsOf, slotAt, stationView, soundStation};
-ghost use Rattle.definition_station.specs.Station.{stationShort};
 ghost use mathlib.Core.Bool.{true, false, _&&_};
 ghost use lib.Dec.{eqb, leb};
 ghost use Rattle.definition_station.specs.Called.{StationStarted};
 ghost use Rattle.callfile.specs.Placed.{Puts, PutLine};
-ghost use Rattle.stationlines.specs.StationLines.{sentRowsText};
 ghost use Rattle.stationcalls.specs.Parts.{lentAll, Within};
 ghost use Rattle.stationrun.specs.StationRuns.{stationBy, noWords, startOn, fileCall, stationLines, stationCall, outcomeFrom, FileCalled};
-ghost use Rattle.stationrun.specs.CallSteps.{nextCall, stepDue, withRun, readingAfter, endedAs, wholeAt};
-ghost use Rattle.stationrun.specs.StationFiles.{StationStepped, StationTakesStep, slotLine, countedLines, slotBytes, stationBytes, lastStation};
+ghost use Rattle.stationrun.specs.CallSteps.{nextCall, stepDue, withRun, nextBlock, readingAfter, endedAs, wholeAt};
+ghost use Rattle.stationrun.specs.StationFiles.{StationStepped, StationTakesStep, slotLine, countedLines, slotBytes, heldBytes, lastStation};
 use callfile::Reading;
 use callfile::Took;
 use calls::Call;
@@ -29,7 +27,7 @@ pub const TEXT: usize = 623872;
 const LAST: usize = 1408;
 
 // The code of a start.
-const START: u64 = 16;
+pub const START: u64 = 16;
 
 // How far a file is read, and how many calls of a block that is whole are run.
 pub struct StationReading {
@@ -56,7 +54,7 @@ fn zeros(w: [u64; 8]) -> bool
 }
 
 // A start: its refusal (0: accepted).
-fn start(
+pub fn start(
     heads: &[u64],
     subs: &[SubRow],
     rows: &[Row],
@@ -108,20 +106,6 @@ fn one_call(
     stationcalls::call(heads, subs, rows, own, events, number, plain)
 }
 
-// The lines of the first n events.
-fn put_events(out: &mut [u8], from: usize, events: &[Sent], n: usize) -> usize
-    requires { ⌜ (n ≤ length (now events)) × (from + 128 * n + 128 ≤ length (now out)) ⌝ }
-    ensures { λ r. ⌜ Puts (sentRowsText (take n (now (events .entry)))) from (now (out .entry)) r (now (out .exit)) ⌝ }
-{
-    let mut at = from;
-    let mut i = 0;
-    while i < n {
-        at = stationlines::put_sent(out, at, events[i]);
-        i += 1;
-    }
-    at
-}
-
 // A call, and its lines at the beginning of the text; the place after them.
 fn run_call(
     heads: &mut [u64],
@@ -138,7 +122,7 @@ fn run_call(
 {
     let r = one_call(heads, subs, rows, own, events, c);
     let next = callfile::put_call(out, 0, index, r.refusal, r.answer);
-    put_events(out, next, events, r.events)
+    stationlines::put_all_sent(out, next, events, r.events)
 }
 
 // ---- a step
@@ -156,9 +140,10 @@ pub fn is_due(at: StationReading, from: usize, len: usize) -> bool
     from < len
 }
 
-// Whether there is anything to do: a block has its 512 places and no more bytes, a call's lines do not lack room, and reading goes on.
-fn goes(at: Reading, block: usize, out: usize) -> bool
-    ensures { λ r. ⌜ r ≡ ((eqb block 512 && (leb (at .have) 512 && leb 623872 out)) && at .«goes_on») ⌝ }
+// Whether there is anything to do: a block has its 512 places and no more bytes, a call's lines, which have at most so many bytes, do not lack room, and
+// reading goes on.
+pub fn goes(at: Reading, block: usize, most: usize, out: usize) -> bool
+    ensures { λ r. ⌜ r ≡ ((eqb block 512 && (leb (at .have) 512 && leb most out)) && at .«goes_on») ⌝ }
 {
     if block != callfile::BLOCK {
         return false;
@@ -166,14 +151,14 @@ fn goes(at: Reading, block: usize, out: usize) -> bool
     if callfile::BLOCK < at.have {
         return false;
     }
-    if out < TEXT {
+    if out < most {
         return false;
     }
     at.goes_on
 }
 
 // An answer, with the calls that are run.
-fn with_run(t: Took, run: usize) -> StationTook
+pub fn with_run(t: Took, run: usize) -> StationTook
     ensures { λ r. ⌜ r ≡ withRun t run ⌝ }
 {
     let reading = t.reading;
@@ -184,12 +169,27 @@ fn with_run(t: Took, run: usize) -> StationTook
     }
 }
 
+// The reading at the next block.
+fn next_block(at: StationReading, index: u64, on: bool) -> StationReading
+    ensures { λ r. ⌜ r ≡ nextBlock at index on ⌝ }
+{
+    let reading = Reading {
+        have: 0,
+        number: stats::more_of(at.reading.number),
+        index,
+        goes_on: on,
+    };
+    StationReading { reading, run: 0 }
+}
+
 // The reading after a call of a block of so many.
-fn after_call(at: StationReading, count: usize) -> StationReading
-    requires { ⌜ at .run < count ⌝ }
+pub fn after_call(at: StationReading, count: usize) -> StationReading
     ensures { λ r. ⌜ r ≡ readingAfter at count ⌝ }
 {
     let index = stats::more_of(at.reading.index);
+    if count <= at.run {
+        return next_block(at, index, true);
+    }
     let run = at.run + 1;
     if run < count {
         let reading = Reading {
@@ -200,27 +200,16 @@ fn after_call(at: StationReading, count: usize) -> StationReading
         };
         return StationReading { reading, run };
     }
-    let reading = Reading {
-        have: 0,
-        number: stats::more_of(at.reading.number),
-        index,
-        goes_on: true,
-    };
-    StationReading { reading, run: 0 }
+    next_block(at, index, true)
 }
 
 // Reading ends at a bad block.
-fn ended(at: StationReading, from: usize, written: usize) -> StationTook
+pub fn ended(at: StationReading, from: usize, written: usize) -> StationTook
     ensures { λ r. ⌜ r ≡ endedAs at from written ⌝ }
 {
-    let reading = Reading {
-        have: 0,
-        number: stats::more_of(at.reading.number),
-        index: at.reading.index,
-        goes_on: false,
-    };
+    let reading = next_block(at, at.reading.index, false);
     StationTook {
-        reading: StationReading { reading, run: 0 },
+        reading,
         next: from,
         written,
     }
@@ -274,7 +263,7 @@ pub fn run_station_step(
     ensures { λ r. ⌜ StationTakesStep at (now (piece .entry)) from (lentAll (now (heads .entry)) (now (subs .entry)) (now (rows .entry)) (now (own .entry))) (lentAll (now (heads .exit)) (now (subs .exit)) (now (rows .exit)) (now (own .exit))) (now (events .entry)) (now (events .exit)) (now (block .entry)) (now (block .exit)) (now (out .entry)) (now (out .exit)) r ⌝ }
 {
     let reading = at.reading;
-    if !goes(reading, block.len(), out.len()) {
+    if !goes(reading, block.len(), TEXT, out.len()) {
         let t = running::unread(reading, from, piece.len());
         return with_run(t, at.run);
     }
@@ -352,10 +341,9 @@ fn place_bytes(heads: &[u64], subs: &[SubRow], rows: &[Row], own: &[u64], k: usi
     r.answer
 }
 
-// Those of all places; 0 where the station is not sound.
-fn held_bytes(heads: &[u64], subs: &[SubRow], rows: &[Row], own: &[u64], events: &[Sent]) -> u64
-    requires { ⌜ stationShort (stationLengthsOf (lentAll (now heads) (now subs) (now rows) (now own)) (length (now events))) ≡ false ⌝ }
-    ensures { λ r. ⌜ r ≡ stationBytes (stationBy (lentAll (now (heads .entry)) (now (subs .entry)) (now (rows .entry)) (now (own .entry))) (now (events .entry))) ⌝ }
+// Those of all places; 0 where the station is not sound, or its buffers are short.
+pub fn held_bytes(heads: &[u64], subs: &[SubRow], rows: &[Row], own: &[u64], events: &[Sent]) -> u64
+    ensures { λ r. ⌜ r ≡ heldBytes (stationLengthsOf (lentAll (now (heads .entry)) (now (subs .entry)) (now (rows .entry)) (now (own .entry))) (length (now (events .entry)))) (stationBy (lentAll (now (heads .entry)) (now (subs .entry)) (now (rows .entry)) (now (own .entry))) (now (events .entry))) ⌝ }
 {
     if !stationcalls::is_sound(heads, subs, rows, own, events) {
         return 0;

@@ -6,7 +6,7 @@ use borrow.Author.Tests.{not-true, not-false}
 use lib.ListN.{length}
 use denote.Ref.{now}
 use Rattle.definition.specs.Layout.{soundBuffers, lent}
-use Rattle.report.proofs.Listing.{list-short, state-short, not-sound, refused-list, topic-list, list-numbers, queue-list}
+use Rattle.report.proofs.Listing.{list-short, state-short, not-sound, refused-list, sound-list}
 use borrow.Author.Needs.{needs}
 use Rattle.report.proofs.held.Statement.{statement}
 use Rattle.report.proofs.held.Tie as tie
@@ -14,7 +14,8 @@ use Rattle.report.proofs.held.Tie as tie
 returns : tie.Need-returns
 returns c =
     let a = c .before .before .args in
-    refused-list (now (a .head)) (now (a .subs)) (now (a .rows)) (now (a .list)) 1 (list-short (lent (now (a .head)) (now (a .subs)) (now (a .rows))) (length (now (a .list))) (c .if1 .taken)) (λ z. absurd (omega (arith, z)))
+    let b = lent (now (a .head)) (now (a .subs)) (now (a .rows)) in
+    refused-list b (now (a .list)) 1 (list-short b (length (now (a .list))) (c .if1 .taken)) (λ z. absurd (omega (arith, z)))
 
 whole-requires : tie.Need-whole-requires
 whole-requires c κs = search needs
@@ -25,7 +26,7 @@ returns-2 c =
     let b = lent (now (a .head)) (now (a .subs)) (now (a .rows)) in
     let r = c .before .before .if1 .left in
     let s = not-false _ (sym (c .before .whole .ensures) ∙ not-true _ (c .if2 .taken)) in
-    refused-list (now (a .head)) (now (a .subs)) (now (a .rows)) (now (a .list)) 1 (state-short b (length (now (a .list))) r s) (λ z. absurd (omega (arith, z)))
+    refused-list b (now (a .list)) 1 (state-short b (length (now (a .list))) r s) (λ z. absurd (omega (arith, z)))
 
 sound-requires : tie.Need-sound-requires
 sound-requires c κs = search needs
@@ -36,45 +37,23 @@ returns-3 c =
     let b = lent (now (a .head)) (now (a .subs)) (now (a .rows)) in
     let r = c .before .before .before .before .if1 .left in
     let s = not-true _ (sym (c .before .before .before .whole .ensures) ∙ not-false _ (c .before .before .if2 .left)) in
-    let u = sym (ap (λ (x : Bool). not x && soundBuffers (lent (now (a .head)) (now (a .subs)) (now (a .rows)))) s) ∙ sym (c .before .sound .ensures) ∙ not-true _ (c .if3 .taken) in
-    refused-list (now (a .head)) (now (a .subs)) (now (a .rows)) (now (a .list)) 2 (not-sound b (length (now (a .list))) r s u) (λ z. absurd (omega (arith, z)))
+    let u = sym (ap (λ (x : Bool). not x && soundBuffers b) s) ∙ sym (c .before .sound .ensures) ∙ not-true _ (c .if3 .taken) in
+    refused-list b (now (a .list)) 2 (not-sound b (length (now (a .list))) r s u) (λ z. absurd (omega (arith, z)))
 
-load-requires : tie.Need-load-requires
-load-requires c κs = search needs
+blocks-in-requires : tie.Need-blocks-in-requires
+blocks-in-requires c κs = search needs
+
+same-length : tie.Need-same-length
+same-length c = search needs
 
 returns-4 : tie.Need-returns-4
 returns-4 c =
     let a = c .before .before .before .before .before .before .before .before .before .args in
     let b = lent (now (a .head)) (now (a .subs)) (now (a .rows)) in
-    let r = c .before .before .before .before .before .before .before .if1 .left in
     let s = not-true _ (sym (c .before .before .before .before .before .before .whole .ensures) ∙ not-false _ (c .before .before .before .before .before .if2 .left)) in
-    let u = sym (ap (λ (x : Bool). not x && soundBuffers (lent (now (a .head)) (now (a .subs)) (now (a .rows)))) s) ∙ sym (c .before .before .before .before .sound .ensures) ∙ not-false _ (c .before .before .before .if3 .left) in
-    let d = c .before .before .load in
-    topic-list (now (a .head)) (now (a .subs)) (now (a .rows)) (now (a .list)) r s u (d .result) (d .ensures) (not-true _ (c .if4 .taken))
-
-gather-all-requires : tie.Need-gather-all-requires
-gather-all-requires c κs =
-    let a = c .before .before .before .before .before .before .before .before .before .before .args in
-    let b = lent (now (a .head)) (now (a .subs)) (now (a .rows)) in
-    let r = c .before .before .before .before .before .before .before .before .if1 .left in
-    let s = not-true _ (sym (c .before .before .before .before .before .before .before .whole .ensures) ∙ not-false _ (c .before .before .before .before .before .before .if2 .left)) in
-    let u = sym (ap (λ (x : Bool). not x && soundBuffers (lent (now (a .head)) (now (a .subs)) (now (a .rows)))) s) ∙ sym (c .before .before .before .before .before .sound .ensures) ∙ not-false _ (c .before .before .before .before .if3 .left) in
-    let d = c .before .before .before .load in
-    (list-numbers (now (a .head)) (now (a .subs)) (now (a .rows)) (now (a .list)) r s u (d .result) (d .ensures) (not-false _ (c .before .if4 .left)), r)
-
-same-length : tie.Need-same-length
-same-length c = search needs
-
-returns-5 : tie.Need-returns-5
-returns-5 c =
-    let a = c .before .before .before .before .before .before .before .before .before .before .before .before .args in
-    let b = lent (now (a .head)) (now (a .subs)) (now (a .rows)) in
-    let r = c .before .before .before .before .before .before .before .before .before .before .if1 .left in
-    let s = not-true _ (sym (c .before .before .before .before .before .before .before .before .before .whole .ensures) ∙ not-false _ (c .before .before .before .before .before .before .before .before .if2 .left)) in
-    let u = sym (ap (λ (x : Bool). not x && soundBuffers (lent (now (a .head)) (now (a .subs)) (now (a .rows)))) s) ∙ sym (c .before .before .before .before .before .before .before .sound .ensures) ∙ not-false _ (c .before .before .before .before .before .before .if3 .left) in
-    let d = c .before .before .before .before .before .load in
-    let g = c .before .gather-all in
-    queue-list (now (a .head)) (now (a .subs)) (now (a .rows)) (now (a .list)) r s u (d .result) (d .ensures) (not-false _ (c .before .before .before .if4 .left)) (g .result) _ (g .ensures .0) (g .ensures .1 .0) (g .ensures .1 .1)
+    let u = sym (ap (λ (x : Bool). not x && soundBuffers b) s) ∙ sym (c .before .before .before .before .sound .ensures) ∙ not-false _ (c .before .before .before .if3 .left) in
+    let l = c .before .blocks-in in
+    sound-list b (now (a .list)) (c .before .before .before .before .before .before .before .if1 .left) s u (l .result) _ (l .ensures .0) (l .ensures .1 .1)
 
 pub held-spec : {M : Type 1} → statement M
 held-spec =
@@ -85,8 +64,6 @@ held-spec =
     returns-2
     sound-requires
     returns-3
-    load-requires
-    returns-4
-    gather-all-requires
+    blocks-in-requires
     same-length
-    returns-5)
+    returns-4)

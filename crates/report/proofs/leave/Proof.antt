@@ -2,7 +2,6 @@
 use mathlib.Core.Path.{_≡_, refl, sym, ap, _∙_}
 use mathlib.Core.List.{List, []}
 use Prim.Native.Nat.{_+_, _-_, _≤_}
-use native.Mathlib.Nat.{zero-add}
 use borrow.Author.Tests.{lt-ltb, le-ltb}
 use lib.ListN.{length, take, getD, length-set}
 use lib.Seq.{sets, slice}
@@ -16,13 +15,13 @@ use Rattle.report.proofs.leave.Statement.{statement}
 use Rattle.report.proofs.leave.Tie as tie
 
 abbrev Inv-loop : tie.InvT-loop
-Inv-loop blocks n held m code words left₀ hint₀ k₀ i₀ left hint k i = (i ≤ n) × (hint ≤ m) × (k ≤ i) × (length left ≡ length left₀) × (k + length (leaversOf code words (take m held) (slice i n blocks)) ≡ length (leaversOf code words (take m held) (take n blocks))) × (sets left k (leaversOf code words (take m held) (slice i n blocks)) ≡ sets left₀ 0 (leaversOf code words (take m held) (take n blocks)))
+Inv-loop blocks n held m code words left₀ start hint₀ k₀ i₀ left hint k i = (i ≤ n) × (hint ≤ m) × (k ≤ start + i) × (length left ≡ length left₀) × (k + length (leaversOf code words (take m held) (slice i n blocks)) ≡ start + length (leaversOf code words (take m held) (take n blocks))) × (sets left k (leaversOf code words (take m held) (slice i n blocks)) ≡ sets left₀ start (leaversOf code words (take m held) (take n blocks)))
 
 abbrev μ-loop : tie.MeasureT-loop
-μ-loop blocks n held m code words left₀ hint₀ k₀ i₀ left hint k i = n - i
+μ-loop blocks n held m code words left₀ start hint₀ k₀ i₀ left hint k i = n - i
 
 loop-holds : tie.Need-loop-holds Inv-loop μ-loop
-loop-holds c = (search needs, search needs, search needs, refl, zero-add _, refl)
+loop-holds c = (search needs, search needs, search needs, refl, refl, refl)
 
 mul-b : tie.Need-mul-b Inv-loop μ-loop
 mul-b c = search needs
@@ -63,8 +62,8 @@ loop-again c =
 went-requires : tie.Need-went-requires Inv-loop μ-loop
 went-requires c κs = search needs
 
-mul-t22 : tie.Need-mul-t22 Inv-loop μ-loop
-mul-t22 c = search needs
+mul-t23 : tie.Need-mul-t23 Inv-loop μ-loop
+mul-t23 c = search needs
 
 slice-set-from-left : tie.Need-slice-set-from-left Inv-loop μ-loop
 slice-set-from-left c = search needs
@@ -90,7 +89,7 @@ loop-again-2 c =
       search needs,
       length-set (l .left) (l .k) (c .went .result) ∙ l .inv .3,
       omega (arith, l .inv .4, ap length e),
-      put-one (c .went .result) (wentAs (a .code) (a .words) (getD (now (a .blocks)) (l .i) [])) (leaversOf (a .code) (a .words) (take (a .m) (now (a .held))) (slice (l .i + 1) (a .n) (now (a .blocks)))) (l .left) (sets (now (a .left)) 0 (leaversOf (a .code) (a .words) (take (a .m) (now (a .held))) (take (a .n) (now (a .blocks))))) (l .k) (c .went .ensures) (sym (ap (sets (l .left) (l .k)) e) ∙ l .inv .5),
+      put-one (c .went .result) (wentAs (a .code) (a .words) (getD (now (a .blocks)) (l .i) [])) (leaversOf (a .code) (a .words) (take (a .m) (now (a .held))) (slice (l .i + 1) (a .n) (now (a .blocks)))) (l .left) (sets (now (a .left)) (a .start) (leaversOf (a .code) (a .words) (take (a .m) (now (a .held))) (take (a .n) (now (a .blocks))))) (l .k) (c .went .ensures) (sym (ap (sets (l .left) (l .k)) e) ∙ l .inv .5),
     )
 
 same-length : tie.Need-same-length Inv-loop μ-loop
@@ -120,7 +119,7 @@ leave-spec =
     loop-less
     loop-again
     went-requires
-    mul-t22
+    mul-t23
     slice-set-from-left
     add-k
     add-i-2

@@ -1,5 +1,6 @@
 -- `report::leave_all` meets its contract. Assumes nothing.
-use mathlib.Core.Path.{sym, ap}
+use mathlib.Core.Path.{sym, ap, _∙_}
+use native.Mathlib.Nat.{zero-add}
 use native.Mathlib.Omega.{arith}
 use lib.ListN.{length, take}
 use lib.Seq.{sets}
@@ -28,10 +29,11 @@ returns-2 : tie.Need-returns-2
 returns-2 c =
     let n = c .before .leave-new in
     let l = c .before .before .before .before .leave in
+    let k = l .ensures .0 ∙ zero-add _ in
     let o = c .before .before .before .before .before .before .if1 .left in
     let a = c .before .before .before .before .before .before .before .args in (
-      both-many (a .code) (a .words) (take (a .m) (now (a .held))) (take (a .n) (now (a .blocks))) o (l .result) (n .result) (l .ensures .0) (n .ensures .0),
-      (omega (arith, l .ensures .1 .0, n .ensures .1 .0), both-put (a .code) (a .words) (take (a .m) (now (a .held))) (take (a .n) (now (a .blocks))) o (l .result) (n .result) (l .ensures .0) (n .ensures .0) (now (a .left)) _ _ (l .ensures .1 .1) (n .ensures .1 .1)),
+      both-many (a .code) (a .words) (take (a .m) (now (a .held))) (take (a .n) (now (a .blocks))) o (l .result) (n .result) k (n .ensures .0),
+      (omega (arith, l .ensures .1 .0, n .ensures .1 .0), both-put (a .code) (a .words) (take (a .m) (now (a .held))) (take (a .n) (now (a .blocks))) o (l .result) (n .result) k (n .ensures .0) (now (a .left)) _ _ (l .ensures .1 .1) (n .ensures .1 .1)),
     )
 
 pub leave-all-spec : {M : Type 1} → statement M

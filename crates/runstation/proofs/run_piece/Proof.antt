@@ -4,10 +4,11 @@ use mathlib.Core.Path.{_≡_, sym, _∙_}
 use mathlib.Core.Bool.{true}
 use denote.Ref.{now}
 use lib.ListN.{length}
+use Rattle.definition_station.specs.Layout.{stationLengthsOf}
 use Rattle.stationcalls.specs.Parts.{lentAll}
 use Rattle.stationrun.specs.CallSteps.{stepDue}
-use Rattle.stationrun.proofs.CallSteps.{ahead}
-use Rattle.stationrun.proofs.Stepped.{moves-on}
+use Rattle.stationrun.specs.StationRuns.{stationBy, stationCall}
+use Rattle.stationrun.proofs.CallSteps.{ahead, moves-on}
 use borrow.Author.Needs.{needs}
 use Rattle.runstation.proofs.run_piece.Statement.{statement}
 use Rattle.runstation.proofs.run_piece.Tie as tie
@@ -61,7 +62,8 @@ loop-less c =
     let l = c .before .before .before .before .before .before .before .before .before .before .before .before .before .before .before .before .before .before .before .before .before .before .before .before .before .loop in
     let k = c .before .before .before .before .before .before .before .before .before .before .before .before .before .before .before .run-station-step in
     let due : stepDue (l .at) (l .from) (length (now (a .piece))) ≡ true = sym (c .before .before .before .before .before .before .before .before .before .before .before .before .before .before .before .before .before .before .before .before .before .before .before .before .is-due .ensures) ∙ c .before .before .before .before .before .before .before .before .before .before .before .before .before .before .before .before .before .before .before .before .before .before .before .if1 .taken in
-    moves-on (l .at) (now (a .piece)) (l .from) (lentAll (l .heads) (l .subs) (l .rows) (l .own)) (lentAll (k .last .0) (k .last .1 .0) (k .last .1 .1 .0) (k .last .1 .1 .1 .0)) (l .events) (k .last .1 .1 .1 .1 .0) (l .block) (k .last .1 .1 .1 .1 .1 .0) (l .out) (k .last .1 .1 .1 .1 .1 .1 .1 .1 .1 .0) (k .result) (k .ensures) due
+    let b = lentAll (l .heads) (l .subs) (l .rows) (l .own) in
+    moves-on (stationCall (stationLengthsOf b (length (l .events)))) 623872 (now (a .piece)) (stationBy b (l .events)) (k .ensures) due
 
 loop-again : tie.Need-loop-again Inv-loop μ-loop
 loop-again c = search needs

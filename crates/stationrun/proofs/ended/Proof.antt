@@ -4,11 +4,11 @@ use borrow.Author.Needs.{needs}
 use Rattle.stationrun.proofs.ended.Statement.{statement}
 use Rattle.stationrun.proofs.ended.Tie as tie
 
-more-of-requires : tie.Need-more-of-requires
-more-of-requires c κs = search needs
+next-block-requires : tie.Need-next-block-requires
+next-block-requires c κs = search needs
 
 returns : tie.Need-returns
-returns c = let a = c .before .args in ended-so (a .at) (a .from) (a .written) (c .more-of .ensures)
+returns c = let a = c .before .args in ended-so (a .at) (a .from) (a .written) (c .next-block .ensures)
 
 pub ended-spec : {M : Type 1} → statement M
-ended-spec = tie.close (tie.spec more-of-requires returns)
+ended-spec = tie.close (tie.spec next-block-requires returns)

@@ -1,5 +1,5 @@
 -- `stationrun::run_call` meets its contract. Assumes nothing.
-use Rattle.stationrun.proofs.Called.{all-there, room-left, printed}
+use Rattle.stationrun.proofs.Called.{printed}
 use borrow.Author.Needs.{needs}
 use Rattle.stationrun.proofs.run_call.Statement.{statement}
 use Rattle.stationrun.proofs.run_call.Tie as tie
@@ -10,10 +10,8 @@ one-call-requires c κs = search needs
 put-call-requires : tie.Need-put-call-requires
 put-call-requires c κs = search needs
 
-put-events-requires : tie.Need-put-events-requires
-put-events-requires c κs = let a = c .before .before .before .before .before .before .before .before .before .before .before .before .before .before .before .before .before .before .before .before .before .before .args in
-    let k = c .before .before .before .before .before .before .before .before .before .before .before .before .before .one-call in
-    (all-there (k .ensures .0) (k .result) (k .ensures .1), room-left (k .ensures .0) (k .result) (k .ensures .1) (a .index) (c .before .before .before .before .before .before .before .before .before .before .before .before .before .before .before .before .before .before .before .before .before .before .pre) (c .before .before .before .before .put-call .ensures))
+put-all-sent-requires : tie.Need-put-all-sent-requires
+put-all-sent-requires c κs = search needs
 
 same-length : tie.Need-same-length
 same-length c = search needs
@@ -36,7 +34,7 @@ same-length-6 c = search needs
 returns : tie.Need-returns
 returns c = let a = c .before .before .before .before .before .before .before .before .before .before .before .before .before .before .before .before .before .before .before .before .before .before .before .before .before .args in
     let k = c .before .before .before .before .before .before .before .before .before .before .before .before .before .before .before .before .one-call in
-    (k .ensures .0, printed (k .ensures .0) (k .result) (k .ensures .1) (a .index) (c .before .before .before .before .before .before .before .before .before .before .before .before .before .before .before .before .before .before .before .before .before .before .before .before .before .pre) (c .before .before .before .before .before .before .before .put-call .ensures) (c .before .before .put-events .ensures))
+    (k .ensures .0, printed (k .ensures .0) (k .result) (k .ensures .1) (a .index) (c .before .before .before .before .before .before .before .before .before .before .before .before .before .before .before .before .before .before .before .before .before .before .before .before .before .pre) (c .before .before .before .before .before .before .before .put-call .ensures) (c .before .before .put-all-sent .ensures))
 
 pub run-call-spec : {M : Type 1} → statement M
 run-call-spec =
@@ -44,7 +42,7 @@ run-call-spec =
     (tie.spec
     one-call-requires
     put-call-requires
-    put-events-requires
+    put-all-sent-requires
     same-length
     same-length-2
     same-length-3

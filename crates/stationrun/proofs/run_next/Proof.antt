@@ -1,7 +1,12 @@
 -- `stationrun::run_next` meets its contract. Assumes nothing.
 use denote.Ref.{now}
+use lib.ListN.{length}
+use Rattle.definition_station.specs.Layout.{stationLengthsOf}
 use Rattle.stationcalls.specs.Parts.{lentAll}
-use Rattle.stationrun.proofs.Stepped.{none-there, call-done}
+use Rattle.stationrun.specs.StationRuns.{stationBy, stationCall, StationKeeps}
+use Rattle.stationrun.proofs.CallSteps.{none-there}
+use Rattle.stationrun.proofs.Stepped.{keeps-all, station-done}
+use native.Mathlib.Omega.{arith}
 use borrow.Author.Needs.{needs}
 use Rattle.stationrun.proofs.run_next.Statement.{statement}
 use Rattle.stationrun.proofs.run_next.Tie as tie
@@ -22,7 +27,9 @@ returns : tie.Need-returns
 returns c = let a = c .before .before .before .before .before .before .before .before .before .before .before .before .args in
     let p = c .before .before .before .before .before .before .before .before .before .before .before .before .pre in
     let m = c .before .before .before .before .before .before .before .calls-in in
-    none-there (a .at) (a .from) (now (a .block)) (lentAll (now (a .heads)) (now (a .subs)) (now (a .rows)) (now (a .own))) (now (a .events)) (now (a .out)) (p .0) (p .1) (m .result) (m .ensures) (c .before .before .before .before .before .if1 .taken) (c .before .before .before .put-bad .ensures) (c .ended .ensures)
+    let b = lentAll (now (a .heads)) (now (a .subs)) (now (a .rows)) (now (a .own)) in
+    let e = now (a .events) in
+    none-there (stationCall (stationLengthsOf b (length e))) (a .at) (a .from) (now (a .block)) (stationBy b e) (now (a .out)) (m .result) (m .ensures) (λ t. StationKeeps t b b e e) (c .before .before .before .before .before .if1 .taken) (omega (arith, p .1)) (c .before .before .before .put-bad .ensures) (c .ended .ensures) (keeps-all b e)
 
 call-at-requires : tie.Need-call-at-requires
 call-at-requires c κs = search needs
@@ -57,7 +64,7 @@ returns-2 c = let a = c .before .before .before .before .before .before .before 
     let m = c .before .before .before .before .before .before .before .before .before .before .before .before .before .before .before .before .before .before .before .before .calls-in in
     let x = c .before .before .before .before .before .before .before .before .before .before .before .before .before .before .before .before .before .call-at in
     let k = c .before .before .before .before .before .before .before .before .before .before .run-call in
-    call-done (a .at) (a .from) (now (a .block)) (lentAll (now (a .heads)) (now (a .subs)) (now (a .rows)) (now (a .own))) (now (a .events)) (now (a .out)) (p .0) (p .1) (m .result) (m .ensures) (c .before .before .before .before .before .before .before .before .before .before .before .before .before .before .before .before .before .before .if1 .left) (x .result) (x .ensures) (lentAll (k .last .0) (k .last .1 .0) (k .last .1 .1 .0) (k .last .1 .1 .1 .0)) (k .last .1 .1 .1 .1 .0) (k .last .1 .1 .1 .1 .1 .1 .1 .0) (k .result) (k .ensures .0) (k .ensures .1) (c .after-call .ensures)
+    station-done (a .at) (a .from) (now (a .block)) (lentAll (now (a .heads)) (now (a .subs)) (now (a .rows)) (now (a .own))) (now (a .events)) (now (a .out)) (p .0) (p .1) (m .result) (m .ensures) (c .before .before .before .before .before .before .before .before .before .before .before .before .before .before .before .before .before .before .if1 .left) (x .result) (x .ensures) (lentAll (k .last .0) (k .last .1 .0) (k .last .1 .1 .0) (k .last .1 .1 .1 .0)) (k .last .1 .1 .1 .1 .0) (k .ensures .0) (k .ensures .1) (c .after-call .ensures)
 
 pub run-next-spec : {M : Type 1} → statement M
 run-next-spec =

@@ -24,7 +24,7 @@ returns-2 c = let a = c .before .before .before .before .before .before .args in
     short-last (lentAll (now (a .heads)) (now (a .subs)) (now (a .rows)) (now (a .own))) (now (a .events)) (a .at) (a .failed) (now (a .out)) (not-false _ (sym (c .before .whole .ensures) ∙ not-true _ (c .if2 .taken)))
 
 held-bytes-requires : tie.Need-held-bytes-requires
-held-bytes-requires c κs = not-true _ (sym (c .before .whole .ensures) ∙ not-false _ (c .if2 .left))
+held-bytes-requires c κs = search needs
 
 shared-slice-read-next : tie.Need-shared-slice-read-next
 shared-slice-read-next c = let a = c .before .before .before .before .before .before .before .before .args in

@@ -1,17 +1,15 @@
 -- `stationrun::run_station_step` meets its contract. Assumes nothing.
-use Prim.Native.Nat.{_-_}
-use mathlib.Core.Path.{_≡_, refl, sym, _∙_}
-use mathlib.Core.Bool.{true, false, _&&_}
+use mathlib.Core.Path.{_≡_, sym, _∙_}
+use mathlib.Core.Bool.{true, _&&_}
 use denote.Ref.{now}
 use borrow.Author.Tests.{not-true, not-false}
-use lib.ListN.{length, take, drop, length-take, length-drop}
+use lib.ListN.{length}
 use Rattle.definition_station.specs.Layout.{stationLengthsOf}
 use Rattle.stationcalls.specs.Parts.{lentAll}
-use Rattle.running.proofs.Steps.{few}
-use Rattle.stationrun.specs.StationRuns.{stationBy, stationCall}
+use Rattle.stationrun.specs.StationRuns.{stationBy, stationCall, StationKeeps}
 use Rattle.stationrun.specs.CallSteps.{stepRoomy}
-use Rattle.stationrun.proofs.CallSteps.{fits-block, text-room, not-read, fill-read, call-read}
-use Rattle.stationrun.proofs.Stepped.{keeps-all, takes}
+use Rattle.stationrun.proofs.CallSteps.{fits-block, text-room, not-read, within-piece, few-read, fill-read, call-read}
+use Rattle.stationrun.proofs.Stepped.{keeps-all}
 use native.Mathlib.Omega.{arith}
 use borrow.Author.Needs.{needs}
 use Rattle.stationrun.proofs.run_station_step.Statement.{statement}
@@ -28,23 +26,22 @@ with-run-requires c κs = search needs
 
 returns : tie.Need-returns
 returns c = let a = c .before .before .before .before .before .before .before .before .before .before .args in
-    let e : (stepRoomy 623872 (a .at .reading) (now (a .block)) (now (a .out)) && a .at .reading .«goes_on») ≡ false = sym (c .before .before .before .goes .ensures) ∙ not-true _ (c .before .before .if1 .taken) in
-    takes (a .at) (now (a .piece)) (a .from) (lentAll (now (a .heads)) (now (a .subs)) (now (a .rows)) (now (a .own))) (lentAll (now (a .heads)) (now (a .subs)) (now (a .rows)) (now (a .own))) (now (a .events)) (now (a .events)) (now (a .block)) (now (a .block)) (now (a .out)) (now (a .out)) _ (not-read (stationCall (stationLengthsOf (lentAll (now (a .heads)) (now (a .subs)) (now (a .rows)) (now (a .own))) (length (now (a .events))))) (a .at) (now (a .piece)) (a .from) (stationBy (lentAll (now (a .heads)) (now (a .subs)) (now (a .rows)) (now (a .own))) (now (a .events))) (now (a .block)) (now (a .out)) (stepRoomy 623872 (a .at .reading) (now (a .block)) (now (a .out)) && a .at .reading .«goes_on») e (c .before .unread .ensures) (c .with-run .ensures)) refl (keeps-all (lentAll (now (a .heads)) (now (a .subs)) (now (a .rows)) (now (a .own))) (now (a .events)))
+    let b = lentAll (now (a .heads)) (now (a .subs)) (now (a .rows)) (now (a .own)) in
+    let v = now (a .events) in
+    not-read (stationCall (stationLengthsOf b (length v))) 623872 (a .at) (now (a .piece)) (a .from) (stationBy b v) (now (a .block)) (now (a .out)) (sym (c .before .before .before .goes .ensures) ∙ not-true _ (c .before .before .if1 .taken)) (c .before .unread .ensures) (c .with-run .ensures) (λ t. StationKeeps t b b v v) (keeps-all b v)
 
 fill-requires : tie.Need-fill-requires
 fill-requires c κs = search needs
 
 add-have : tie.Need-add-have
 add-have c = let a = c .before .before .before .before .before .before .before .before .before .before .before .before .before .before .before .args in
-    let f = c .before .before .before .fill in
-    let e : (stepRoomy 623872 (a .at .reading) (now (a .block)) (now (a .out)) && a .at .reading .«goes_on») ≡ true = sym (c .before .before .before .before .before .before .before .before .goes .ensures) ∙ not-false _ (c .before .before .before .before .before .before .before .if1 .left) in
-    omega (arith, few (stationCall (stationLengthsOf (lentAll (now (a .heads)) (now (a .subs)) (now (a .rows)) (now (a .own))) (length (now (a .events))))) (a .at .reading) (now (a .piece)) (a .from) (stationBy (lentAll (now (a .heads)) (now (a .subs)) (now (a .rows)) (now (a .own))) (now (a .events))) (now (a .block)) (now (a .out)) (fits-block 623872 (a .at .reading) (now (a .block)) (now (a .out)) e) (c .before .before .before .before .before .if2 .taken) (f .result) (f .last .0) (f .ensures))
+    let b = lentAll (now (a .heads)) (now (a .subs)) (now (a .rows)) (now (a .own)) in
+    let v = now (a .events) in
+    omega (arith, few-read (stationCall (stationLengthsOf b (length v))) 623872 (a .at) (now (a .piece)) (a .from) (stationBy b v) (now (a .block)) (now (a .out)) (sym (c .before .before .before .before .before .before .before .before .goes .ensures) ∙ not-false _ (c .before .before .before .before .before .before .before .if1 .left)) (c .before .before .before .before .before .if2 .taken) (c .before .before .before .fill .ensures))
 
 add-next : tie.Need-add-next
 add-next c = let a = c .before .before .before .before .before .before .before .before .before .before .before .before .before .before .before .args in
-    let f = c .before .before .before .fill in
-    let e : f .result ≡ length (take (length (now (a .block)) - a .at .reading .have) (drop (a .from) (now (a .piece)))) = f .ensures .count in
-    omega (arith, c .before .before .before .before .before .before .before .before .before .before .before .before .before .before .before .good .1 .1 .1 .1 .1 .1 .1 .0, e, length-take (length (now (a .block)) - a .at .reading .have) (drop (a .from) (now (a .piece))), length-drop (a .from) (now (a .piece)))
+    omega (arith, c .before .before .before .before .before .before .before .before .before .before .before .before .before .before .before .good .1 .1 .1 .1 .1 .1 .1 .0, within-piece (a .at .reading .have) (a .from) (now (a .piece)) (now (a .block)) (c .before .before .before .fill .ensures))
 
 begun-requires : tie.Need-begun-requires
 begun-requires c κs = search needs
@@ -57,9 +54,9 @@ same-length c = search needs
 
 returns-2 : tie.Need-returns-2
 returns-2 c = let a = c .before .before .before .before .before .before .before .before .before .before .before .before .before .before .before .before .before .args in
-    let f = c .before .before .before .before .before .fill in
-    let e : (stepRoomy 623872 (a .at .reading) (now (a .block)) (now (a .out)) && a .at .reading .«goes_on») ≡ true = sym (c .before .before .before .before .before .before .before .before .before .before .goes .ensures) ∙ not-false _ (c .before .before .before .before .before .before .before .before .before .if1 .left) in
-    takes (a .at) (now (a .piece)) (a .from) (lentAll (now (a .heads)) (now (a .subs)) (now (a .rows)) (now (a .own))) (lentAll (now (a .heads)) (now (a .subs)) (now (a .rows)) (now (a .own))) (now (a .events)) (now (a .events)) (now (a .block)) (f .last .0) (now (a .out)) (now (a .out)) _ (fill-read (stationCall (stationLengthsOf (lentAll (now (a .heads)) (now (a .subs)) (now (a .rows)) (now (a .own))) (length (now (a .events))))) (a .at) (now (a .piece)) (a .from) (stationBy (lentAll (now (a .heads)) (now (a .subs)) (now (a .rows)) (now (a .own))) (now (a .events))) (now (a .block)) (now (a .out)) (fits-block 623872 (a .at .reading) (now (a .block)) (now (a .out)) e) (c .before .before .before .before .before .before .before .if2 .taken) (f .result) (f .last .0) (f .ensures) (stepRoomy 623872 (a .at .reading) (now (a .block)) (now (a .out)) && a .at .reading .«goes_on») e (c .before .begun .ensures) (c .with-run2 .ensures)) refl (keeps-all (lentAll (now (a .heads)) (now (a .subs)) (now (a .rows)) (now (a .own))) (now (a .events)))
+    let b = lentAll (now (a .heads)) (now (a .subs)) (now (a .rows)) (now (a .own)) in
+    let v = now (a .events) in
+    fill-read (stationCall (stationLengthsOf b (length v))) 623872 (a .at) (now (a .piece)) (a .from) (stationBy b v) (now (a .block)) (now (a .out)) (sym (c .before .before .before .before .before .before .before .before .before .before .goes .ensures) ∙ not-false _ (c .before .before .before .before .before .before .before .before .before .if1 .left)) (c .before .before .before .before .before .before .before .if2 .taken) (c .before .before .before .before .before .fill .ensures) (c .before .begun .ensures) (c .with-run2 .ensures) (λ t. StationKeeps t b b v v) (keeps-all b v)
 
 run-next-requires : tie.Need-run-next-requires
 run-next-requires c κs = let a = c .before .before .before .before .before .before .before .before .before .before .before .before .before .before .before .before .before .args in
@@ -89,9 +86,9 @@ same-length-8 c = search needs
 
 returns-3 : tie.Need-returns-3
 returns-3 c = let a = c .before .before .before .before .before .before .before .before .before .before .before .before .before .before .before .before .before .before .before .before .before .before .before .before .before .before .before .args in
-    let k = c .before .before .before .before .before .before .before .before .before .run-next in
-    let e : (stepRoomy 623872 (a .at .reading) (now (a .block)) (now (a .out)) && a .at .reading .«goes_on») ≡ true = sym (c .before .before .before .before .before .before .before .before .before .before .before .before .before .before .before .before .before .before .before .before .goes .ensures) ∙ not-false _ (c .before .before .before .before .before .before .before .before .before .before .before .before .before .before .before .before .before .before .before .if1 .left) in
-    takes (a .at) (now (a .piece)) (a .from) (lentAll (now (a .heads)) (now (a .subs)) (now (a .rows)) (now (a .own))) (lentAll (k .last .0) (k .last .1 .0) (k .last .1 .1 .0) (k .last .1 .1 .1 .0)) (now (a .events)) (k .last .1 .1 .1 .1 .0) (now (a .block)) (now (a .block)) (now (a .out)) (k .last .1 .1 .1 .1 .1 .1 .1 .1 .0) _ (call-read (stationCall (stationLengthsOf (lentAll (now (a .heads)) (now (a .subs)) (now (a .rows)) (now (a .own))) (length (now (a .events))))) (a .at) (now (a .piece)) (a .from) (stationBy (lentAll (now (a .heads)) (now (a .subs)) (now (a .rows)) (now (a .own))) (now (a .events))) (now (a .block)) (now (a .out)) (fits-block 623872 (a .at .reading) (now (a .block)) (now (a .out)) e) (c .before .before .before .before .before .before .before .before .before .before .before .before .before .before .before .before .before .if2 .left) (stepRoomy 623872 (a .at .reading) (now (a .block)) (now (a .out)) && a .at .reading .«goes_on») e (k .ensures .took)) (k .ensures .shows) (k .ensures .left)
+    let b = lentAll (now (a .heads)) (now (a .subs)) (now (a .rows)) (now (a .own)) in
+    let v = now (a .events) in
+    call-read (stationCall (stationLengthsOf b (length v))) 623872 (a .at) (now (a .piece)) (a .from) (stationBy b v) (now (a .block)) (now (a .out)) (sym (c .before .before .before .before .before .before .before .before .before .before .before .before .before .before .before .before .before .before .before .before .goes .ensures) ∙ not-false _ (c .before .before .before .before .before .before .before .before .before .before .before .before .before .before .before .before .before .before .before .if1 .left)) (c .before .before .before .before .before .before .before .before .before .before .before .before .before .before .before .before .before .if2 .left) (c .before .before .before .before .before .before .before .before .before .run-next .ensures)
 
 pub run-station-step-spec : {M : Type 1} → statement M
 run-station-step-spec =

@@ -1,0 +1,4 @@
+pub mod Settled
+pub mod OneLook
+pub mod Chain
+pub mod Station

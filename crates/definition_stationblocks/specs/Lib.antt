@@ -1,0 +1,2 @@
+pub mod StationBlocks
+pub mod Cases
