@@ -50,9 +50,15 @@ module _ (most block have out : ℕ) (on : Bool) where
   all-room e h k = rw (eq-eqb block 512 e, le-leb have 512 h, le-leb most out k)
 
 -- what they say together
-module _ (most : ℕ) (at : Reading) (block out : List ℕ) (e : (stepRoomy most at block out && at .«goes_on») ≡ true) where
+module _ (most : ℕ) (fit : Bool) (at : Reading) (block out : List ℕ) (e : ((fit && stepRoomy most at block out) && at .«goes_on») ≡ true) where
+  both : (fit && stepRoomy most at block out) ≡ true
+  both = and-left (fit && stepRoomy most at block out) (at .«goes_on») e
+
+  pub is-fit : fit ≡ true
+  is-fit = and-left fit (stepRoomy most at block out) both
+
   roomy : stepRoomy most at block out ≡ true
-  roomy = and-left (stepRoomy most at block out) (at .«goes_on») e
+  roomy = and-right fit (stepRoomy most at block out) both
 
   pub fits-block : length block ≡ 512
   fits-block = eqb-true (length block) 512 (and-left (eqb (length block) 512) (leb (at .have) 512 && leb most (length out)) roomy)
@@ -257,26 +263,26 @@ pub within-piece : (have from : ℕ) (piece block : List ℕ) {n : ℕ} {block�
 within-piece have from piece block f = omega (arith, f .count, length-take (length block - have) (drop from piece), length-drop from piece)
 
 -- by what the tests say
-module _ {S : Type 0} (one : Doing S) (most : ℕ) (at : StationReading) (piece : List ℕ) (from : ℕ) (s : S) (block out : List ℕ) where
+module _ {S : Type 0} (one : Doing S) (most : ℕ) (fit : Bool) (at : StationReading) (piece : List ℕ) (from : ℕ) (s : S) (block out : List ℕ) where
   abbrev goes : Bool
-  goes = stepRoomy most (at .reading) block out && at .reading .«goes_on»
+  goes = (fit && stepRoomy most (at .reading) block out) && at .reading .«goes_on»
 
-  pub not-read : goes ≡ false → {t : Took} {r : StationTook} → t ≡ unreadAs (at .reading) from (length piece) → r ≡ withRun t (at .run) → (Keeps : Bool → Type 0) → Keeps false → TakesCallStep one most at piece from s s Keeps block block out out r
+  pub not-read : goes ≡ false → {t : Took} {r : StationTook} → t ≡ unreadAs (at .reading) from (length piece) → r ≡ withRun t (at .run) → (Keeps : Bool → Type 0) → Keeps false → TakesCallStep one most fit at piece from s s Keeps block block out out r
   not-read e = none-read one at piece from s block out goes e
 
   module _ (e : goes ≡ true) where
     fits : length block ≡ 512
-    fits = fits-block most (at .reading) block out e
+    fits = fits-block most fit (at .reading) block out e
 
     pub few-read : at .reading .have < 512 → {n : ℕ} {block′ : List ℕ} → Filled (at .reading .have) (drop from piece) block n block′ → at .reading .have + n ≤ 512
     few-read h {n} {block′} f = few one (at .reading) piece from s block out fits h n block′ f
 
     pub fill-read : at .reading .have < 512 → {n : ℕ} {block′ : List ℕ} → Filled (at .reading .have) (drop from piece) block n block′
-        → {t : Took} {r : StationTook} → t ≡ begunAs (at .reading) (at .reading .have + n) (from + n) → r ≡ withRun t 0 → (Keeps : Bool → Type 0) → Keeps false → TakesCallStep one most at piece from s s Keeps block block′ out out r
+        → {t : Took} {r : StationTook} → t ≡ begunAs (at .reading) (at .reading .have + n) (from + n) → r ≡ withRun t 0 → (Keeps : Bool → Type 0) → Keeps false → TakesCallStep one most fit at piece from s s Keeps block block′ out out r
     fill-read h {n} {block′} f = bytes-read one at piece from s block out fits h n block′ f goes e
 
     pub call-read : 512 ≤ at .reading .have → {s′ : S} {Keeps : Bool → Type 0} {out′ : List ℕ} {r : StationTook} → CallStepped S (nextCall one (at .run) (wholeAt at block s)) true at from s′ Keeps out out′ r
-        → TakesCallStep one most at piece from s s′ Keeps block block out out′ r
+        → TakesCallStep one most fit at piece from s s′ Keeps block block out out′ r
     call-read h t = next-read one at piece from s block out fits h goes e t
 
 -- ---- steps come to an end
@@ -371,7 +377,7 @@ module _ {S : Type 0} (one : Doing S) (at : StationReading) (piece : List ℕ) (
   falls true f h {r = r} t = subst⁻¹ (λ (x : StationTook). ahead (x .reading) (length piece - x .next) < ahead at (length piece - from)) (t .answer) (step-falls (f refl) (h refl))
 
 -- a step that is due goes on
-pub moves-on : {S : Type 0} (one : Doing S) (most : ℕ) (piece : List ℕ) (s : S) {at : StationReading} {from : ℕ} {s′ : S} {Keeps : Bool → Type 0} {block block′ out out′ : List ℕ} {r : StationTook}
-    → TakesCallStep one most at piece from s s′ Keeps block block′ out out′ r → stepDue at from (length piece) ≡ true → ahead (r .reading) (length piece - r .next) < ahead at (length piece - from)
-moves-on one most piece s {at} {from} {block = block} {out = out} t due =
-    falls one at piece from s block due (goes one most at piece from s block out) (fits-block most (at .reading) block out) (fits-bytes most (at .reading) block out) (t .stepped .took)
+pub moves-on : {S : Type 0} (one : Doing S) (most : ℕ) (fit : Bool) (piece : List ℕ) (s : S) {at : StationReading} {from : ℕ} {s′ : S} {Keeps : Bool → Type 0} {block block′ out out′ : List ℕ} {r : StationTook}
+    → TakesCallStep one most fit at piece from s s′ Keeps block block′ out out′ r → stepDue at from (length piece) ≡ true → ahead (r .reading) (length piece - r .next) < ahead at (length piece - from)
+moves-on one most fit piece s {at} {from} {block = block} {out = out} t due =
+    falls one at piece from s block due (goes one most fit at piece from s block out) (fits-block most fit (at .reading) block out) (fits-bytes most fit (at .reading) block out) (t .stepped .took)

@@ -209,7 +209,7 @@ module _ {q : StationResult} {c : Call} {b b′ : StationBuffers} {events events
   rows-are : events′ ≡ map sentWords (q .events) ++ drop (length (q .events)) events
   rows-are = ap (λ (s : LentStation). s .events) (f .shows)
 
-  first-rows : take (o .events) events′ ≡ map sentWords (q .events)
+  pub first-rows : take (o .events) events′ ≡ map sentWords (q .events)
   first-rows =
       ap₂ (λ (n : ℕ) (es : List Row). take n es) (ap (λ (x : Outcome). x .events) told ∙ sym (length-map (q .events) sentWords)) rows-are
       ∙ take-append-seam (map sentWords (q .events)) (drop (length (q .events)) events)

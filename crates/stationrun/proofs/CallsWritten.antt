@@ -52,7 +52,7 @@ module _ {S M : Type 0} (one : Doing S) (tail : S → List ℕ) (at : M → Stat
   -- ---- a step
 
   module _ (most : ℕ) (m m′ : M) (piece : List ℕ) (from : ℕ) (out out′ : List ℕ) (r : StationTook) (Keeps : Bool → Type 0) (h : Fills m) (room : most ≤ length out)
-      (t : TakesCallStep one most (at m) piece from (shown m) (shown m′) Keeps (block m) (block m′) out out′ r) (next : at m′ ≡ r .reading)
+      (t : TakesCallStep one most true (at m) piece from (shown m) (shown m′) Keeps (block m) (block m′) out out′ r) (next : at m′ ≡ r .reading)
     where
       abbrev rest : List ℕ
       rest = drop from piece
@@ -104,7 +104,7 @@ module _ {S M : Type 0} (one : Doing S) (tail : S → List ℕ) (at : M → Stat
   -- ---- all pieces: where what is Ready is so after a step, and then the step and the end are as they are said to be
 
   module _ (most : ℕ) (Step : M → M → List ℕ → ℕ → List ℕ → List ℕ → StationTook → Type 0) (last : ℕ) (End : M → List ℕ → ℕ → List ℕ → Type 0) (Ready : M → Type 0) (Keeps : M → M → Bool → Type 0)
-      (does-step : (m m′ : M) (piece : List ℕ) (from : ℕ) (out out′ : List ℕ) (r : StationTook) → Ready m → Step m m′ piece from out out′ r → TakesCallStep one most (at m) piece from (shown m) (shown m′) (Keeps m m′) (block m) (block m′) out out′ r)
+      (does-step : (m m′ : M) (piece : List ℕ) (from : ℕ) (out out′ : List ℕ) (r : StationTook) → Ready m → Step m m′ piece from out out′ r → TakesCallStep one most true (at m) piece from (shown m) (shown m′) (Keeps m m′) (block m) (block m′) out out′ r)
       (stays : (m m′ : M) (changed : Bool) → Ready m → Keeps m m′ changed → Ready m′)
       (does-end : (m : M) (out out′ : List ℕ) (r : ℕ) → Ready m → last ≤ length out → End m out r out′ → take r out′ ≡ restLine (at m .reading) false ++ tail (shown m))
     where

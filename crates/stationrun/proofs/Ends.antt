@@ -1,4 +1,4 @@
--- The last lines of a station's run: the counters of each place, and the bytes that are held. Assumes nothing.
+-- The last lines of a station's run or report: the counters of a place, the bytes that are held, and all lines. Assumes nothing.
 use Prim.Native.Nat.{ℕ, _+_, _*_, _-_, _≤_, _<_, _^_}
 use native.Mathlib.Nat.{add-zero}
 use native.Mathlib.Omega.{arith}
@@ -39,7 +39,7 @@ use Rattle.stationcalls.specs.Own.{ownWordsOk, partOk}
 use Rattle.stationcalls.proofs.Placed.{at-part}
 use Rattle.stationcalls.proofs.Tested.{sound-is}
 use Rattle.stationrun.specs.StationRuns.{LentStation, stationBy}
-use Rattle.stationrun.specs.StationFiles.{slotLine, countedLines, slotBytes, slotsBytes, heldBytes, stationTail, lastStation}
+use Rattle.stationrun.specs.StationFiles.{slotLine, slotBytes, slotsBytes, stationBytes, heldBytes}
 
 -- ---- how long
 
@@ -166,32 +166,38 @@ module _ (b : StationBuffers) (events : List Row) where
         (λ y. sym (if-true _ _ y))
         (λ y. sym (if-false _ _ y ∙ if-false _ _ (sym (ap (λ (x : Bool). not x && soundStation b) y) ∙ sym e ∙ h)))
 
--- ---- the last lines
+-- ---- the last lines: that of a block that is not whole, a program's own, and the station's
 
-module _ (b : StationBuffers) (events : List Row) (at : Reading) (failed : Bool) (out : List ℕ) where
+module _ (most : ℕ) (b : StationBuffers) (events : List Row) (at : Reading) (failed : Bool) (own-lines out : List ℕ) where
   abbrev l : StationLengths
   l = stationLengthsOf b (length events)
 
-  pub no-last-room : length out < 1408 → PutLine 1408 (lastStation l at failed (stationBy b events)) 0 out 0 out
-  no-last-room h = no-room (lastStation l at failed (stationBy b events)) out 0 (lt-leb (0 + 1408) (length out) (omega arith))
+  abbrev station : ℕ → List ℕ
+  station n = stationLine (stationView b .next) (stationView b .lost) 0 n
 
-  pub short-last : stationShort l ≡ true → PutLine 1408 (lastStation l at failed (stationBy b events)) 0 out 0 out
-  unfolding lastStation
-  short-last e = subst⁻¹ (λ (t : List ℕ). PutLine 1408 t 0 out 0 out) (if-true [] (restLine at failed ++ stationTail (stationBy b events)) e) (blank 0 out)
+  abbrev lines : ℕ → List ℕ
+  lines n = restLine at failed ++ (own-lines ++ station n)
 
-  module _ (room : 1408 ≤ length out) {from : ℕ} {out₁ : List ℕ} (p : PutLine 128 (restLine at failed) 0 out from out₁) where
+  abbrev lasts : List ℕ
+  lasts = if stationShort l then [] else lines (stationBytes (stationBy b events))
+
+  pub no-last-room : length out < most → PutLine most lasts 0 out 0 out
+  no-last-room h = no-room lasts out 0 (lt-leb (0 + most) (length out) (omega arith))
+
+  pub short-last : stationShort l ≡ true → PutLine most lasts 0 out 0 out
+  short-last e = subst⁻¹ (λ (t : List ℕ). PutLine most t 0 out 0 out) (if-true [] (lines (stationBytes (stationBy b events))) e) (blank 0 out)
+
+  module _ (few : ℕ) (enough : few + 384 ≤ most) (room : most ≤ length out) {from : ℕ} {out₁ : List ℕ} (p : PutLine 128 (restLine at failed) 0 out from out₁) where
     first : Puts (restLine at failed) 0 out from out₁
     first = line-puts (omega (arith, room)) (rest-length at failed) p
 
-    pub counts-room : from + 1152 ≤ length out₁
-    counts-room = omega (arith, room, first .next, first .same, rest-length at failed)
+    pub lines-room : (n : ℕ) → n + 128 ≤ most → from + n ≤ length out₁
+    lines-room n h = omega (arith, room, h, first .next, first .same, rest-length at failed)
 
-    pub last-put : stationShort l ≡ false → {to : ℕ} {out₂ : List ℕ} → Puts (countedLines 0 (stationView b .slots)) from out₁ to out₂ × (to ≤ from + 1024)
-        → (n : ℕ) → n ≡ heldBytes l (stationBy b events)
-        → {r : ℕ} {out₃ : List ℕ} → PutLine 256 (stationLine (stationView b .next) (stationView b .lost) 0 n) to out₂ r out₃ → PutLine 1408 (lastStation l at failed (stationBy b events)) 0 out r out₃
-    unfolding lastStation stationTail
+    pub last-put : stationShort l ≡ false → {to : ℕ} {out₂ : List ℕ} → Puts own-lines from out₁ to out₂ × (to ≤ from + few)
+        → (n : ℕ) → n ≡ heldBytes l (stationBy b events) → {r : ℕ} {out₃ : List ℕ} → PutLine 256 (station n) to out₂ r out₃ → PutLine most lasts 0 out r out₃
     last-put e {to} {out₂} c n same {r} {out₃} s =
-        let own-line : Puts (stationLine (stationView b .next) (stationView b .lost) 0 n) to out₂ r out₃ = line-puts (omega (arith, room, first .next, first .same, rest-length at failed, c .0 .same, c .1)) (omega (arith, station-length (stationView b .next) (stationView b .lost) 0 n)) s in
-        subst⁻¹ (λ (t : List ℕ). PutLine 1408 t 0 out r out₃) (if-false [] (restLine at failed ++ stationTail (stationBy b events)) e)
-        (subst (λ (m : ℕ). PutLine 1408 (restLine at failed ++ (countedLines 0 (stationView b .slots) ++ stationLine (stationView b .next) (stationView b .lost) 0 m)) 0 out r out₃) (same ∙ if-false _ _ e)
-        (whole-line (le-leb (0 + 1408) (length out) (omega (arith, room))) ((then) first ((then) (c .0) own-line), omega (arith, first .next, rest-length at failed, c .1, own-line .next, station-length (stationView b .next) (stationView b .lost) 0 n))))
+        let own-line : Puts (station n) to out₂ r out₃ = line-puts (omega (arith, room, first .next, first .same, rest-length at failed, c .0 .same, c .1)) (omega (arith, station-length (stationView b .next) (stationView b .lost) 0 n)) s in
+        subst⁻¹ (λ (t : List ℕ). PutLine most t 0 out r out₃) (if-false [] (lines (stationBytes (stationBy b events))) e)
+        (subst (λ (m : ℕ). PutLine most (lines m) 0 out r out₃) (same ∙ if-false _ _ e)
+        (whole-line (le-leb (0 + most) (length out) (omega (arith, room))) ((then) first ((then) (c .0) own-line), omega (arith, first .next, rest-length at failed, c .1, own-line .next, station-length (stationView b .next) (stationView b .lost) 0 n))))

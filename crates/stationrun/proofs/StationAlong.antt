@@ -2,7 +2,7 @@
 use Prim.Native.Nat.{ℕ, _≤_}
 use native.Mathlib.Omega.{arith}
 use mathlib.Core.Path.{_≡_, refl, ap, _∙_, subst}
-use mathlib.Core.Bool.{Bool, false}
+use mathlib.Core.Bool.{Bool, true, false}
 use mathlib.Core.List.{List, _++_}
 use lib.ListN.{length, take, length-replicate, replicate}
 use Rattle.definition.specs.Layout.{Row}
@@ -44,8 +44,8 @@ abbrev Keeps : StationMidway → StationMidway → Bool → Type 0
 Keeps m m′ changed = StationKeeps changed (m .lent) (m′ .lent) (m .events) (m′ .events)
 
 does-step : (m m′ : StationMidway) (piece : List ℕ) (from : ℕ) (out out′ : List ℕ) (r : StationTook) → Ready m → StationSteps m m′ piece from out out′ r
-    → TakesCallStep one 623872 (m .at) piece from (shown m) (shown m′) (Keeps m m′) (m .block) (m′ .block) out out′ r
-does-step m m′ piece from out out′ r h t = subst (λ (l : StationLengths). TakesCallStep (stationCall l) 623872 (m .at) piece from (shown m) (shown m′) (Keeps m m′) (m .block) (m′ .block) out out′ r) h t
+    → TakesCallStep one 623872 true (m .at) piece from (shown m) (shown m′) (Keeps m m′) (m .block) (m′ .block) out out′ r
+does-step m m′ piece from out out′ r h t = subst (λ (l : StationLengths). TakesCallStep (stationCall l) 623872 true (m .at) piece from (shown m) (shown m′) (Keeps m m′) (m .block) (m′ .block) out out′ r) h t
 
 stays : (m m′ : StationMidway) (changed : Bool) → Ready m → Keeps m m′ changed → Ready m′
 stays m m′ changed h k = lengths-stay k ∙ h
@@ -58,11 +58,11 @@ does-end m out out′ r h room p =
 
 -- ---- from buffers of zeros, which hold `zeroStation`
 
-zero-shown : shown atOnset ≡ zeroStation
+pub zero-shown : shown atOnset ≡ zeroStation
 unfolding atOnset zeroStation stationView slotAt partFormed
 zero-shown = refl
 
-zero-ready : Ready atOnset
+pub zero-ready : Ready atOnset
 unfolding atOnset
 zero-ready = λ j. record { head = length-replicate {A = ℕ} 66776 0 j; subs = length-replicate {A = Row} 256 (replicate 16 0) j; rows = length-replicate {A = Row} 4096 (replicate 10 0) j; own = length-replicate {A = ℕ} 20 0 j; events = length-replicate {A = Row} 4872 (replicate 6 0) j }
 

@@ -91,10 +91,10 @@ pub record CallTakes (S : Type 0) (p : CallStep S) (goes : Bool) (at : StationRe
   pub stepped : CallStepped S p goes at from s′ Keeps out out′ r
   pub bytes : block′ ≡ blockAs goes (at .reading .have) rest block
 
--- on what is left of a piece from place `from` on
-abbrev pub TakesCallStep : {S : Type 0} → Doing S → ℕ → StationReading → List ℕ → ℕ → S → S → (Bool → Type 0) → List ℕ → List ℕ → List ℕ → List ℕ → StationTook → Type 0
-TakesCallStep {S} one most at piece from s s′ Keeps block block′ out out′ r =
-    let g = heeding (stepRoomy most (at .reading) block out) (stageAt (at .reading) block s) in
+-- on what is left of a piece from place `from` on; where the program's own buffers are not fit, as where there is no room, nothing is taken
+abbrev pub TakesCallStep : {S : Type 0} → Doing S → ℕ → Bool → StationReading → List ℕ → ℕ → S → S → (Bool → Type 0) → List ℕ → List ℕ → List ℕ → List ℕ → StationTook → Type 0
+TakesCallStep {S} one most fit at piece from s s′ Keeps block block′ out out′ r =
+    let g = heeding (fit && stepRoomy most (at .reading) block out) (stageAt (at .reading) block s) in
     CallTakes S (stepFile one (drop from piece) (at .run) g) (g .goesOn) at (drop from piece) from s′ Keeps block block′ out out′ r
 
 -- ---- the parts of a step

@@ -80,7 +80,7 @@ StationStepped p goes at from b b′ events events′ out out′ r = CallStepped
 -- and the block, on what is left of a piece from place `from` on
 abbrev pub StationTakesStep : StationReading → List ℕ → ℕ → StationBuffers → StationBuffers → List Row → List Row → List ℕ → List ℕ → List ℕ → List ℕ → StationTook → Type 0
 StationTakesStep at piece from b b′ events events′ block block′ out out′ r =
-    TakesCallStep (stationCall (stationLengthsOf b (length events))) 623872 at piece from (stationBy b events) (stationBy b′ events′) (λ changed. StationKeeps changed b b′ events events′) block block′ out out′ r
+    TakesCallStep (stationCall (stationLengthsOf b (length events))) 623872 true at piece from (stationBy b events) (stationBy b′ events′) (λ changed. StationKeeps changed b b′ events events′) block block′ out out′ r
 
 -- ---- the end
 

@@ -63,7 +63,7 @@ loop-less c =
     let k = c .before .before .before .before .before .before .before .before .before .before .before .before .before .before .before .run-station-step in
     let due : stepDue (l .at) (l .from) (length (now (a .piece))) ≡ true = sym (c .before .before .before .before .before .before .before .before .before .before .before .before .before .before .before .before .before .before .before .before .before .before .before .before .is-due .ensures) ∙ c .before .before .before .before .before .before .before .before .before .before .before .before .before .before .before .before .before .before .before .before .before .before .before .if1 .taken in
     let b = lentAll (l .heads) (l .subs) (l .rows) (l .own) in
-    moves-on (stationCall (stationLengthsOf b (length (l .events)))) 623872 (now (a .piece)) (stationBy b (l .events)) (k .ensures) due
+    moves-on (stationCall (stationLengthsOf b (length (l .events)))) 623872 true (now (a .piece)) (stationBy b (l .events)) (k .ensures) due
 
 loop-again : tie.Need-loop-again Inv-loop μ-loop
 loop-again c = search needs

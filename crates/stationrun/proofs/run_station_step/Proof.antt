@@ -28,7 +28,7 @@ returns : tie.Need-returns
 returns c = let a = c .before .before .before .before .before .before .before .before .before .before .args in
     let b = lentAll (now (a .heads)) (now (a .subs)) (now (a .rows)) (now (a .own)) in
     let v = now (a .events) in
-    not-read (stationCall (stationLengthsOf b (length v))) 623872 (a .at) (now (a .piece)) (a .from) (stationBy b v) (now (a .block)) (now (a .out)) (sym (c .before .before .before .goes .ensures) ∙ not-true _ (c .before .before .if1 .taken)) (c .before .unread .ensures) (c .with-run .ensures) (λ t. StationKeeps t b b v v) (keeps-all b v)
+    not-read (stationCall (stationLengthsOf b (length v))) 623872 true (a .at) (now (a .piece)) (a .from) (stationBy b v) (now (a .block)) (now (a .out)) (sym (c .before .before .before .goes .ensures) ∙ not-true _ (c .before .before .if1 .taken)) (c .before .unread .ensures) (c .with-run .ensures) (λ t. StationKeeps t b b v v) (keeps-all b v)
 
 fill-requires : tie.Need-fill-requires
 fill-requires c κs = search needs
@@ -37,7 +37,7 @@ add-have : tie.Need-add-have
 add-have c = let a = c .before .before .before .before .before .before .before .before .before .before .before .before .before .before .before .args in
     let b = lentAll (now (a .heads)) (now (a .subs)) (now (a .rows)) (now (a .own)) in
     let v = now (a .events) in
-    omega (arith, few-read (stationCall (stationLengthsOf b (length v))) 623872 (a .at) (now (a .piece)) (a .from) (stationBy b v) (now (a .block)) (now (a .out)) (sym (c .before .before .before .before .before .before .before .before .goes .ensures) ∙ not-false _ (c .before .before .before .before .before .before .before .if1 .left)) (c .before .before .before .before .before .if2 .taken) (c .before .before .before .fill .ensures))
+    omega (arith, few-read (stationCall (stationLengthsOf b (length v))) 623872 true (a .at) (now (a .piece)) (a .from) (stationBy b v) (now (a .block)) (now (a .out)) (sym (c .before .before .before .before .before .before .before .before .goes .ensures) ∙ not-false _ (c .before .before .before .before .before .before .before .if1 .left)) (c .before .before .before .before .before .if2 .taken) (c .before .before .before .fill .ensures))
 
 add-next : tie.Need-add-next
 add-next c = let a = c .before .before .before .before .before .before .before .before .before .before .before .before .before .before .before .args in
@@ -56,12 +56,12 @@ returns-2 : tie.Need-returns-2
 returns-2 c = let a = c .before .before .before .before .before .before .before .before .before .before .before .before .before .before .before .before .before .args in
     let b = lentAll (now (a .heads)) (now (a .subs)) (now (a .rows)) (now (a .own)) in
     let v = now (a .events) in
-    fill-read (stationCall (stationLengthsOf b (length v))) 623872 (a .at) (now (a .piece)) (a .from) (stationBy b v) (now (a .block)) (now (a .out)) (sym (c .before .before .before .before .before .before .before .before .before .before .goes .ensures) ∙ not-false _ (c .before .before .before .before .before .before .before .before .before .if1 .left)) (c .before .before .before .before .before .before .before .if2 .taken) (c .before .before .before .before .before .fill .ensures) (c .before .begun .ensures) (c .with-run2 .ensures) (λ t. StationKeeps t b b v v) (keeps-all b v)
+    fill-read (stationCall (stationLengthsOf b (length v))) 623872 true (a .at) (now (a .piece)) (a .from) (stationBy b v) (now (a .block)) (now (a .out)) (sym (c .before .before .before .before .before .before .before .before .before .before .goes .ensures) ∙ not-false _ (c .before .before .before .before .before .before .before .before .before .if1 .left)) (c .before .before .before .before .before .before .before .if2 .taken) (c .before .before .before .before .before .fill .ensures) (c .before .begun .ensures) (c .with-run2 .ensures) (λ t. StationKeeps t b b v v) (keeps-all b v)
 
 run-next-requires : tie.Need-run-next-requires
 run-next-requires c κs = let a = c .before .before .before .before .before .before .before .before .before .before .before .before .before .before .before .before .before .args in
     let e : (stepRoomy 623872 (a .at .reading) (now (a .block)) (now (a .out)) && a .at .reading .«goes_on») ≡ true = sym (c .before .before .before .before .before .before .before .before .before .before .goes .ensures) ∙ not-false _ (c .before .before .before .before .before .before .before .before .before .if1 .left) in
-    (fits-block 623872 (a .at .reading) (now (a .block)) (now (a .out)) e, text-room 623872 (a .at .reading) (now (a .block)) (now (a .out)) e)
+    (fits-block 623872 true (a .at .reading) (now (a .block)) (now (a .out)) e, text-room 623872 true (a .at .reading) (now (a .block)) (now (a .out)) e)
 
 same-length-2 : tie.Need-same-length-2
 same-length-2 c = search needs
@@ -88,7 +88,7 @@ returns-3 : tie.Need-returns-3
 returns-3 c = let a = c .before .before .before .before .before .before .before .before .before .before .before .before .before .before .before .before .before .before .before .before .before .before .before .before .before .before .before .args in
     let b = lentAll (now (a .heads)) (now (a .subs)) (now (a .rows)) (now (a .own)) in
     let v = now (a .events) in
-    call-read (stationCall (stationLengthsOf b (length v))) 623872 (a .at) (now (a .piece)) (a .from) (stationBy b v) (now (a .block)) (now (a .out)) (sym (c .before .before .before .before .before .before .before .before .before .before .before .before .before .before .before .before .before .before .before .before .goes .ensures) ∙ not-false _ (c .before .before .before .before .before .before .before .before .before .before .before .before .before .before .before .before .before .before .before .if1 .left)) (c .before .before .before .before .before .before .before .before .before .before .before .before .before .before .before .before .before .if2 .left) (c .before .before .before .before .before .before .before .before .before .run-next .ensures)
+    call-read (stationCall (stationLengthsOf b (length v))) 623872 true (a .at) (now (a .piece)) (a .from) (stationBy b v) (now (a .block)) (now (a .out)) (sym (c .before .before .before .before .before .before .before .before .before .before .before .before .before .before .before .before .before .before .before .before .goes .ensures) ∙ not-false _ (c .before .before .before .before .before .before .before .before .before .before .before .before .before .before .before .before .before .before .before .if1 .left)) (c .before .before .before .before .before .before .before .before .before .before .before .before .before .before .before .before .before .if2 .left) (c .before .before .before .before .before .before .before .before .before .run-next .ensures)
 
 pub run-station-step-spec : {M : Type 1} → statement M
 run-station-step-spec =

@@ -1,0 +1,14 @@
+pub mod Works
+pub mod Shown
+pub mod Came
+pub mod EachPlace
+pub mod Places
+pub mod Gathered
+pub mod Leaving
+pub mod LeftLines
+pub mod CalledTold
+pub mod FirstLines
+pub mod Noted
+pub mod StationBooks
+pub mod Reported
+pub mod ReportsAlong

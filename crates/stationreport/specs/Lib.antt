@@ -1,0 +1,5 @@
+pub mod StationReporting
+pub mod Gathering
+pub mod StationReportFiles
+pub mod StationReportBooks
+pub mod StationReportCases
