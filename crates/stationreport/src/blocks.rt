@@ -21,7 +21,7 @@ use stationcalls::Told;
 // ---- what is held
 
 // What the buffers of a place hold, put first in a list; how many blocks there are.
-pub fn held_at(
+pub(crate) fn held_at(
     heads: &[u64],
     subs: &[SubRow],
     rows: &[Row],
@@ -45,7 +45,7 @@ pub fn held_at(
 }
 
 // That of every place, each with 512 places of the list; and how many blocks each has.
-pub fn hold_all(
+pub(crate) fn hold_all(
     heads: &[u64],
     subs: &[SubRow],
     rows: &[Row],
@@ -67,7 +67,7 @@ pub fn hold_all(
 }
 
 // What a place holds, if it is a sound destination, put first in a list; how many blocks there are.
-pub fn shown_at(
+pub(crate) fn shown_at(
     heads: &[u64],
     subs: &[SubRow],
     rows: &[Row],
@@ -92,7 +92,13 @@ pub fn shown_at(
 }
 
 // How many blocks it holds in each way; none where there is no such place.
-pub fn ways_at(heads: &[u64], subs: &[SubRow], rows: &[Row], own: &[u64], number: u64) -> Ways
+pub(crate) fn ways_at(
+    heads: &[u64],
+    subs: &[SubRow],
+    rows: &[Row],
+    own: &[u64],
+    number: u64,
+) -> Ways
     requires { ⌜ Within 0 (now heads) (now subs) (now rows) × (20 ≤ length (now own)) ⌝ }
     ensures { λ r. ⌜ r ≡ waysOf (holdsAt number (stationBy (lentAll (now (heads .entry)) (now (subs .entry)) (now (rows .entry)) (now (own .entry))) [])) ⌝ }
 {
@@ -105,7 +111,13 @@ pub fn ways_at(heads: &[u64], subs: &[SubRow], rows: &[Row], own: &[u64], number
 }
 
 // Whether a number is that of an open queue.
-pub fn is_queue(heads: &[u64], subs: &[SubRow], rows: &[Row], own: &[u64], number: u64) -> bool
+pub(crate) fn is_queue(
+    heads: &[u64],
+    subs: &[SubRow],
+    rows: &[Row],
+    own: &[u64],
+    number: u64,
+) -> bool
     requires { ⌜ Within 0 (now heads) (now subs) (now rows) × (20 ≤ length (now own)) ⌝ }
     ensures { λ r. ⌜ r ≡ slotIsQueue (slotOf number (stationView (lentAll (now (heads .entry)) (now (subs .entry)) (now (rows .entry)) (now (own .entry))))) ⌝ }
 {
@@ -139,7 +151,7 @@ fn brought(j: u64, number: u64, code: u64, words: [u64; 8], list: &mut [Block]) 
 }
 
 // What came to a place in a call on the place of this number: its own block, and the letters that are stored there, by the first n rows of what is told.
-pub fn came_at(
+pub(crate) fn came_at(
     told: &[Told],
     n: usize,
     j: u64,
@@ -169,7 +181,7 @@ pub fn came_at(
 // ---- what left
 
 // What left a place, where n blocks were held before the call and m came: put first in a list; how many.
-pub fn leave_at(
+pub(crate) fn leave_at(
     heads: &[u64],
     subs: &[SubRow],
     rows: &[Row],

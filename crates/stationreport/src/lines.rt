@@ -26,7 +26,7 @@ use stationcalls::ToldOutcome;
 // ---- counts
 
 // The counts of a place, from their five words.
-pub fn gone_of(w: [u64; 5]) -> Gone
+pub(crate) fn gone_of(w: [u64; 5]) -> Gone
     ensures { λ r. ⌜ r ≡ goneByWords w ⌝ }
 {
     Gone {
@@ -56,7 +56,7 @@ fn sized(w: [u64; 5])
 {}
 
 // An account begins anew: that of the place of a number, or all.
-pub fn begin(gone: &mut [[u64; 5]], number: u64, all: bool)
+pub(crate) fn begin(gone: &mut [[u64; 5]], number: u64, all: bool)
     requires { ⌜ length (now gone) ≡ 8 ⌝ }
     ensures { λ _. ⌜ now (gone .exit) ≡ countsAnew number all 0 (now (gone .entry)) ⌝ }
 {
@@ -144,7 +144,7 @@ fn put_others(
 }
 
 // A call's own line, the other queues, what it brought, what was sent, and what became of its dead letters.
-pub fn put_first(
+pub(crate) fn put_first(
     heads: &[u64],
     subs: &[SubRow],
     rows: &[Row],
@@ -222,7 +222,7 @@ fn put_place_left(
 }
 
 // Those of all places.
-pub fn put_left(
+pub(crate) fn put_left(
     heads: &[u64],
     subs: &[SubRow],
     rows: &[Row],
