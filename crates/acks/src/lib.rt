@@ -13,7 +13,7 @@ use model::AckRange;
 use state::{Event, Head};
 
 // MessageAck: the type's byte, the first and the last number where they are given, whether a cause came with it.
-#[derive(Drop)]
+#[derive(Clone, Copy)]
 pub struct Ack {
     pub first: u64,
     pub last: u64,
@@ -25,7 +25,7 @@ pub struct Ack {
 }
 
 // The numbers from first to last, both included; none where last is below first.
-#[derive(Drop)]
+#[derive(Clone, Copy)]
 pub struct Span {
     pub first: u64,
     pub last: u64,

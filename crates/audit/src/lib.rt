@@ -5,7 +5,7 @@ ghost use Rattle.audit.specs.Audit.{audit_window, seen, ring_sound, new_audit, p
 
 // Where the oldest number stands in the window, and how many there are. Until the window is full the oldest stands at 0.
 #[repr(C)]
-#[derive(Drop)]
+#[derive(Clone, Copy)]
 pub struct Audit {
     pub start: usize,
     pub count: usize,
@@ -14,7 +14,7 @@ pub struct Audit {
 // What a check leaves: the refusal (0 none, 1 the window is short, 2 the audit is out of range), the audit, and whether
 // the number was there.
 #[repr(C)]
-#[derive(Drop)]
+#[derive(Clone, Copy)]
 pub struct Checked {
     pub refusal: u64,
     pub audit: Audit,

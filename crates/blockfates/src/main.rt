@@ -23,7 +23,7 @@ fn say_failed() {
 // ---- pieces
 
 // How far the file is read, what is kept, whether reading goes on, whether a read failed, and whether all was written.
-#[derive(Drop)]
+#[derive(Clone, Copy)]
 struct Next {
     at: Reading,
     kept: Kept,

@@ -9,7 +9,7 @@ const TIME_MOST: i64 = 4611686018427387904;
 const SETTING_MOST: i64 = 2305843009213693952;
 
 // 0, or 3 where a number is outside its range; whether the message is admitted; the flag.
-#[derive(Drop)]
+#[derive(Clone, Copy)]
 pub struct Admission {
     pub refusal: u64,
     pub admitted: bool,
@@ -71,14 +71,14 @@ pub fn admit_memory(limit: u64, limited: bool, used: u64, size: u64) -> Admissio
 }
 
 // What a message carries of time.
-#[derive(Drop)]
+#[derive(Clone, Copy)]
 pub struct Times {
     pub expiration: i64,
     pub timestamp: i64,
 }
 
 // The broker's settings for expirations.
-#[derive(Drop)]
+#[derive(Clone, Copy)]
 pub struct ExpiryOptions {
     pub default_ttl: i64,
     pub ttl_ceiling: i64,
@@ -86,7 +86,7 @@ pub struct ExpiryOptions {
 }
 
 // 0, or 3 where a number is outside its range; the message's times; whether it is not yet expired.
-#[derive(Drop)]
+#[derive(Clone, Copy)]
 pub struct Arrival {
     pub refusal: u64,
     pub expiration: i64,

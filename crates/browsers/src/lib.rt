@@ -11,7 +11,7 @@ use entry::Row;
 use state::{Event, Head};
 
 // What serving one browser leaves.
-#[derive(Drop)]
+#[derive(Clone, Copy)]
 struct Left {
     sub: Sub,
     head: Head,

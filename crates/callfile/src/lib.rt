@@ -21,7 +21,7 @@ pub const LINE: usize = 128;
 const UNKNOWN: u64 = 18446744073709551615;
 
 // How far a file is read: how many bytes of the next block are there, that block's number, the next call's index, and whether reading goes on.
-#[derive(Drop)]
+#[derive(Clone, Copy)]
 pub struct Reading {
     pub have: usize,
     pub number: u64,
@@ -30,7 +30,7 @@ pub struct Reading {
 }
 
 // After a step on a piece: how far the file is read, the place in the piece, and how many bytes of lines were written.
-#[derive(Drop)]
+#[derive(Clone, Copy)]
 pub struct Took {
     pub reading: Reading,
     pub next: usize,

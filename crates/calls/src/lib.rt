@@ -11,7 +11,7 @@ use entry::{ALLOWANCE_MOST, CALLS_MOST, Entry, SEQ_END, SHARE_MOST, SIZE_END};
 use model::Id;
 
 #[repr(C)]
-#[derive(Drop)]
+#[derive(Clone, Copy)]
 pub struct Call {
     pub code: u64,
     pub words: [u64; 8],

@@ -49,14 +49,14 @@ const MOST_DESTINATION: u64 = 72057594037927935;
 const AT: u8 = 64;
 
 // A line of text: what it is, and the call.
-#[derive(Drop)]
+#[derive(Clone, Copy)]
 pub struct Parsed {
     pub kind: u64,
     pub call: Call,
 }
 
 // A part of a line, from a place to another.
-#[derive(Drop)]
+#[derive(Clone, Copy)]
 pub struct Part {
     pub from: usize,
     pub to: usize,

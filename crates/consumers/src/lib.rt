@@ -35,7 +35,7 @@ const NUMBER_MOST: u64 = 72057594037927937;
 const RISING_MOST: u64 = 9223372036854775808;
 
 // The identifier is kept as its three words. `pull` is read where `pulling` is set.
-#[derive(Drop)]
+#[derive(Clone, Copy)]
 pub struct Sub {
     pub conn: u64,
     pub session: u64,

@@ -214,7 +214,7 @@ pub extern "C" fn destination_seq_at(
 
 // The refusal (0: answered) and the five counters.
 #[repr(C)]
-#[derive(Drop)]
+#[derive(Clone, Copy)]
 pub struct Counters {
     pub refusal: u64,
     pub enqueued: u64,

@@ -23,7 +23,7 @@ use model::{AckCount, AckEffect, AckRange, AckRule};
 use state::{Event, Head};
 
 // What an ack leaves of its consumer and of the destination.
-#[derive(Drop)]
+#[derive(Clone, Copy)]
 struct Acked {
     sub: Sub,
     head: Head,

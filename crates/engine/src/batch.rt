@@ -15,7 +15,7 @@ use state::Event;
 
 // How many calls were done, and how many events they have written.
 #[repr(C)]
-#[derive(Drop)]
+#[derive(Clone, Copy)]
 pub struct Done {
     pub calls: usize,
     pub events: usize,

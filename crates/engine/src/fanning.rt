@@ -11,14 +11,14 @@ use entry::{Entry, Row};
 use state::Head;
 
 // What goes of a consumer's held rows: those that have expired, and besides them those over the topic limit.
-#[derive(Drop)]
+#[derive(Clone, Copy)]
 struct Gone {
     expired: usize,
     over: usize,
 }
 
 // What a copy for one consumer leaves: the consumer, the rows in use, and what went.
-#[derive(Drop)]
+#[derive(Clone, Copy)]
 struct Copied {
     sub: Sub,
     used: usize,

@@ -31,7 +31,7 @@ use stats::Stats;
 
 // The refusal (0: accepted), the answer, how many events were written.
 #[repr(C)]
-#[derive(Drop)]
+#[derive(Clone, Copy)]
 pub struct Outcome {
     pub refusal: u64,
     pub answer: u64,

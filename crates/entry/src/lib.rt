@@ -35,7 +35,7 @@ pub const SIZE_END: u64 = 4294967296;
 
 const MOST_I32: i32 = 2147483647;
 
-#[derive(Drop)]
+#[derive(Clone, Copy)]
 pub struct Entry {
     pub seq: u64,
     pub expiration: i64,
@@ -47,7 +47,7 @@ pub struct Entry {
 }
 
 // Where something stands in a table, if it does.
-#[derive(Drop)]
+#[derive(Clone, Copy)]
 pub enum Found {
     At(usize),
     Nothing,

@@ -15,14 +15,14 @@ use entry::{Entry, Row};
 use state::{Answer, Event, Head};
 
 // The soonest expired entry that was met, if one was.
-#[derive(Drop)]
+#[derive(Clone, Copy)]
 struct Next {
     found: bool,
     entry: Entry,
 }
 
 // What sweeping a list leaves: the rows in use, the list's length, how many went.
-#[derive(Drop)]
+#[derive(Clone, Copy)]
 struct Swept {
     used: usize,
     length: usize,

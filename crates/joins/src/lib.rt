@@ -15,7 +15,7 @@ use model::Id;
 use state::{Event, Head};
 
 // What a consumer asks for. The identifier is kept as its three words.
-#[derive(Drop)]
+#[derive(Clone, Copy)]
 pub struct SubSpec {
     pub conn: u64,
     pub session: u64,

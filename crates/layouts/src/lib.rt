@@ -18,7 +18,7 @@ const LAST_SELECTOR: u64 = 63;
 
 // The refusal (0 none, 3 out of range, 12 a gap, 13 an overlap) and the answer: beside 12 and 13 the layout found.
 #[repr(C)]
-#[derive(Drop)]
+#[derive(Clone, Copy)]
 pub struct Checked {
     pub refusal: u64,
     pub answer: u64,

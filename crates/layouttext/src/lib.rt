@@ -16,14 +16,14 @@ use textwords::{Number, Stop};
 pub const ROOM: usize = 512;
 
 // A line of text: what it is, and the row.
-#[derive(Drop)]
+#[derive(Clone, Copy)]
 struct Parsed {
     kind: u64,
     row: LayoutRow,
 }
 
 // What ended the reading of a text, the number of that line, and how many rows there are.
-#[derive(Drop)]
+#[derive(Clone, Copy)]
 struct Read {
     kind: u64,
     line: u64,

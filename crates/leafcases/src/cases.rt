@@ -9,13 +9,13 @@ use entry::Entry;
 use stats::more_of;
 use words::{int_of, is_int, signed_of, word_of, word_of_int};
 
-#[derive(Drop)]
+#[derive(Clone, Copy)]
 pub(crate) struct Count {
     pub cases: u64,
     pub differ: u64,
 }
 
-#[derive(Drop)]
+#[derive(Clone, Copy)]
 pub(crate) struct Counts {
     pub expired: Count,
     pub redelivered: Count,
@@ -28,7 +28,7 @@ pub(crate) struct Counts {
 
 // Where the run stands: the audit of the cases, the lines so far, how many were named, the bytes of the line, whether it was
 // cut, and whether there is more to read.
-#[derive(Drop)]
+#[derive(Clone, Copy)]
 pub(crate) struct Run {
     pub counts: Counts,
     pub audit: Audit,
@@ -40,7 +40,7 @@ pub(crate) struct Run {
 }
 
 // What a line showed, and the audit after it.
-#[derive(Drop)]
+#[derive(Clone, Copy)]
 pub(crate) struct Tested {
     pub audit: Audit,
     pub same: bool,

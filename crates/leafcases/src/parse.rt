@@ -4,21 +4,21 @@ ghost use Rattle.leafcases.specs.Parse.{next_digit, digits_of, positive, negativ
 
 use words::word_of;
 
-#[derive(Drop)]
+#[derive(Clone, Copy)]
 pub(crate) enum Number {
     Value(i64),
     Bad,
 }
 
 // The digits of a number, without its sign.
-#[derive(Drop)]
+#[derive(Clone, Copy)]
 pub(crate) enum Digits {
     Value(u64),
     Bad,
 }
 
 // Functions, and what begins an audit.
-#[derive(Drop)]
+#[derive(Clone, Copy)]
 pub(crate) enum Kind {
     Expired,
     Redelivered,
@@ -35,14 +35,14 @@ const MOST: usize = 9;
 // The greatest number that one more digit may follow: ten times the next is past 2^63.
 const FULL: u64 = 922337203685477580;
 
-#[derive(Drop)]
+#[derive(Clone, Copy)]
 pub(crate) struct Line {
     pub values: [u64; 9],
     pub kind: Kind,
 }
 
 // The numbers of a line, as words that hold them.
-#[derive(Drop)]
+#[derive(Clone, Copy)]
 pub(crate) struct Values {
     pub values: [u64; 9],
     pub count: usize,

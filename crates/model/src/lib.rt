@@ -4,7 +4,7 @@ ghost use Rattle.model.specs.Model.{new_id, id_of, same_id, ack_type, ack_rule};
 ghost use Rattle.model.specs.Packed.{rule_place, range_of, effect_of, count_of, unpacked};
 
 // ConsumerId and ProducerId: the host's numbers for their texts, one to one.
-#[derive(Drop)]
+#[derive(Clone, Copy)]
 pub struct Id {
     pub conn: u64,
     pub session: i64,
@@ -47,7 +47,7 @@ impl Id {
     }
 }
 
-#[derive(Drop)]
+#[derive(Clone, Copy)]
 pub enum AckType {
     Delivered,
     Poison,
@@ -110,7 +110,7 @@ impl AckType {
 }
 
 // Which entries an ack means: none, those from its first to its last, all up to its last, its last alone.
-#[derive(Drop)]
+#[derive(Clone, Copy)]
 pub enum AckRange {
     Empty,
     Between,
@@ -133,7 +133,7 @@ impl AckRange {
 
 // What becomes of such an entry in flight: it stays, is freed, is freed and marked as acknowledged in a transaction,
 // is removed, or counts one more redelivery.
-#[derive(Drop)]
+#[derive(Clone, Copy)]
 pub enum AckEffect {
     Stays,
     Frees,
@@ -157,7 +157,7 @@ impl AckEffect {
 }
 
 // What a removed entry counts as; a dead letter that is not persistent is discarded.
-#[derive(Drop)]
+#[derive(Clone, Copy)]
 pub enum AckCount {
     Uncounted,
     Dequeue,
@@ -179,7 +179,7 @@ impl AckCount {
 }
 
 // What an ack of some type does.
-#[derive(Drop)]
+#[derive(Clone, Copy)]
 pub struct AckRule {
     // Of a present consumer, outside a transaction.
     pub range: AckRange,

@@ -24,7 +24,7 @@ pub const NOTHING: u64 = 1;
 
 pub const FAILED: u64 = 2;
 
-#[derive(Drop)]
+#[derive(Clone, Copy)]
 pub struct Source {
     pub fd: i32,
     pub how: u64,

@@ -21,7 +21,7 @@ pub const PAGE_MAX: usize = 50;
 
 // The refusal (0: answered) and the answer.
 #[repr(C)]
-#[derive(Drop)]
+#[derive(Clone, Copy)]
 pub struct Asked {
     pub refusal: u64,
     pub answer: u64,
@@ -29,7 +29,7 @@ pub struct Asked {
 
 // The refusal and the counters, 0 beside a refusal.
 #[repr(C)]
-#[derive(Drop)]
+#[derive(Clone, Copy)]
 pub struct Counted {
     pub refusal: u64,
     pub stats: Stats,
@@ -37,7 +37,7 @@ pub struct Counted {
 
 // The refusal, how many entries wait, and the rows of a page's lines: `count` of them from row `from` on. Beside a refusal the others are 0.
 #[repr(C)]
-#[derive(Drop)]
+#[derive(Clone, Copy)]
 pub struct PagePlan {
     pub refusal: u64,
     pub total: u64,
@@ -47,7 +47,7 @@ pub struct PagePlan {
 
 // The refusal, how many entries wait, and how many lines were written.
 #[repr(C)]
-#[derive(Drop)]
+#[derive(Clone, Copy)]
 pub struct Paged {
     pub refusal: u64,
     pub total: u64,
@@ -56,7 +56,7 @@ pub struct Paged {
 
 // A line of a page.
 #[repr(C)]
-#[derive(Drop)]
+#[derive(Clone, Copy)]
 pub struct PageLine {
     pub seq: u64,
     pub expiration: i64,

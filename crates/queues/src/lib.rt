@@ -18,7 +18,7 @@ const NEXT_MOST: u64 = 4611686018427387904;
 const RISING_MOST: u64 = 9223372036854775296;
 
 // What a look along the waiting rows leaves: whether an entry was chosen, where it stands, where the rows in use end, and the cursor.
-#[derive(Drop)]
+#[derive(Clone, Copy)]
 struct Looked {
     chosen: bool,
     at: usize,
@@ -27,7 +27,7 @@ struct Looked {
 }
 
 // A consumer's turn in the scan: how many entries it took, none or one, and what that leaves.
-#[derive(Drop)]
+#[derive(Clone, Copy)]
 struct Turn {
     took: usize,
     head: Head,

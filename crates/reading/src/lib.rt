@@ -13,7 +13,7 @@ pub const FAILED: u64 = 2;
 pub const AGAIN: u64 = 3;
 
 // How many bytes stand in the buffer, and how the reading ended.
-#[derive(Drop)]
+#[derive(Clone, Copy)]
 pub struct Got {
     pub n: usize,
     pub how: u64,

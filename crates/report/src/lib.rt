@@ -44,7 +44,7 @@ pub const LEFT_MOST: usize = 513;
 
 // The refusal (0: accepted), the answer, how many events were written, how many blocks are held, and how many left.
 #[repr(C)]
-#[derive(Drop)]
+#[derive(Clone, Copy)]
 pub struct Noted {
     pub refusal: u64,
     pub answer: u64,
@@ -55,7 +55,7 @@ pub struct Noted {
 
 // The refusal (0: listed), and how many blocks there are, 0 beside a refusal.
 #[repr(C)]
-#[derive(Drop)]
+#[derive(Clone, Copy)]
 pub struct Listed {
     pub refusal: u64,
     pub count: usize,
@@ -316,7 +316,7 @@ fn copy(from: &[Block], n: usize, out: &mut [Block])
 }
 
 // How many are held, and how many left.
-#[derive(Drop)]
+#[derive(Clone, Copy)]
 struct Moved {
     held: usize,
     left: usize,

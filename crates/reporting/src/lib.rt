@@ -24,28 +24,28 @@ pub const TEXT: usize = 949760;
 pub const LAST: usize = 33280;
 
 // How many places of the list of blocks are in use, and how many blocks are gone since the latest accepted open.
-#[derive(Drop)]
+#[derive(Clone, Copy)]
 pub struct Kept {
     pub count: usize,
     pub gone: Gone,
 }
 
 // The place after a call's lines, and what is kept.
-#[derive(Drop)]
+#[derive(Clone, Copy)]
 struct Noticed {
     next: usize,
     kept: Kept,
 }
 
 // What ran, and what is kept.
-#[derive(Drop)]
+#[derive(Clone, Copy)]
 struct Reported {
     ran: Ran,
     kept: Kept,
 }
 
 // After a step on a piece: what was taken, and what is kept.
-#[derive(Drop)]
+#[derive(Clone, Copy)]
 pub struct Heard {
     pub took: Took,
     pub kept: Kept,

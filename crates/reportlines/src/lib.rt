@@ -8,7 +8,7 @@ ghost use Rattle.reportlines.specs.ReportLines.{ways_fields, turn_line, join_lin
 use calls::Call;
 
 // How many blocks wait, are in flight and are reserved.
-#[derive(Drop)]
+#[derive(Clone, Copy)]
 pub struct Ways {
     pub waiting: u64,
     pub flying: u64,
@@ -16,7 +16,7 @@ pub struct Ways {
 }
 
 // How many are gone, up to the largest word: to each of five places.
-#[derive(Drop)]
+#[derive(Clone, Copy)]
 pub struct Gone {
     pub dequeued: u64,
     pub expired: u64,

@@ -20,7 +20,7 @@ fn say_failed() {
 // ---- pieces
 
 // How far the file is read, whether reading goes on, whether a read failed, and whether all was written.
-#[derive(Drop)]
+#[derive(Clone, Copy)]
 struct Next {
     at: Reading,
     goes_on: bool,

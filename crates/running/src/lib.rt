@@ -21,7 +21,7 @@ pub const TEXT: usize = 489216;
 const LAST: usize = 256;
 
 // The index of the next call, how many bytes of lines were written, and whether reading goes on.
-#[derive(Drop)]
+#[derive(Clone, Copy)]
 pub struct Ran {
     pub index: u64,
     pub written: usize,

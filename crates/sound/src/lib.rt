@@ -375,7 +375,7 @@ fn apart(
 // ---- sizes
 
 // Where the rows of one consumer end, and how many they are.
-#[derive(Drop)]
+#[derive(Clone, Copy)]
 struct Span {
     end: usize,
     many: usize,

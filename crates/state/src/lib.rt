@@ -39,7 +39,7 @@ const MESSAGE: u64 = 2;
 const NULL: u64 = 3;
 
 // What a call carries: the head's first words and its last two, the rows in use, and the events sent so far.
-#[derive(Drop)]
+#[derive(Clone, Copy)]
 pub struct Head {
     pub topic_limit: u64,
     pub call_limit: u64,
@@ -186,7 +186,7 @@ fn kind_word(queue: bool) -> u64
 }
 
 // What a call leaves: its refusal (0: accepted), its answer, and the numbers.
-#[derive(Drop)]
+#[derive(Clone, Copy)]
 pub struct Answer {
     pub refusal: u64,
     pub answer: u64,

@@ -38,7 +38,7 @@ const HOPS: usize = 8;
 const NOWHERE: u64 = 8;
 
 // What running dead letters leaves: how many events there are now, the lost count, and where the last letter is stored.
-#[derive(Drop)]
+#[derive(Clone, Copy)]
 struct Ran {
     sent: usize,
     lost: u64,
@@ -46,7 +46,7 @@ struct Ran {
 }
 
 // What numbering dead letters leaves: how many have got a number, the next number, and the lost count.
-#[derive(Drop)]
+#[derive(Clone, Copy)]
 struct Given {
     many: usize,
     next: u64,

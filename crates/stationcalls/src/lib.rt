@@ -253,7 +253,7 @@ fn enqueue(
 
 // The refusal (0: accepted), the answer, how many events were written, and how many dead letters there are.
 #[repr(C)]
-#[derive(Drop)]
+#[derive(Clone, Copy)]
 pub struct ToldOutcome {
     pub refusal: u64,
     pub answer: u64,
@@ -510,7 +510,7 @@ pub fn expired_before_storing(
 
 // The refusal (0: answered), the next number and the lost count, 0 beside a refusal.
 #[repr(C)]
-#[derive(Drop)]
+#[derive(Clone, Copy)]
 pub struct OwnNumbers {
     pub refusal: u64,
     pub next: u64,

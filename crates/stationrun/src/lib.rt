@@ -26,14 +26,14 @@ const LAST: usize = 1408;
 pub const START: u64 = 16;
 
 // How far a file is read, and how many calls of a block that is whole are run.
-#[derive(Drop)]
+#[derive(Clone, Copy)]
 pub struct StationReading {
     pub reading: Reading,
     pub run: usize,
 }
 
 // After a step: the reading, the place in the piece after what is used up, and how many bytes of lines were written.
-#[derive(Drop)]
+#[derive(Clone, Copy)]
 pub struct StationTook {
     pub reading: StationReading,
     pub next: usize,

@@ -259,7 +259,7 @@ fn ids_apart(subs: &[SubRow], n: usize) -> bool
 // ---- all
 
 // How many rows the consumers have, 513 for more than 512 or for too few consumers; and whether all is sound.
-#[derive(Drop)]
+#[derive(Clone, Copy)]
 pub struct Look {
     pub others: usize,
     pub ok: bool,

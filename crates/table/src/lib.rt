@@ -211,7 +211,7 @@ pub fn has_seq(rows: &[Row], from: usize, to: usize, seq: u64) -> bool
 }
 
 // How many rows were removed, and how many of these were freed.
-#[derive(Drop)]
+#[derive(Clone, Copy)]
 pub struct Removed {
     pub rows: usize,
     pub freed: usize,

@@ -5,7 +5,7 @@ use texting::Bad;
 
 // What is carried from part to part: the bytes of the last line so far, the number of the next line, the calls in the block, whether a line was bad,
 // whether the output could not be written, and whether there is more to read.
-#[derive(Drop)]
+#[derive(Clone, Copy)]
 struct Work {
     have: usize,
     line: u64,

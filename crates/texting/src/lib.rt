@@ -21,14 +21,14 @@ pub const MESSAGE: usize = 192;
 const CUT: usize = 40;
 
 // How many calls a block has, and the place in the text after the lines that were taken.
-#[derive(Drop)]
+#[derive(Clone, Copy)]
 pub struct Filled {
     pub count: usize,
     pub at: usize,
 }
 
 // A bad line: its kind and number, where it stands in the text, and the place after it. Kind 0: no line is bad, and the number is that of the next line.
-#[derive(Drop)]
+#[derive(Clone, Copy)]
 pub struct Bad {
     pub kind: u64,
     pub line: u64,

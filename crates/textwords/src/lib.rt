@@ -16,7 +16,7 @@ const REMARK: u8 = 35;
 const MINUS: u8 = 45;
 
 // What a scan stops at: what parts words, a word, a remark, the end of a line.
-#[derive(Drop)]
+#[derive(Clone, Copy)]
 pub enum Stop {
     Blank,
     Word,
@@ -25,7 +25,7 @@ pub enum Stop {
 }
 
 // A word of text as a number of 64 bits.
-#[derive(Drop)]
+#[derive(Clone, Copy)]
 pub enum Number {
     Of(u64),
     Bad,

@@ -11,7 +11,7 @@ use entry::Row;
 use state::{Event, Head};
 
 // What serving one consumer leaves.
-#[derive(Drop)]
+#[derive(Clone, Copy)]
 struct Served {
     sub: Sub,
     head: Head,

@@ -19,8 +19,8 @@ use Rattle.definition.proofs.Sound.{facts}
 use Rattle.definition.proofs.Made.{call-accepted}
 use Rattle.definition.proofs.Kept.{Accepted, accepted}
 use Rattle.words.proofs.Tests.{eqb_comm}
-use Rattle.bytes.specs.Claims.{has_copy, sized, BytesMove, SizesStay}
-use Rattle.bytes.proofs.Rows.{mapped, Flies, Kept, Mine, Holds, Brings, performs}
+use Rattle.held_bytes.specs.Claims.{has_copy, sized, BytesMove, SizesStay}
+use Rattle.held_bytes.proofs.Rows.{mapped, Flies, Kept, Mine, Holds, Brings, performs}
 
 -- ---- one number taken out
 
