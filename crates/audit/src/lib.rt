@@ -1,5 +1,7 @@
 // Duplicate detection for one producer (`Audit` of destination.rs): the last 1,024 numbers, in a lent window.
 // The functions named `audit_..` are the same for C, and include/audit.h describes them.
+#![tactic(auto)]
+
 ghost use Rattle.std.specs.Prelude.{◌≡◌, ◌≤◌, length, take};
 ghost use Rattle.audit.specs.Audit.{audit_window, seen, ring_sound, new_audit, place, ring_next, CheckedAndRecorded};
 

@@ -1,4 +1,6 @@
 // Two functions of mod.rs: the memory limit, and what becomes of an expiration on arrival.
+#![tactic(auto)]
+
 ghost use Rattle.std.specs.Prelude.{◌≡◌, true, ◌≤◌};
 ghost use Rattle.broker.specs.Broker.{memory_most, time_most, setting_most, below_nine_tenths, room_for, admit_memory, from_zero_to, Positive, times_in_range, settings_in_range, times_and_settings_ok, ttl, rebased, base_of, stamp, defaulted, capped, times_expired, apply_expiry_options};
 

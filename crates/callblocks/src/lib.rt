@@ -1,4 +1,5 @@
 // Writing blocks of the call file.
+#![tactic(auto)]
 ghost use Rattle.std.specs.Prelude.{◌≡◌, ◌+◌, ◌%◌, ◌≤◌};
 ghost use Rattle.callfile.specs.Placed.{Puts};
 ghost use Rattle.callblocks.specs.Packed.{low_bytes, word_bytes, with_call, sealed};

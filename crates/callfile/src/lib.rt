@@ -1,4 +1,5 @@
 // The call file: blocks of 512 bytes, and the lines that a run prints.
+#![tactic(auto)]
 ghost use Rattle.std.specs.Prelude.{◌≡◌, [], ◌∷◌, ◌+◌, ◌*◌, ◌≤◌, ◌<◌, ◌^◌, leb, length, take, drop};
 ghost use Rattle.words.specs.Words.{signed};
 ghost use Rattle.model.specs.Model.{id_of};

@@ -1,4 +1,5 @@
 // Copies of one entry among rows: whether they agree on its size (document 02 §3), and whether there may be any.
+#![tactic(auto)]
 ghost use Rattle.std.specs.Prelude.{◌≡◌, true, map, ◌≤◌, length, take, leb};
 ghost use Rattle.std.proofs.Math.Seq.{slice};
 ghost use Rattle.words.specs.Pick.{if◌then◌else◌};

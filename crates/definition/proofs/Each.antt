@@ -92,7 +92,7 @@ abbrev pub renewed : ℕ → Stats → List Sub → List Entry → List Held →
 renewed r c l p h i t = with_rr r (with_stats c (with_subs l (with_pending p (with_reserved h (with_idle i t)))))
 
 pub frame-renewed : (L U r : ℕ) (c : Stats) (l : List Sub) (p : List Entry) (h : List Held) (i : Option ℕ) (t : Dest) → Frame L U t → all (λ h. id_ok h.holder) h ≡ true → optional clock_ok i ≡ true → Frame L U (renewed r c l p h i t)
-frame-renewed L U r c l p h i t f a b = record { limit = f.limit; used = f.used; topic-limit = f.topic-limit; allowance = f.allowance; share-low = f.share-low; share-high = f.share-high; few-producers = f.few-producers; producers = f.producers; few-audits = f.few-audits; audits = f.audits; holders = a; mark = b }
+frame-renewed L U r c l p h i t f a b = record { limit = f.limit; used = f.used; topic_limit = f.topic_limit; allowance = f.allowance; share-low = f.share-low; share-high = f.share-high; few-producers = f.few-producers; producers = f.producers; few-audits = f.few-audits; audits = f.audits; holders = a; mark = b }
 
 pub agree_less : (t u : Dest) → Agree t → ((f : Entry → ℕ) → Tame f → rows_sum f u ≤ rows_sum f t) → Agree u
 agree_less t u h r = λ x. let z = h x in (z.0, omega (arith, z.1, r (odd x z.0) (odd-tame x z.0)))

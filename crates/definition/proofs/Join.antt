@@ -95,7 +95,7 @@ module _ (L U : ℕ) (k : Kind) where
       Fine L U k N (with_subs (t.subs ++ v ∷ []) t)
   more-fine N t v g y n d r c w = record {
     kind = g.kind;
-    frame = record { limit = g.frame.limit; used = g.frame.used; topic-limit = g.frame.topic-limit; allowance = g.frame.allowance; share-low = g.frame.share-low; share-high = g.frame.share-high; few-producers = g.frame.few-producers; producers = g.frame.producers; few-audits = g.frame.few-audits; audits = g.frame.audits; holders = g.frame.holders; mark = g.frame.mark };
+    frame = record { limit = g.frame.limit; used = g.frame.used; topic_limit = g.frame.topic_limit; allowance = g.frame.allowance; share-low = g.frame.share-low; share-high = g.frame.share-high; few-producers = g.frame.few-producers; producers = g.frame.producers; few-audits = g.frame.few-audits; audits = g.frame.audits; holders = g.frame.holders; mark = g.frame.mark };
     few-subs = omega (arith, n, length-append t.subs (v ∷ []));
     subs = all_more (Sane k N) t.subs v g.subs y;
     ids = ids_more t.subs v g.ids d;

@@ -61,7 +61,7 @@ tables p a i t = with_producers p (with_audits a (with_idle i t))
 
 tables-fine : (L U : ℕ) (k : Kind) (N : ℕ) (t : Dest) (p : List Id) (a : List Audit) (i : Option ℕ) → Fine L U k N t → leb (length p) 32 ≡ true → all id_ok p ≡ true → leb (length a) 8 ≡ true → all audit_ok a ≡ true → optional clock_ok i ≡ true → Fine L U k N (tables p a i t)
 tables-fine L U k N t p a i g b c d e m = fine-from L U k N N t (tables p a i t) g g.kind refl
-    (record { limit = g.frame.limit; used = g.frame.used; topic-limit = g.frame.topic-limit; allowance = g.frame.allowance; share-low = g.frame.share-low; share-high = g.frame.share-high; few-producers = b; producers = c; few-audits = d; audits = e; holders = g.frame.holders; mark = m })
+    (record { limit = g.frame.limit; used = g.frame.used; topic_limit = g.frame.topic_limit; allowance = g.frame.allowance; share-low = g.frame.share-low; share-high = g.frame.share-high; few-producers = b; producers = c; few-audits = d; audits = e; holders = g.frame.holders; mark = m })
     g.few-subs g.subs g.ids (λ f w. omega arith) (λ q f w. omega arith) (once-topic k t g.once) g.sorted g.turn g.counters
 
 fewer : {A : Type 0} (p : A → Bool) (l : List A) (n : ℕ) → leb (length l) n ≡ true → leb (length (keep p l)) n ≡ true
@@ -212,7 +212,7 @@ open-sound k topic_limit call_limit now allowance share h =
       limit-low = f.1.0;
       limit-high = f.1.1.0;
       calls = le-leb 0 call_limit (omega arith);
-      topic-limit = f.0;
+      topic_limit = f.0;
       few-subs = refl;
       few-producers = refl;
       producers = refl;

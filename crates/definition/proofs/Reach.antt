@@ -68,7 +68,7 @@ module _ (L U : ℕ) where
   insert-fine : (N : ℕ) (e : Entry) (t : Dest) → Fine L U queue N t → entry_ok e ≡ true → rows_sum one t + 1 ≤ 512 → rows_sum (occ e.seq) t ≤ 0 → queue_sum (from e.producer) t + 1 ≤ t.share → Fine L U queue N (with_pending (insert e t.pending) t)
   insert-fine N e t g h r o q = record {
     kind = g.kind;
-    frame = record { limit = g.frame.limit; used = g.frame.used; topic-limit = g.frame.topic-limit; allowance = g.frame.allowance; share-low = g.frame.share-low; share-high = g.frame.share-high; few-producers = g.frame.few-producers; producers = g.frame.producers; few-audits = g.frame.few-audits; audits = g.frame.audits; holders = g.frame.holders; mark = g.frame.mark };
+    frame = record { limit = g.frame.limit; used = g.frame.used; topic_limit = g.frame.topic_limit; allowance = g.frame.allowance; share-low = g.frame.share-low; share-high = g.frame.share-high; few-producers = g.frame.few-producers; producers = g.frame.producers; few-audits = g.frame.few-audits; audits = g.frame.audits; holders = g.frame.holders; mark = g.frame.mark };
     few-subs = g.few-subs;
     subs = g.subs;
     ids = g.ids;
@@ -208,7 +208,7 @@ module _ (L U : ℕ) where
       let n : length (fan_out_all now t.topic_limit e t.subs).subs ≡ length t.subs = sym (length-map (fan_out_all now t.topic_limit e t.subs).subs (λ s. s.id)) ∙ ap length p.ids ∙ length-map t.subs (λ s. s.id) in
       record {
         kind = g.kind;
-        frame = record { limit = g.frame.limit; used = g.frame.used; topic-limit = g.frame.topic-limit; allowance = g.frame.allowance; share-low = g.frame.share-low; share-high = g.frame.share-high; few-producers = g.frame.few-producers; producers = g.frame.producers; few-audits = g.frame.few-audits; audits = g.frame.audits; holders = g.frame.holders; mark = g.frame.mark };
+        frame = record { limit = g.frame.limit; used = g.frame.used; topic_limit = g.frame.topic_limit; allowance = g.frame.allowance; share-low = g.frame.share-low; share-high = g.frame.share-high; few-producers = g.frame.few-producers; producers = g.frame.producers; few-audits = g.frame.few-audits; audits = g.frame.audits; holders = g.frame.holders; mark = g.frame.mark };
         few-subs = omega (arith, n, g.few-subs);
         subs = all_map (Sane topic N) (Sane topic (N + 1024)) (fan_out_all now t.topic_limit e t.subs).subs (λ s. sane-more topic N (N + 1024) s (omega arith)) p.sane;
         ids = ids-same t.subs (fan_out_all now t.topic_limit e t.subs).subs p.ids ∙ g.ids;

@@ -80,7 +80,7 @@ pub record Facts (t : Dest) : Type 0 where
   pub limit-low : leb 1 t.call_limit ≡ true
   pub limit-high : leb t.call_limit (2 ^ 40) ≡ true
   pub calls : leb t.calls_used t.call_limit ≡ true
-  pub topic-limit : leb t.topic_limit 512 ≡ true
+  pub topic_limit : leb t.topic_limit 512 ≡ true
   pub few-subs : leb (length t.subs) 32 ≡ true
   pub few-producers : leb (length t.producers) 32 ≡ true
   pub producers : all id_ok t.producers ≡ true
@@ -106,11 +106,11 @@ pub facts : (t : Dest) → sound t ≡ true → Facts t
 unfolding sound
 facts t e =
     let f = every-all (sound_tests t) e in
-    record { limit-low = f.0; limit-high = f.1.0; calls = f.1.1.0; topic-limit = f.1.1.1.0; few-subs = f.1.1.1.1.0; few-producers = f.1.1.1.1.1.0; producers = f.1.1.1.1.1.1.0; few-rows = f.1.1.1.1.1.1.1.0; entries = f.1.1.1.1.1.1.1.1.0; holders = f.1.1.1.1.1.1.1.1.1.0; sorted = f.1.1.1.1.1.1.1.1.1.1.0; consumers = f.1.1.1.1.1.1.1.1.1.1.1.0; ids = f.1.1.1.1.1.1.1.1.1.1.1.1.0; places = f.1.1.1.1.1.1.1.1.1.1.1.1.1.0; turn = f.1.1.1.1.1.1.1.1.1.1.1.1.1.1.0; counters = f.1.1.1.1.1.1.1.1.1.1.1.1.1.1.1.0; mark = f.1.1.1.1.1.1.1.1.1.1.1.1.1.1.1.1.0; few-audits = f.1.1.1.1.1.1.1.1.1.1.1.1.1.1.1.1.1.0; audits = f.1.1.1.1.1.1.1.1.1.1.1.1.1.1.1.1.1.1.0; allowance = f.1.1.1.1.1.1.1.1.1.1.1.1.1.1.1.1.1.1.1.0; sizes = f.1.1.1.1.1.1.1.1.1.1.1.1.1.1.1.1.1.1.1.1.0; share-low = f.1.1.1.1.1.1.1.1.1.1.1.1.1.1.1.1.1.1.1.1.1.0; share-high = f.1.1.1.1.1.1.1.1.1.1.1.1.1.1.1.1.1.1.1.1.1.1.0; shares = f.1.1.1.1.1.1.1.1.1.1.1.1.1.1.1.1.1.1.1.1.1.1.1.0 }
+    record { limit-low = f.0; limit-high = f.1.0; calls = f.1.1.0; topic_limit = f.1.1.1.0; few-subs = f.1.1.1.1.0; few-producers = f.1.1.1.1.1.0; producers = f.1.1.1.1.1.1.0; few-rows = f.1.1.1.1.1.1.1.0; entries = f.1.1.1.1.1.1.1.1.0; holders = f.1.1.1.1.1.1.1.1.1.0; sorted = f.1.1.1.1.1.1.1.1.1.1.0; consumers = f.1.1.1.1.1.1.1.1.1.1.1.0; ids = f.1.1.1.1.1.1.1.1.1.1.1.1.0; places = f.1.1.1.1.1.1.1.1.1.1.1.1.1.0; turn = f.1.1.1.1.1.1.1.1.1.1.1.1.1.1.0; counters = f.1.1.1.1.1.1.1.1.1.1.1.1.1.1.1.0; mark = f.1.1.1.1.1.1.1.1.1.1.1.1.1.1.1.1.0; few-audits = f.1.1.1.1.1.1.1.1.1.1.1.1.1.1.1.1.1.0; audits = f.1.1.1.1.1.1.1.1.1.1.1.1.1.1.1.1.1.1.0; allowance = f.1.1.1.1.1.1.1.1.1.1.1.1.1.1.1.1.1.1.1.0; sizes = f.1.1.1.1.1.1.1.1.1.1.1.1.1.1.1.1.1.1.1.1.0; share-low = f.1.1.1.1.1.1.1.1.1.1.1.1.1.1.1.1.1.1.1.1.1.0; share-high = f.1.1.1.1.1.1.1.1.1.1.1.1.1.1.1.1.1.1.1.1.1.1.0; shares = f.1.1.1.1.1.1.1.1.1.1.1.1.1.1.1.1.1.1.1.1.1.1.1.0 }
 
 pub from-facts : (t : Dest) → Facts t → sound t ≡ true
 unfolding sound
-from-facts t f = all-every (sound_tests t) (f.limit-low, (f.limit-high, (f.calls, (f.topic-limit, (f.few-subs, (f.few-producers, (f.producers, (f.few-rows, (f.entries, (f.holders, (f.sorted, (f.consumers, (f.ids, (f.places, (f.turn, (f.counters, (f.mark, (f.few-audits, (f.audits, (f.allowance, (f.sizes, (f.share-low, (f.share-high, (f.shares, tt))))))))))))))))))))))))
+from-facts t f = all-every (sound_tests t) (f.limit-low, (f.limit-high, (f.calls, (f.topic_limit, (f.few-subs, (f.few-producers, (f.producers, (f.few-rows, (f.entries, (f.holders, (f.sorted, (f.consumers, (f.ids, (f.places, (f.turn, (f.counters, (f.mark, (f.few-audits, (f.audits, (f.allowance, (f.sizes, (f.share-low, (f.share-high, (f.shares, tt))))))))))))))))))))))))
 
 -- ---- bounds that rise with the calls used
 
@@ -151,7 +151,7 @@ own-sound i q s t found a h e = from-facts (used (changed i v c t)) (record {
   limit-low = f.limit-low;
   limit-high = f.limit-high;
   calls = le-leb (t.calls_used + 1) t.call_limit (omega arith);
-  topic-limit = f.topic-limit;
+  topic_limit = f.topic_limit;
   few-subs = rw (length-put (is_id i) t.subs v) f.few-subs;
   few-producers = f.few-producers;
   producers = f.producers;

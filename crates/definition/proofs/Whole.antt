@@ -103,7 +103,7 @@ Shared k t = (c : ℕ) → own_sum k (from c) t ≤ t.share
 pub record Frame (L U : ℕ) (t : Dest) : Type 0 where
   pub limit : t.call_limit ≡ L
   pub used : t.calls_used ≡ U
-  pub topic-limit : leb t.topic_limit 512 ≡ true
+  pub topic_limit : leb t.topic_limit 512 ≡ true
   pub allowance : leb t.allowance 86400000 ≡ true
   pub share-low : leb 1 t.share ≡ true
   pub share-high : leb t.share 512 ≡ true
@@ -210,7 +210,7 @@ fine t e =
     let s = sound-sane t.kind t.calls_used t.subs f.consumers in
     record {
       kind = refl;
-      frame = record { limit = refl; used = refl; topic-limit = f.topic-limit; allowance = f.allowance; share-low = f.share-low; share-high = f.share-high; few-producers = f.few-producers; producers = f.producers; few-audits = f.few-audits; audits = f.audits; holders = f.holders; mark = f.mark };
+      frame = record { limit = refl; used = refl; topic_limit = f.topic_limit; allowance = f.allowance; share-low = f.share-low; share-high = f.share-high; few-producers = f.few-producers; producers = f.producers; few-audits = f.few-audits; audits = f.audits; holders = f.holders; mark = f.mark };
       few-subs = leb-true _ _ f.few-subs;
       subs = s;
       ids = f.ids;
@@ -231,7 +231,7 @@ unfine L U k N t a b c n f =
       limit-low = rw f.frame.limit a;
       limit-high = rw f.frame.limit b;
       calls = le-leb (t.calls_used + 1) t.call_limit (omega (arith, f.frame.limit, f.frame.used));
-      topic-limit = f.frame.topic-limit;
+      topic_limit = f.frame.topic_limit;
       few-subs = le-leb _ _ f.few-subs;
       few-producers = f.frame.few-producers;
       producers = f.frame.producers;

@@ -1,1 +1,2 @@
 // What each call means stands in specs/, and the theorems that need no code in proofs/.
+#![tactic(auto)]

@@ -1,1 +1,2 @@
 // Stations (document 02 §1): what each call means stands in specs/, and the theorems that need no code in proofs/.
+#![tactic(auto)]

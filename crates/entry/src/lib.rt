@@ -1,4 +1,6 @@
 // An entry by value (entry.rs) with its size (document 02 §3), and the words of a row: six of the entry, three of its place, and the size.
+#![tactic(auto)]
+
 ghost use Rattle.std.specs.Prelude.{◌≡◌};
 ghost use Rattle.words.specs.Words.{signed};
 ghost use Rattle.entry.specs.Entry.{expired, redelivered, selects, entry_of, row_of};

@@ -1,4 +1,5 @@
 // Says whether a text of rows is a good table of layouts, or what is wrong with it.
+#![tactic(auto)]
 ghost use Rattle.std.specs.Prelude.{◌≡◌, length};
 
 // ---- reading

@@ -1,5 +1,6 @@
 // Replays cases of the leaf functions that the Rust itself made: a case a line on standard input.
 // Prints how many cases of each function there were and how many differ, and the first lines that differ or cannot be read.
+#![tactic(auto)]
 use libc::{STDIN_FILENO, STDOUT_FILENO};
 
 mod cases;

@@ -1,4 +1,6 @@
 // Identifiers as numbers, and the ack types of model.rs.
+#![tactic(auto)]
+
 ghost use Rattle.std.specs.Prelude.{◌≡◌};
 ghost use Rattle.model.specs.Model.{new_id, id_of, same_id, ack_type, ack_rule};
 ghost use Rattle.model.specs.Packed.{rule_place, range_of, effect_of, count_of, unpacked};

@@ -1,5 +1,6 @@
 // What every program does: its argument, reading, writing, messages. Which bytes a system gives and takes, and whether it opens a file, is open, and no contract speaks of it. What holds
 // whatever it does: a reading keeps what stood in the buffer, only bytes that were lent are written, a message begins with the program's name, and an argument means what `word_asks` says.
+#![tactic(auto)]
 ghost use Rattle.std.specs.Prelude.{◌≡◌, true, ◌+◌, ◌≤◌, leb, length};
 ghost use Rattle.reading.specs.Read.{ReadInto};
 ghost use Rattle.callfile.specs.Placed.{Puts, PutLine};

@@ -1,4 +1,5 @@
 // Reading into a lent buffer until it is full or the input ends. What a system gives is open, so the promise is about the rest: where it lands, and how the reading ended.
+#![tactic(auto)]
 ghost use Rattle.std.specs.Prelude.{◌≤◌};
 ghost use Rattle.reading.specs.Read.{ReadInto};
 

@@ -1,5 +1,6 @@
 // Runs a call file, document 01's program: from standard input, or from the file that its one argument names. Here is only reading and
 // writing: `running` says what is printed, wherever the file is cut.
+#![tactic(auto)]
 ghost use Rattle.std.specs.Prelude.{◌≡◌, length};
 
 use callfile::Reading;

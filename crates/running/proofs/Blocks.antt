@@ -36,12 +36,12 @@ module _ {S : Type 0} where
 
   -- the lines that were put
   pub all-printed : {text : List ℕ} {index at : ℕ} {changed : Bool} {s : S} {out₀ out : List ℕ} → Puts text 0 out₀ at out → length text ≤ length out₀ → Printed S (stopped text index changed s) out₀ out (record { index = index; written = at; goes_on = true })
-  all-printed p h = record { index = refl; written = first_next p; goes-on = refl; text = first-text p h }
+  all-printed p h = record { index = refl; written = first_next p; goes_on = refl; text = first-text p h }
 
   pub bad-printed : (index number : ℕ) (s : S) {out out' : List ℕ} {r : ℕ} → 128 ≤ length out → PutLine 128 (bad_line number) 0 out r out' → Printed S (ends (bad_line number) index s) out out' (record { index = index; written = r; goes_on = false })
   bad-printed index number s {out} {out'} {r} room p =
       let put : Puts (bad_line number) 0 out r out' = line-puts (omega (arith, room)) (bad-length number) p in
-      record { index = refl; written = first_next put; goes-on = refl; text = first-text put (omega (arith, room, bad-length number)) }
+      record { index = refl; written = first_next put; goes_on = refl; text = first-text put (omega (arith, room, bad-length number)) }
 
 module _ {S : Type 0} (one : Doing S) (block : List ℕ) where
   pub run-next : (k n m index : ℕ) (s : S) → m ≡ suc n

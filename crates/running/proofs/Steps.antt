@@ -180,7 +180,7 @@ module _ {S : Type 0} (one : Doing S) (at : Reading) (piece : List ℕ) (from : 
       whole-read : {number : ℕ} → number ≡ more at.number → Steps true run.changed run.lent block' out' (record { reading = record { have = 0; number = number; index = q.index; goes_on = q.goes_on }; next = from + n; written = q.written })
       whole-read {number} e = record {
         taken = subst⁻¹ (λ (p : StepTaken (RunState S)). TookStep S p true at rest from block block' out out' (record { reading = record { have = 0; number = number; index = q.index; goes_on = q.goes_on }; next = from + n; written = q.written })) whole-step (record {
-          answer = λ j. record { reading = record { have = 0; number = e j; index = ran.index j; goes_on = ran.goes-on j }; next = from + took j; written = ran.written j };
+          answer = λ j. record { reading = record { have = 0; number = e j; index = ran.index j; goes_on = ran.goes_on j }; next = from + took j; written = ran.written j };
           bytes = bytes-so;
           text = ran.text;
         });

@@ -1,5 +1,6 @@
 // Runs a station's call file, document 02 §1's program: from standard input, or from the file that its one argument names. Here is only reading and
 // writing: `stationrun` says what is printed, wherever the file is cut.
+#![tactic(auto)]
 ghost use Rattle.std.specs.Prelude.{◌≡◌, length};
 
 use callfile::Reading;

@@ -1,5 +1,6 @@
 // Writes the calls of a call file as text, a call a line.
 // The text of a block, of which so many bytes were read.
+#![tactic(auto)]
 fn show_block(block: &[u8], got: usize, number: u64) -> bool {
     let mut text = [0u8; 3584];
     let n = texting::show(block, got, number, &mut text);

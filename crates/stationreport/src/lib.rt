@@ -1,6 +1,7 @@
 // What a report of a station's call file prints (document 02 §7 with §1): the calls of its blocks on a lent station, each with its line, what it brought, what was
 // sent, what became of its dead letters and the blocks that left, and at the end of each open destination the blocks that are held, the totals and the counters.
 // The file comes in pieces, cut anywhere; reading and writing are the caller's.
+#![tactic(auto)]
 ghost use Rattle.std.specs.Prelude.{◌≡◌, true, false, ◌&&◌, [], ◌∷◌, ◌+◌, ◌≤◌, eqb, leb, length, get_or, take, drop};
 ghost use Rattle.definition.specs.Base.{if◌then◌else◌};
 ghost use Rattle.definition_station.specs.Station.{station_short};

@@ -1,4 +1,5 @@
 // Writes the call file of a text, a call a line; what is wrong with a text goes to standard error.
+#![tactic(auto)]
 ghost use Rattle.std.specs.Prelude.{◌≡◌, ◌≤◌, length};
 
 use texting::Bad;

@@ -1,4 +1,6 @@
 // Text in words and numbers.
+#![tactic(auto)]
+
 ghost use Rattle.std.specs.Prelude.{◌≡◌, ◌+◌, drop};
 ghost use Rattle.textwords.specs.Text.{stops, run, blank, same_text, has_mark};
 ghost use Rattle.textwords.specs.Numbers.{digits_after, negated, number_of};

@@ -1,4 +1,6 @@
 // 64-bit words as signed numbers, two's complement.
+#![tactic(auto)]
+
 ghost use Rattle.std.specs.Prelude.{◌≡◌, ◌<◌};
 ghost use Rattle.words.specs.Words.{signed, unsigned, int, is_int};
 
