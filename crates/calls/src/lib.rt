@@ -1,5 +1,6 @@
 // A call as the call file has it, a code and eight words: whether the words are its arguments, and what they hold.
 #![tactic(auto)]
+
 ghost use Rattle.std.specs.Prelude.{◌≡◌, true, ◌%◌};
 ghost use Rattle.words.specs.Words.{int};
 ghost use Rattle.entry.specs.Entry.{bit, with_redelivery};

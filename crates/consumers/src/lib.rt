@@ -1,5 +1,6 @@
 // A consumer by value (`Sub` of destination.rs), the words of its row, and the table of consumers in joining order.
 #![tactic(auto)]
+
 ghost use Rattle.std.specs.Prelude.{◌≡◌, [], ◌+◌, ◌-◌, ◌<◌, ◌≤◌, min, length, get_or, set, take};
 ghost use Rattle.model.specs.Model.{id_of, same_id};
 ghost use Rattle.definition.specs.Base.{tally, all};

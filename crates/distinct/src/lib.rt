@@ -1,5 +1,6 @@
 // Whether numbers are all different.
 #![tactic(auto)]
+
 ghost use Rattle.std.specs.Prelude.{◌≡◌, ◌≤◌, length, take};
 ghost use Rattle.definition.specs.Base.{member, distinct, rising};
 

@@ -1,5 +1,6 @@
 // Whether the head of lent buffers is that of a sound state: its own words, and the rings of its audits.
 #![tactic(auto)]
+
 ghost use Rattle.std.specs.Prelude.{◌≡◌, ◌≤◌, length, drop};
 ghost use Rattle.definition.specs.Calls.{counters_ok};
 ghost use Rattle.definition.specs.Layout.{stats_at, rings_formed};

@@ -1,6 +1,7 @@
 // A table of layouts (document 02 §8): which selector reads which channel layout.
 // The functions named `layouts_..` are the same for C, and include/layouts.h describes them.
 #![tactic(auto)]
+
 ghost use Rattle.std.specs.Prelude.{◌≡◌, true, ◌<◌, length};
 ghost use Rattle.layouts.specs.Layouts.{first, covers, row_in_range, all_in_range, table_in_range, lowest_gap, lowest_overlap, selector_at, checked, looked_up};
 ghost use Rattle.layouts.specs.Steps.{past, walk, next, column, lane, lane_count, lower, size, sizes};

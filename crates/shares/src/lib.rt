@@ -1,5 +1,6 @@
 // Whether no producer connection has more than a share (document 02 §11), by the connections of all rows.
 #![tactic(auto)]
+
 ghost use Rattle.std.specs.Prelude.{◌≡◌, true, false, ◌≤◌, eqb, length, take};
 ghost use Rattle.definition.specs.Base.{tally};
 ghost use Rattle.shares.specs.Shares.{within_each};

@@ -1,5 +1,6 @@
 // The table of rows: the used rows stand at the front, in one order. Rows are removed and put in by moving the later ones.
 #![tactic(auto)]
+
 ghost use Rattle.std.specs.Prelude.{◌≡◌, not, ◌&&◌, ◌-◌, ◌≤◌, leb, length};
 ghost use Rattle.std.proofs.Math.Seq.{slice};
 ghost use Rattle.entry.specs.Entry.{expired_row};

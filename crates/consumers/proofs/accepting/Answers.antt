@@ -1,0 +1,34 @@
+use Rattle.consumers.specs.declared.Sub.{Sub}
+use mathlib.Core.Path.{◌≡◌, sym, ap, ◌∙◌}
+use mathlib.Core.Logic.{⊎_elim}
+use mathlib.Core.List.{[]}
+use Prim.Native.Nat.{◌-◌, ◌<◌, min}
+use lib.ListN.{length, get_or}
+use native.Mathlib.Nat.{zero-add}
+use Rattle.consumers.specs.Consumers.{accepts_of}
+use Rattle.consumers.specs.Table.{takes_entry}
+use Rattle.consumers.proofs.Table.{tally-hit, tally-miss, tally-none}
+use native.Mathlib.Omega.{arith}
+use borrow.Author.Rules.{rules}
+use Rattle.consumers.proofs.accepting.Goals as goal
+
+pub loop-i-init : goal.loop-i-init
+loop-i-init c = (search rules, search rules, zero-add _)
+
+pub loop-i-preserved : goal.loop-i-preserved
+loop-i-preserved c = let l = c.loop-i in
+    let a = c.args in
+    let h : l.i < min a.n (length a.subs.now) = omega arith in
+    let t : c.accepts.result ≡ takes_entry a.e (get_or a.subs.now l.i []) = c.accepts.ensures ∙ ap (λ (s : Sub). accepts_of s a.e) c.sub_of.ensures in (
+      search rules,
+      ⊎_elim (λ w. omega arith) (λ w. omega arith) c.if-accepts.branch,
+      ⊎_elim
+          (λ w. omega (arith, tally-hit l.i a.n a.subs.now h (takes_entry a.e) (sym t ∙ w.0.taken)))
+          (λ w. omega (arith, tally-miss l.i a.n a.subs.now h (takes_entry a.e) (sym t ∙ w.0.left)))
+          c.if-accepts.branch,
+    )
+
+pub returns : goal.returns
+returns c = let l = c.loop-i in
+    let a = c.args in
+    omega (arith, tally-none l.i a.n a.subs.now (omega arith) (takes_entry a.e), l.invariant.2)

@@ -1,0 +1,34 @@
+use mathlib.Core.Path.{◌≡◌, refl, sym, ◌∙◌}
+use mathlib.Core.Bool.{true, false}
+use Prim.Native.Nat.{◌-◌, ◌%◌}
+use mathlib.Core.Logic.{⊎_elim}
+use lib.ListN.{take, get_or, replicate, length-replicate, length-set}
+use Rattle.definition.specs.Base.{member}
+use Rattle.distinct.proofs.Laws.{distinct-met, distinct-next, marked-none, marked-new, marked_more}
+use native.Mathlib.Omega.{arith}
+use borrow.Author.Rules.{rules}
+use Rattle.distinct.proofs.many_distinct.Goals as goal
+
+pub loop-i-init : goal.loop-i-init
+loop-i-init c = (search rules, refl, length-replicate 1024 false, marked-none 1024 (replicate 1024 false) c.args.xs.now)
+
+pub returns-then-met : goal.returns-then-met
+returns-then-met c =
+    let a = c.args in
+    distinct-met a.xs.now c.loop-i.i a.n c.loop-i-test.true c.requires c.loop-i.invariant.1 (sym c.met.ensures ∙ c.if-met.true)
+
+pub loop-i-preserved : goal.loop-i-preserved
+loop-i-preserved c =
+    let a = c.args in
+    let xs = a.xs.now in
+    let i = c.loop-i.i in
+    let h = c.loop-i-test.true in
+    let v = c.loop-i.invariant in
+    let m : member (get_or xs i 0) (take i xs) ≡ false = ⊎_elim (λ w. sym w.1.ensures ∙ w.2.left) (λ w. marked-new 1024 c.loop-i.slots (take i xs) (get_or xs i 0) v.3 w.left) c.if-slots-slot.branch in
+    (search rules, distinct-next xs i a.n h c.requires v.1 m, length-set c.loop-i.slots (get_or xs i 0 % 1024) true ∙ v.2, marked_more 1024 (λ x. omega arith) c.loop-i.slots xs i v.2 (omega arith) v.3)
+
+pub returns : goal.returns
+returns c =
+    let a = c.args in
+    let e : c.loop-i.i ≡ a.n = omega arith in
+    sym (rw e at c.loop-i.invariant.1)

@@ -1,0 +1,13 @@
+use mathlib.Core.Path.{◌≡◌}
+use mathlib.Core.Bool.{true}
+use Prim.Native.Nat.{◌≤◌, ◌-◌}
+use lib.ListN.{length, take}
+use Rattle.definition.specs.Base.{distinct}
+use Rattle.distinct.proofs.Laws.{Marked}
+use Rattle.distinct.proofs.many_distinct.Given as goal
+
+abbrev pub invariant-loop-i : goal.invariant-loop-i
+invariant-loop-i l = (l.i ≤ l.n) × (distinct (take l.i l.xs) ≡ true) × (length l.slots ≡ 1024) × Marked 1024 l.slots (take l.i l.xs)
+
+abbrev pub decreases-loop-i : goal.decreases-loop-i
+decreases-loop-i l = l.n - l.i

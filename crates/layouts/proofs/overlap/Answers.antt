@@ -1,0 +1,42 @@
+use mathlib.Core.Path.{sym, ap, ◌∙◌}
+use Prim.Native.Nat.{ℕ, ◌+◌, ◌-◌}
+use lib.Dec.{ltb}
+use lib.ListN.{drop, drop_of_length-le}
+use Rattle.layouts.specs.Layouts.{first, is_overlap}
+use Rattle.layouts.specs.Steps.{lower, lowest_of}
+use Rattle.layouts.proofs.Rows.{rows_next, in-range-at, table-few, table-ranged}
+use Rattle.layouts.proofs.Overlaps.{overlap-right}
+use Rattle.layouts.proofs.Lanes.{column-length, count-right}
+use borrow.Author.Rules.{rules}
+use Rattle.layouts.proofs.overlap.Goals as goal
+
+pub start-at-requires : goal.start-at-requires
+start-at-requires c =
+    let s = c in
+    let t = s.args.table.now in
+    in-range-at t c.loop-i.i c.loop-i-test.true (table-ranged t s.requires)
+
+pub lane_count-requires : goal.lane_count-requires
+lane_count-requires c =
+    let s = c in
+    let t = s.args.table.now in
+    let n = table-few t s.requires in record { firsts_len = column-length t 0 1 c.column-firsts.result n c.column-firsts.ensures; lasts_len = column-length t 1 0 c.column-lasts.result n c.column-lasts.ensures }
+
+pub loop-i-preserved : goal.loop-i-preserved
+loop-i-preserved c =
+    let n = c.lane_count in
+    let x = c.start-at in
+    let k = c in
+    let t = k.before.before.args.table.now in
+    let e = count-right t k.before.column.result k.column2.result x.result n.result k.before.column.ensures k.column2.ensures n.ensures in (
+      search rules,
+      ap (λ (r : ℕ). lowest_of (is_overlap t) first r (drop (c.loop-i.i + 1) t))
+          (c.lower-lowest.ensures ∙ ap (λ (m : ℕ). lower (ltb 1 m) x.result c.loop-i.lowest) e ∙ ap (λ (l : ℕ). lower (is_overlap t l) l c.loop-i.lowest) x.ensures)
+          ∙ sym (ap (lowest_of (is_overlap t) first c.loop-i.lowest) (rows_next t c.loop-i.i c.loop-i-test.true))
+          ∙ c.loop-i.invariant.1,
+    )
+
+pub returns : goal.returns
+returns c =
+    let t = c.args.table.now in
+    sym (ap (lowest_of (is_overlap t) first c.loop-i.lowest) (drop_of_length-le t c.loop-i-test.false)) ∙ c.loop-i.invariant.1 ∙ overlap-right t
