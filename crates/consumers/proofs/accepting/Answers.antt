@@ -11,6 +11,7 @@ use Rattle.consumers.proofs.Table.{tally-hit, tally-miss, tally-none}
 use native.Mathlib.Omega.{arith}
 use borrow.Author.Rules.{rules}
 use Rattle.consumers.proofs.accepting.Goals as goal
+use Rattle.consumers.proofs.accepting.Goals.{then-accepts, else-accepts}
 
 pub loop-i-init : goal.loop-i-init
 loop-i-init c = (search rules, search rules, zero-add _)
@@ -21,11 +22,11 @@ loop-i-preserved c = let l = c.loop-i in
     let h : l.i < min a.n (length a.subs.now) = omega arith in
     let t : c.accepts.result ≡ takes_entry a.e (get_or a.subs.now l.i []) = c.accepts.ensures ∙ ap (λ (s : Sub). accepts_of s a.e) c.sub_of.ensures in (
       search rules,
-      ⊎_elim (λ w. omega arith) (λ w. omega arith) c.if-accepts.branch,
-      ⊎_elim
-          (λ w. omega (arith, tally-hit l.i a.n a.subs.now h (takes_entry a.e) (sym t ∙ w.0.taken)))
-          (λ w. omega (arith, tally-miss l.i a.n a.subs.now h (takes_entry a.e) (sym t ∙ w.0.left)))
-          c.if-accepts.branch,
+      elim c.if-accepts.branch [ then-accepts w ↦ omega arith | else-accepts w ↦ omega arith ],
+      elim c.if-accepts.branch [
+        | then-accepts w ↦ omega (arith, tally-hit l.i a.n a.subs.now h (takes_entry a.e) (sym t ∙ w.if-accepts.true))
+        | else-accepts w ↦ omega (arith, tally-miss l.i a.n a.subs.now h (takes_entry a.e) (sym t ∙ w.if-accepts.false))
+      ],
     )
 
 pub returns : goal.returns

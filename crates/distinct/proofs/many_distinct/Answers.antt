@@ -8,6 +8,7 @@ use Rattle.distinct.proofs.Laws.{distinct-met, distinct-next, marked-none, marke
 use native.Mathlib.Omega.{arith}
 use borrow.Author.Rules.{rules}
 use Rattle.distinct.proofs.many_distinct.Goals as goal
+use Rattle.distinct.proofs.many_distinct.Goals.{then-slots-slot+else-met, else-slots-slot}
 
 pub loop-i-init : goal.loop-i-init
 loop-i-init c = (search rules, refl, length-replicate 1024 false, marked-none 1024 (replicate 1024 false) c.args.xs.now)
@@ -24,7 +25,11 @@ loop-i-preserved c =
     let i = c.loop-i.i in
     let h = c.loop-i-test.true in
     let v = c.loop-i.invariant in
-    let m : member (get_or xs i 0) (take i xs) ≡ false = ⊎_elim (λ w. sym w.1.ensures ∙ w.2.left) (λ w. marked-new 1024 c.loop-i.slots (take i xs) (get_or xs i 0) v.3 w.left) c.if-slots-slot.branch in
+    let m : member (get_or xs i 0) (take i xs) ≡ false =
+    elim c.if-slots-slot.branch [
+      | then-slots-slot+else-met w ↦ sym w.met.ensures ∙ w.if-met.false
+      | else-slots-slot w ↦ marked-new 1024 c.loop-i.slots (take i xs) (get_or xs i 0) v.3 w.if-slots-slot.false
+    ] in
     (search rules, distinct-next xs i a.n h c.requires v.1 m, length-set c.loop-i.slots (get_or xs i 0 % 1024) true ∙ v.2, marked_more 1024 (λ x. omega arith) c.loop-i.slots xs i v.2 (omega arith) v.3)
 
 pub returns : goal.returns

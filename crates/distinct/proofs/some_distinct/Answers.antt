@@ -8,6 +8,7 @@ use Rattle.distinct.proofs.Laws.{distinct-met, distinct-next, marked-none, marke
 use native.Mathlib.Omega.{arith}
 use borrow.Author.Rules.{rules}
 use Rattle.distinct.proofs.some_distinct.Goals as goal
+use Rattle.distinct.proofs.some_distinct.Goals.{then-marks-mark+else-met, else-marks-mark}
 
 pub loop-i-init : goal.loop-i-init
 loop-i-init c = (search rules, refl, length-replicate 256 false, marked-none 256 (replicate 256 false) c.args.xs.now)
@@ -24,7 +25,11 @@ loop-i-preserved c =
     let i = c.loop-i.i in
     let h = c.loop-i-test.true in
     let v = c.loop-i.invariant in
-    let m : member (get_or xs i 0) (take i xs) ≡ false = ⊎_elim (λ w. sym w.1.ensures ∙ w.2.left) (λ w. marked-new 256 c.loop-i.marks (take i xs) (get_or xs i 0) v.3 w.left) c.if-marks-mark.branch in
+    let m : member (get_or xs i 0) (take i xs) ≡ false =
+    elim c.if-marks-mark.branch [
+      | then-marks-mark+else-met w ↦ sym w.met.ensures ∙ w.if-met.false
+      | else-marks-mark w ↦ marked-new 256 c.loop-i.marks (take i xs) (get_or xs i 0) v.3 w.if-marks-mark.false
+    ] in
     (search rules, distinct-next xs i a.n h c.requires v.1 m, length-set c.loop-i.marks (get_or xs i 0 % 256) true ∙ v.2, marked_more 256 (λ x. omega arith) c.loop-i.marks xs i v.2 (omega arith) v.3)
 
 pub returns : goal.returns

@@ -47,9 +47,8 @@ pub loop-i-preserved : goal.loop-i-preserved
 loop-i-preserved c =
     let n = c.lane_count-in-loop-i in
     let x = c.next-at in
-    let k = c in
-    let t = k.before.before.before.before.args.table.now in
-    let e = count-right t k.before.column.result k.column2.result x.result n.result k.before.column.ensures k.column2.ensures n.ensures in (
+    let t = c.args.table.now in
+    let e = count-right t c.column-firsts.result c.column-lasts.result x.result n.result c.column-firsts.ensures c.column-lasts.ensures n.ensures in (
       search rules,
       ap (λ (r : ℕ). lowest_of (is_gap t) next r (drop (c.loop-i.i + 1) t))
           (c.lower-lowest-in-loop-i.ensures ∙ ap (λ (m : ℕ). lower (eqb m 0) x.result c.loop-i.lowest) e ∙ ap (λ (l : ℕ). lower (is_gap t l) l c.loop-i.lowest) x.ensures)

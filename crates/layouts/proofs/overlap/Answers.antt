@@ -3,12 +3,16 @@ use Prim.Native.Nat.{ℕ, ◌+◌, ◌-◌}
 use lib.Dec.{ltb}
 use lib.ListN.{drop, drop_of_length-le}
 use Rattle.layouts.specs.Layouts.{first, is_overlap}
-use Rattle.layouts.specs.Steps.{lower, lowest_of}
+use Rattle.layouts.specs.Steps.{lower, lowest_of, overlap_of}
 use Rattle.layouts.proofs.Rows.{rows_next, in-range-at, table-few, table-ranged}
 use Rattle.layouts.proofs.Overlaps.{overlap-right}
 use Rattle.layouts.proofs.Lanes.{column-length, count-right}
 use borrow.Author.Rules.{rules}
 use Rattle.layouts.proofs.overlap.Goals as goal
+
+pub loop-i-init : goal.loop-i-init
+unfolding overlap_of
+loop-i-init c = search rules
 
 pub start-at-requires : goal.start-at-requires
 start-at-requires c =
@@ -26,9 +30,8 @@ pub loop-i-preserved : goal.loop-i-preserved
 loop-i-preserved c =
     let n = c.lane_count in
     let x = c.start-at in
-    let k = c in
-    let t = k.before.before.args.table.now in
-    let e = count-right t k.before.column.result k.column2.result x.result n.result k.before.column.ensures k.column2.ensures n.ensures in (
+    let t = c.args.table.now in
+    let e = count-right t c.column-firsts.result c.column-lasts.result x.result n.result c.column-firsts.ensures c.column-lasts.ensures n.ensures in (
       search rules,
       ap (λ (r : ℕ). lowest_of (is_overlap t) first r (drop (c.loop-i.i + 1) t))
           (c.lower-lowest.ensures ∙ ap (λ (m : ℕ). lower (ltb 1 m) x.result c.loop-i.lowest) e ∙ ap (λ (l : ℕ). lower (is_overlap t l) l c.loop-i.lowest) x.ensures)

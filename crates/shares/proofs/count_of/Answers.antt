@@ -9,6 +9,7 @@ use lib.ListN.{length, take}
 use Rattle.definition.specs.Base.{tally}
 use Rattle.shares.proofs.Laws.{tally-hit, tally-miss}
 use Rattle.shares.proofs.count_of.Goals as goal
+use Rattle.shares.proofs.count_of.Goals.{then-x-xs, else-x-xs}
 
 pub loop-i-init : goal.loop-i-init
 loop-i-init c = (search rules, search rules, refl)
@@ -19,11 +20,11 @@ loop-i-preserved c =
     let a = c.args in
     let h : l.i < length a.xs.now = omega (arith, c.loop-i-test.true, c.requires) in (
       search rules,
-      ⊎_elim (λ t. omega arith) (λ t. omega arith) c.if-x-xs.branch,
-      ⊎_elim
-          (λ t. omega (arith, t.1, l.invariant.2, tally-hit (eqb a.x) a.xs.now l.i h (eq-eqb _ _ t.0.taken)))
-          (λ t. omega (arith, t.1, l.invariant.2, tally-miss (eqb a.x) a.xs.now l.i h (ne_eqb _ _ t.0.left)))
-          c.if-x-xs.branch,
+      elim c.if-x-xs.branch [ then-x-xs t ↦ omega arith | else-x-xs t ↦ omega arith ],
+      elim c.if-x-xs.branch [
+        | then-x-xs t ↦ omega (arith, t.count-is, l.invariant.2, tally-hit (eqb a.x) a.xs.now l.i h (eq-eqb _ _ t.if-x-xs.true))
+        | else-x-xs t ↦ omega (arith, t.count-is, l.invariant.2, tally-miss (eqb a.x) a.xs.now l.i h (ne_eqb _ _ t.if-x-xs.false))
+      ],
     )
 
 pub returns : goal.returns

@@ -33,6 +33,6 @@ returns c = let a = c.args in
     let p : Row → Bool = dseq_between a.first a.last in
     let rs : List Row = a.rows.now in record {
       value = both _ _ _ _ (s.rows_value ∙ sym (gone-in p a.from a.to a.n rs (omega arith) (omega arith) (omega arith)))
-          (s.freed_value.0 ∙ sym (gone-in (λ r. p r && is_freed r) a.from a.to a.n rs (omega arith) (omega arith) (omega arith)));
-      rows_after = taken_out p a.from a.to a.n _ rs _ _ (omega arith) (omega arith) (omega arith) s.rows_value s.freed_value.1 c.close_gap.ensures;
+          (s.freed_value ∙ sym (gone-in (λ r. p r && is_freed r) a.from a.to a.n rs (omega arith) (omega arith) (omega arith)));
+      rows_after = taken_out p a.from a.to a.n _ rs _ _ (omega arith) (omega arith) (omega arith) s.rows_value s.rows_after c.close_gap.ensures;
     }
