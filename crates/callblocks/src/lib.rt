@@ -1,6 +1,6 @@
 // Writing blocks of the call file.
 #![tactic(auto)]
-ghost use Rattle.std.specs.Prelude.{◌≡◌, ◌+◌, ◌%◌, ◌≤◌};
+ghost use Rattle.std.specs.Prelude.{◌≡◌, ◌+◌, ◌%◌, ◌≤◌, length};
 ghost use Rattle.callfile.specs.Placed.{Puts};
 ghost use Rattle.callblocks.specs.Packed.{low_bytes, word_bytes, with_call, sealed};
 
@@ -19,7 +19,7 @@ fn low(n: u64) -> u8
 
 // A number in so many bytes, little-endian.
 fn put_bytes(block: &mut [u8], at: usize, size: usize, n: u64) -> usize
-    requires* { do ⌜ at + size ≤ (← ⟦block.len()⟧) ⌝ }
+    requires { at + size ≤ (length block.old) }
     ensures { Puts (low_bytes size n) at block.old result block.new }
 {
     let mut left = size;
@@ -36,7 +36,7 @@ fn put_bytes(block: &mut [u8], at: usize, size: usize, n: u64) -> usize
 
 // Eight words.
 fn put_words(block: &mut [u8], at: usize, w: [u64; 8]) -> usize
-    requires* { do ⌜ at + 64 ≤ (← ⟦block.len()⟧) ⌝ }
+    requires { at + 64 ≤ (length block.old) }
     ensures { Puts (word_bytes w) at block.old result block.new }
 {
     let mut next = at;

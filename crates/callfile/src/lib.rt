@@ -1,5 +1,6 @@
 // The call file: blocks of 512 bytes, and the lines that a run prints.
 #![tactic(auto)]
+
 ghost use Rattle.std.specs.Prelude.{◌≡◌, [], ◌∷◌, ◌+◌, ◌*◌, ◌≤◌, ◌<◌, ◌^◌, leb, length, take, drop};
 ghost use Rattle.words.specs.Words.{signed};
 ghost use Rattle.model.specs.Model.{id_of};
@@ -135,7 +136,7 @@ pub fn call_at(block: &[u8], k: usize) -> Call
 // ---- lines
 
 fn put(out: &mut [u8], at: usize, b: u8) -> usize
-    requires* { do ⌜ at < (← ⟦out.len()⟧) ⌝ }
+    requires { at < (length out.old) }
     ensures { Puts (b ∷ []) at out.old result out.new }
 {
     out[at] = b;
@@ -144,7 +145,7 @@ fn put(out: &mut [u8], at: usize, b: u8) -> usize
 
 // A number's decimal digits.
 fn put_digits(out: &mut [u8], at: usize, n: u64) -> usize
-    requires* { do ⌜ at + length (decimal n) ≤ (← ⟦out.len()⟧) ⌝ }
+    requires { at + length (decimal n) ≤ (length out.old) }
     ensures { Puts (decimal n) at out.old result out.new }
 {
     if n < 10 {
@@ -156,7 +157,7 @@ fn put_digits(out: &mut [u8], at: usize, n: u64) -> usize
 
 // A space and an unsigned number.
 fn put_field(out: &mut [u8], at: usize, n: u64) -> usize
-    requires* { do ⌜ at + 21 ≤ (← ⟦out.len()⟧) ⌝ }
+    requires { at + 21 ≤ (length out.old) }
     ensures { Puts (field n) at out.old result out.new × (result ≤ at + 21) }
 {
     let next = put(out, at, b' ');
@@ -165,7 +166,7 @@ fn put_field(out: &mut [u8], at: usize, n: u64) -> usize
 
 // A space and the signed number of a word.
 fn put_signed(out: &mut [u8], at: usize, w: u64) -> usize
-    requires* { do ⌜ at + 21 ≤ (← ⟦out.len()⟧) ⌝ }
+    requires { at + 21 ≤ (length out.old) }
     ensures { Puts (signed_field (signed w)) at out.old result out.new × (result ≤ at + 21) }
 {
     if w < words::NEGATIVE {
@@ -178,7 +179,7 @@ fn put_signed(out: &mut [u8], at: usize, w: u64) -> usize
 
 // An identifier in three words: connection unsigned, session and value signed.
 fn put_id(out: &mut [u8], at: usize, conn: u64, session: u64, value: u64) -> usize
-    requires* { do ⌜ at + 63 ≤ (← ⟦out.len()⟧) ⌝ }
+    requires { at + 63 ≤ (length out.old) }
     ensures { Puts (id_fields (id_of conn session value)) at out.old result out.new × (result ≤ at + 63) }
 {
     let a = put_field(out, at, conn);
@@ -259,7 +260,7 @@ pub fn fill(block: &mut [u8], have: usize, piece: &[u8], from: usize) -> usize
 }
 
 fn word_field(out: &mut [u8], at: usize, w: u64, minus: bool) -> usize
-    requires* { do ⌜ at + 128 ≤ (← ⟦out.len()⟧) ⌝ }
+    requires { at + 128 ≤ (length out.old) }
     ensures { Puts (word_field minus w) at out.old result out.new × (result ≤ at + 128) }
 {
     if minus {
@@ -279,7 +280,7 @@ pub fn put_word(out: &mut [u8], at: usize, w: u64, minus: bool) -> usize
 }
 
 fn call_line(out: &mut [u8], at: usize, index: u64, refusal: u64, answer: u64) -> usize
-    requires* { do ⌜ at + 128 ≤ (← ⟦out.len()⟧) ⌝ }
+    requires { at + 128 ≤ (length out.old) }
     ensures { Puts (call_line index refusal answer) at out.old result out.new × (result ≤ at + 128) }
 {
     let a = put_digits(out, at, index);
@@ -299,7 +300,7 @@ pub fn put_call(out: &mut [u8], at: usize, index: u64, refusal: u64, answer: u64
 }
 
 fn letter_line(out: &mut [u8], at: usize, e: [u64; 6]) -> usize
-    requires* { do ⌜ at + 128 ≤ (← ⟦out.len()⟧) ⌝ }
+    requires { at + 128 ≤ (length out.old) }
     ensures { Puts (event_line (letter_at e)) at out.old result out.new × (result ≤ at + 128) }
 {
     let cause = e[3] != 0;
@@ -311,7 +312,7 @@ fn letter_line(out: &mut [u8], at: usize, e: [u64; 6]) -> usize
 }
 
 fn message_line(out: &mut [u8], at: usize, e: [u64; 6]) -> usize
-    requires* { do ⌜ at + 128 ≤ (← ⟦out.len()⟧) ⌝ }
+    requires { at + 128 ≤ (length out.old) }
     ensures { Puts (event_line (message_at e)) at out.old result out.new × (result ≤ at + 128) }
 {
     let a = put(out, at, b'd');
@@ -322,7 +323,7 @@ fn message_line(out: &mut [u8], at: usize, e: [u64; 6]) -> usize
 }
 
 fn null_line(out: &mut [u8], at: usize, e: [u64; 6]) -> usize
-    requires* { do ⌜ at + 128 ≤ (← ⟦out.len()⟧) ⌝ }
+    requires { at + 128 ≤ (length out.old) }
     ensures { Puts (event_line (null_at e)) at out.old result out.new × (result ≤ at + 128) }
 {
     let a = put(out, at, b'n');
@@ -373,7 +374,7 @@ pub fn put_events(out: &mut [u8], from: usize, events: &[[u64; 6]], n: usize) ->
 }
 
 fn bad_line(out: &mut [u8], at: usize, block: u64) -> usize
-    requires* { do ⌜ at + 128 ≤ (← ⟦out.len()⟧) ⌝ }
+    requires { at + 128 ≤ (length out.old) }
     ensures { Puts (bad_line block) at out.old result out.new × (result ≤ at + 128) }
 {
     let a = put(out, at, b'b');
@@ -392,7 +393,7 @@ pub fn put_bad(out: &mut [u8], at: usize, block: u64) -> usize
 }
 
 fn counters_line(out: &mut [u8], at: usize, s: Stats) -> usize
-    requires* { do ⌜ at + 128 ≤ (← ⟦out.len()⟧) ⌝ }
+    requires { at + 128 ≤ (length out.old) }
     ensures { Puts (counters_line s) at out.old result out.new × (result ≤ at + 128) }
 {
     let a = put(out, at, b'=');

@@ -365,7 +365,7 @@ fn name_byte(place: usize, j: usize) -> u8
 }
 
 fn put_name(out: &mut [u8], at: usize, place: usize) -> usize
-    requires* { do ⌜ (place < 18) × (at + 15 ≤ (← ⟦out.len()⟧)) ⌝ }
+    requires { (place < 18) × (at + 15 ≤ (length out.old)) }
     ensures { Puts (name_at place) at out.old result out.new × (result ≤ at + 15) }
 {
     let n = name_length(place);
@@ -407,7 +407,7 @@ fn shown_destination(code: u64) -> u64
 
 // A destination that is not 0, and a space. The number is put after a space, which becomes the sign.
 fn put_destination(out: &mut [u8], at: usize, d: u64) -> usize
-    requires* { do ⌜ at + 128 ≤ (← ⟦out.len()⟧) ⌝ }
+    requires { at + 128 ≤ (length out.old) }
     ensures { Puts (destination_text d) at out.old result out.new × (result ≤ at + 22) }
 {
     if d == 0 {
@@ -420,7 +420,7 @@ fn put_destination(out: &mut [u8], at: usize, d: u64) -> usize
 
 // Word 0, where the name does not say it.
 fn put_code(out: &mut [u8], at: usize, code: u64) -> usize
-    requires* { do ⌜ at + 128 ≤ (← ⟦out.len()⟧) ⌝ }
+    requires { at + 128 ≤ (length out.old) }
     ensures { Puts (code_field code) at out.old result out.new × (result ≤ at + 22) }
 {
     if has_name(code) {
@@ -456,7 +456,7 @@ fn shown_words(place: usize, w: [u64; 8]) -> usize
 }
 
 fn put_fields(out: &mut [u8], at: usize, place: usize, w: [u64; 8], n: usize) -> usize
-    requires* { do ⌜ (place < 18) × (n ≤ 8) × (at + 304 ≤ (← ⟦out.len()⟧)) ⌝ }
+    requires { (place < 18) × (n ≤ 8) × (at + 304 ≤ (length out.old)) }
     ensures { Puts (fields place w n) at out.old result out.new × (result ≤ at + 176) }
 {
     let mut next = at;
@@ -470,7 +470,7 @@ fn put_fields(out: &mut [u8], at: usize, place: usize, w: [u64; 8], n: usize) ->
 }
 
 fn text_line(out: &mut [u8], at: usize, c: Call) -> usize
-    requires* { do ⌜ at + 512 ≤ (← ⟦out.len()⟧) ⌝ }
+    requires { at + 512 ≤ (length out.old) }
     ensures { Puts (call_text c) at out.old result out.new × (result ≤ at + 512) }
 {
     let code = c.code;

@@ -1,5 +1,6 @@
 // Copies of one entry among rows: whether they agree on its size (document 02 §3), and whether there may be any.
 #![tactic(auto)]
+
 ghost use Rattle.std.specs.Prelude.{◌≡◌, true, map, ◌≤◌, length, take, leb};
 ghost use Rattle.std.proofs.Math.Seq.{slice};
 ghost use Rattle.words.specs.Pick.{if◌then◌else◌};
@@ -134,7 +135,7 @@ fn holds(w: SubRow, on_queue: bool) -> bool
 
 // How many of the first n have.
 fn holders(subs: &[SubRow], n: usize, on_queue: bool) -> u64
-    requires* { do ⌜ n ≤ (← ⟦subs.len()⟧) ⌝ }
+    requires { n ≤ (length subs.now) }
     ensures { result ≡ tally (may_copy on_queue) (take n subs.now) }
 {
     let mut count = 0;

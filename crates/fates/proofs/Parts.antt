@@ -231,10 +231,10 @@ left-taken i last s t e c = record {
 
 pub returning-expires : (H : Type 0) (now : ℕ) (i : Id) (last : ℤ) (s : Sub) (t : Dest) (k : Kind) → k ≡ queue → ((x : ℕ) → queue_sum (occ x) t ≤ 1) → sub_of i t ≡ some s → Expires H (due now t) 0 [] t (returning now s last (drop_sub i t) k)
 unfolding returning
-returning-expires H now i last s t k q o e = subst⁻¹ (λ (j : Kind). Expires H (due now t) 0 [] t (returning now s last (drop_sub i t) j)) q on-queue
+returning-expires H now i last s t k q o e = subst⁻¹ (λ (j : Kind). Expires H (due now t) 0 [] t (returning now s last (drop_sub i t) j)) q on_queue
   where
-    on-queue : Expires H (due now t) 0 [] t (returning now s last (drop_sub i t) queue)
-    on-queue = by-if (λ (u : Dest). Expires H (due now t) 0 [] t u) (is_browser s) (drop_sub i t) _
+    on_queue : Expires H (due now t) 0 [] t (returning now s last (drop_sub i t) queue)
+    on_queue = by-if (λ (u : Dest). Expires H (due now t) 0 [] t u) (is_browser s) (drop_sub i t) _
         (λ c. alike H _ t (drop_sub i t) (λ f w. omega (arith, sums-without (count_m f) (is_id i) t.subs s e, count-browser f s c)) refl)
         (λ c. returns H now t _ _ o (left-taken i last s t e c))
 

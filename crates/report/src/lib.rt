@@ -117,7 +117,7 @@ fn block_of(row: Row, place: u64) -> Block
 // Those of n rows from place from, into out from place start.
 fn gather(rows: &[Row], from: usize, n: usize, place: u64, out: &mut [Block], start: usize)
     requires n_in_bounds { from + n ≤ length rows.now }
-    requires* n_bound { do ⌜ start + n ≤ (← ⟦out.len()⟧) ⌝ }
+    requires n_bound { start + n ≤ (length out.old) }
     ensures { out.new ≡ sets out.old start (map (row_block place) (take n (drop from rows.now))) }
 {
     let mut i = 0;
@@ -141,7 +141,7 @@ fn taken_of(w: SubRow) -> usize
 fn gather_taken(subs: &[SubRow], n: usize, rows: &[Row], out: &mut [Block], start: usize) -> usize
     requires n_in_bounds { n ≤ length subs.now }
     requires subs_in_bounds { sub_rows (take n subs.now) ≤ length rows.now }
-    requires* subs_bound { do ⌜ start + sub_rows (take n subs.now) ≤ (← ⟦out.len()⟧) ⌝ }
+    requires subs_bound { start + sub_rows (take n subs.now) ≤ (length out.old) }
     ensures value { result ≡ start + length (taken (subs_at queue (take n subs.now) rows.now)) }
     ensures upper_bound { result ≤ start + sub_rows (take n subs.now) }
     ensures out_after { out.new ≡ sets out.old start (map (block_at 1) (taken (subs_at queue (take n subs.now) rows.now))) }
@@ -163,7 +163,7 @@ fn gather_taken(subs: &[SubRow], n: usize, rows: &[Row], out: &mut [Block], star
 // All that a queue holds, into out; how many they are.
 fn gather_all(d: Head, subs: &[SubRow], rows: &[Row], out: &mut [Block]) -> usize
     requires held_numbers { HeldNumbers d subs.now rows.now }
-    requires* do_bound { do ⌜ 512 ≤ (← ⟦out.len()⟧) ⌝ }
+    requires do_bound { 512 ≤ (length out.old) }
     ensures value { result ≡ length (held_blocks (head_view d subs.now rows.now [] [])) }
     ensures upper_bound { result ≤ 512 }
     ensures out_after { out.new ≡ sets out.old 0 (held_blocks (head_view d subs.now rows.now [] [])) }
@@ -182,7 +182,7 @@ fn gather_all(d: Head, subs: &[SubRow], rows: &[Row], out: &mut [Block]) -> usiz
 // Where the first of blocks[from..to] with the number stands; `to` where there is none.
 fn seek(blocks: &[Block], from: usize, to: usize, seq: u64) -> usize
     requires from_le_to { from ≤ to }
-    requires* to_bound { do ⌜ to ≤ (← ⟦blocks.len()⟧) ⌝ }
+    requires to_bound { to ≤ (length blocks.now) }
     ensures { ltb result to ≡ member seq (map (at 0) (slice from to blocks.now)) }
 {
     let mut i = from;
@@ -198,7 +198,7 @@ fn seek(blocks: &[Block], from: usize, to: usize, seq: u64) -> usize
 // Where the number stands among the first n blocks, looked for from the hint on and then before it; n where there is none.
 fn find(blocks: &[Block], n: usize, seq: u64, hint: usize) -> usize
     requires hint_le_n { hint ≤ n }
-    requires* n_bound { do ⌜ n ≤ (← ⟦blocks.len()⟧) ⌝ }
+    requires n_bound { n ≤ (length blocks.now) }
     ensures { ltb result n ≡ member seq (map (at 0) (take n blocks.now)) }
 {
     let next = seek(blocks, hint, n, seq);
@@ -224,9 +224,9 @@ fn leave(
     left: &mut [Block],
     start: usize,
 ) -> usize
-    requires* n_bound { do ⌜ n ≤ (← ⟦blocks.len()⟧) ⌝ }
-    requires* m_bound { do ⌜ m ≤ (← ⟦held.len()⟧) ⌝ }
-    requires* n_bound_2 { do ⌜ start + n ≤ (← ⟦left.len()⟧) ⌝ }
+    requires n_bound { n ≤ (length blocks.now) }
+    requires m_bound { m ≤ (length held.now) }
+    requires n_bound_2 { start + n ≤ (length left.old) }
     ensures value { result ≡ start + length (leavers_of code words (take m held.now) (take n blocks.now)) }
     ensures upper_bound { result ≤ start + n }
     ensures left_after { left.new ≡ sets left.old start (leavers_of code words (take m held.now) (take n blocks.now)) }
@@ -258,8 +258,8 @@ fn leave_new(
     left: &mut [Block],
     k: usize,
 ) -> usize
-    requires* m_bound { do ⌜ m ≤ (← ⟦held.len()⟧) ⌝ }
-    requires* k_bound { do ⌜ k + 1 ≤ (← ⟦left.len()⟧) ⌝ }
+    requires m_bound { m ≤ (length held.now) }
+    requires k_bound { k + 1 ≤ (length left.old) }
     ensures value { result ≡ k + length (leavers_of code words (take m held.now) (comes code words)) }
     ensures upper_bound { result ≤ k + 1 }
     ensures left_after { left.new ≡ sets left.old k (leavers_of code words (take m held.now) (comes code words)) }
@@ -287,9 +287,9 @@ fn leave_all(
     words: [u64; 8],
     left: &mut [Block],
 ) -> usize
-    requires* n_bound { do ⌜ n ≤ (← ⟦blocks.len()⟧) ⌝ }
-    requires* m_bound { do ⌜ m ≤ (← ⟦held.len()⟧) ⌝ }
-    requires* n_bound_2 { do ⌜ n + 1 ≤ (← ⟦left.len()⟧) ⌝ }
+    requires n_bound { n ≤ (length blocks.now) }
+    requires m_bound { m ≤ (length held.now) }
+    requires n_bound_2 { n + 1 ≤ (length left.old) }
     ensures value { result ≡ length (all_leavers code words (take m held.now) (take n blocks.now)) }
     ensures upper_bound { result ≤ n + 1 }
     ensures left_after { left.new ≡ sets left.old 0 (all_leavers code words (take m held.now) (take n blocks.now)) }
@@ -305,8 +305,8 @@ fn leave_all(
 
 // The first n of a list over the first of another.
 fn copy(from: &[Block], n: usize, out: &mut [Block])
-    requires* n_bound { do ⌜ n ≤ (← ⟦from.len()⟧) ⌝ }
-    requires* n_bound_2 { do ⌜ n ≤ (← ⟦out.len()⟧) ⌝ }
+    requires n_bound { n ≤ (length from.now) }
+    requires n_bound_2 { n ≤ (length out.old) }
     ensures { out.new ≡ sets out.old 0 (take n from.now) }
 {
     let mut i = 0;

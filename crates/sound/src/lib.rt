@@ -23,7 +23,7 @@ type SubRow = [u64; 16];
 // Copies the sequence numbers of n rows from place from into out, from place start.
 fn gather(rows: &[Row], from: usize, n: usize, out: &mut [u64], start: usize)
     requires n_in_bounds { from + n ≤ length rows.now }
-    requires* n_bound { do ⌜ start + n ≤ (← ⟦out.len()⟧) ⌝ }
+    requires n_bound { start + n ≤ (length out.old) }
     ensures { take (start + n) out.new ≡ take start out.old ++ seqs_at (take n (drop from rows.now)) }
 {
     let mut i = 0;
@@ -101,7 +101,7 @@ fn sub_apart(w: SubRow, rows: &[Row], base: usize, on_queue: bool) -> bool
 
 // Each consumer's rows.
 fn subs_apart(subs: &[SubRow], n: usize, rows: &[Row], on_queue: bool) -> bool
-    requires* n_bound { do ⌜ n ≤ (← ⟦subs.len()⟧) ⌝ }
+    requires n_bound { n ≤ (length subs.now) }
     requires subs_in_bounds { sub_rows (take n subs.now) ≤ length rows.now }
     requires subs_bound { sub_rows (take n subs.now) ≤ 512 }
     requires rows_value { all (held_rise on_queue) (each_sub held_seqs (take n subs.now) rows.now) ≡ true }
@@ -132,9 +132,9 @@ fn taken_of(w: SubRow) -> usize
 
 // Gathers a queue's entries in flight; returns where they end.
 fn gather_taken(subs: &[SubRow], n: usize, rows: &[Row], out: &mut [u64], start: usize) -> usize
-    requires* n_bound { do ⌜ n ≤ (← ⟦subs.len()⟧) ⌝ }
+    requires n_bound { n ≤ (length subs.now) }
     requires subs_in_bounds { sub_rows (take n subs.now) ≤ length rows.now }
-    requires* subs_bound { do ⌜ start + sub_rows (take n subs.now) ≤ (← ⟦out.len()⟧) ⌝ }
+    requires subs_bound { start + sub_rows (take n subs.now) ≤ (length out.old) }
     ensures out_after { take result out.new ≡ take start out.old ++ seqs (taken (subs_at queue (take n subs.now) rows.now)) }
     ensures upper_bound { result ≤ start + sub_rows (take n subs.now) }
 {
@@ -247,11 +247,11 @@ fn queue_apart(
     waiting: usize,
     out: &mut [u64],
 ) -> bool
-    requires* n_bound { do ⌜ n ≤ (← ⟦subs.len()⟧) ⌝ }
+    requires n_bound { n ≤ (length subs.now) }
     requires others_value { others ≡ sub_rows (take n subs.now) }
     requires waiting_in_bounds { others + (reserved + waiting) ≤ length rows.now }
     requires waiting_bound { others + (reserved + waiting) ≤ 512 }
-    requires* reserved_bound { do ⌜ others + reserved ≤ (← ⟦out.len()⟧) ⌝ }
+    requires reserved_bound { others + reserved ≤ (length out.old) }
     requires rows_value { sorted_ok 0 (slice (others + reserved) (others + reserved + waiting) rows.now) ≡ true }
     ensures { result ≡ distinct (queue_seqs others reserved waiting (take n subs.now) rows.now) }
 {
@@ -271,7 +271,7 @@ fn queue_apart(
 // rows[first..end], which rise. No is no answer.
 fn marks(rows: &[Row], from: usize, n: usize, slots: &mut [bool], first: usize, end: usize) -> bool
     requires n_in_bounds { from + n ≤ length rows.now }
-    requires* do_bound { do ⌜ 256 ≤ (← ⟦slots.len()⟧) ⌝ }
+    requires do_bound { 256 ≤ (length slots.old) }
     requires first_le_end { first ≤ end }
     requires end_in_bounds { end ≤ length rows.now }
     requires rows_value { ascending (seqs_at (slice first end rows.now)) ≡ true }
@@ -311,7 +311,7 @@ fn seen_apart(
     reserved: usize,
     waiting: usize,
 ) -> bool
-    requires* n_bound { do ⌜ n ≤ (← ⟦subs.len()⟧) ⌝ }
+    requires n_bound { n ≤ (length subs.now) }
     requires others_value { others ≡ sub_rows (take n subs.now) }
     requires waiting_in_bounds { others + (reserved + waiting) ≤ length rows.now }
     requires waiting_bound { others + (reserved + waiting) ≤ 512 }
@@ -348,7 +348,7 @@ fn apart(
     waiting: usize,
     on_queue: bool,
 ) -> bool
-    requires* n_bound { do ⌜ n ≤ (← ⟦subs.len()⟧) ⌝ }
+    requires n_bound { n ≤ (length subs.now) }
     requires others_value { others ≡ sub_rows (take n subs.now) }
     requires waiting_in_bounds { others + (reserved + waiting) ≤ length rows.now }
     requires waiting_bound { others + (reserved + waiting) ≤ 512 }
@@ -384,7 +384,7 @@ struct Span {
 
 // The first of n consumers that has most rows. That it has most is not promised: nothing but speed depends on it.
 fn most_rows(subs: &[SubRow], n: usize) -> Span
-    requires* n_bound { do ⌜ n ≤ (← ⟦subs.len()⟧) ⌝ }
+    requires n_bound { n ≤ (length subs.now) }
     requires subs_bound { sub_rows (take n subs.now) ≤ 512 }
     ensures { HubAt (take n subs.now) result.end result.many }
 {
@@ -442,7 +442,7 @@ fn alike_at(rows: &[Row], base: usize, k: usize, end: usize, many: usize) -> boo
 // Whether it is seen that copies of an entry agree on its size: on a topic where each consumer takes all entries, its rows are copies of the last rows of the
 // one that has most. No is no answer.
 fn alike(subs: &[SubRow], n: usize, rows: &[Row], on_queue: bool) -> bool
-    requires* n_bound { do ⌜ n ≤ (← ⟦subs.len()⟧) ⌝ }
+    requires n_bound { n ≤ (length subs.now) }
     requires subs_in_bounds { sub_rows (take n subs.now) ≤ length rows.now }
     requires subs_bound { sub_rows (take n subs.now) ≤ 512 }
     ensures { result ≡ true → AlikeBy on_queue (take n subs.now) rows.now }
@@ -469,7 +469,7 @@ fn alike(subs: &[SubRow], n: usize, rows: &[Row], on_queue: bool) -> bool
 
 // Whether copies of an entry among the first rows agree on its size. Where no entry can have two rows, none is looked at.
 fn sizes_ok(subs: &[SubRow], n: usize, rows: &[Row], used: usize, on_queue: bool) -> bool
-    requires* n_bound { do ⌜ n ≤ (← ⟦subs.len()⟧) ⌝ }
+    requires n_bound { n ≤ (length subs.now) }
     requires used_in_bounds { used ≤ length rows.now }
     requires used_bound { used ≤ 512 }
     requires rows_value { shared_by on_queue (take n subs.now) ≡ false → sizes_at used rows.now ≡ true }
@@ -486,7 +486,7 @@ fn sizes_ok(subs: &[SubRow], n: usize, rows: &[Row], used: usize, on_queue: bool
 // Copies the connections of n rows from place from into out, from place start.
 fn gather_conns(rows: &[Row], from: usize, n: usize, out: &mut [u64], start: usize)
     requires n_in_bounds { from + n ≤ length rows.now }
-    requires* n_bound { do ⌜ start + n ≤ (← ⟦out.len()⟧) ⌝ }
+    requires n_bound { start + n ≤ (length out.old) }
     ensures { take (start + n) out.new ≡ take start out.old ++ conns_at (take n (drop from rows.now)) }
 {
     let mut i = 0;
@@ -499,9 +499,9 @@ fn gather_conns(rows: &[Row], from: usize, n: usize, out: &mut [u64], start: usi
 
 // Gathers those of a queue's entries in flight; returns where they end.
 fn taken_conns(subs: &[SubRow], n: usize, rows: &[Row], out: &mut [u64], start: usize) -> usize
-    requires* n_bound { do ⌜ n ≤ (← ⟦subs.len()⟧) ⌝ }
+    requires n_bound { n ≤ (length subs.now) }
     requires subs_in_bounds { sub_rows (take n subs.now) ≤ length rows.now }
-    requires* subs_bound { do ⌜ start + sub_rows (take n subs.now) ≤ (← ⟦out.len()⟧) ⌝ }
+    requires subs_bound { start + sub_rows (take n subs.now) ≤ (length out.old) }
     ensures { take result out.new ≡ take start out.old ++ conns (taken (subs_at queue (take n subs.now) rows.now)) }
 {
     let mut end = start;
@@ -528,10 +528,10 @@ fn own_conns(
     on_queue: bool,
     out: &mut [u64],
 ) -> usize
-    requires* n_bound { do ⌜ n ≤ (← ⟦subs.len()⟧) ⌝ }
+    requires n_bound { n ≤ (length subs.now) }
     requires others_value { others ≡ sub_rows (take n subs.now) }
     requires rest_in_bounds { others + rest ≤ length rows.now }
-    requires* rest_bound { do ⌜ others + rest ≤ (← ⟦out.len()⟧) ⌝ }
+    requires rest_bound { others + rest ≤ (length out.old) }
     requires rest_bound_2 { others + rest ≤ 512 }
     ensures { take result out.new ≡ own_conns on_queue others rest (take n subs.now) rows.now }
 {
@@ -553,7 +553,7 @@ fn shares_ok(
     share: u64,
     on_queue: bool,
 ) -> bool
-    requires* n_bound { do ⌜ n ≤ (← ⟦subs.len()⟧) ⌝ }
+    requires n_bound { n ≤ (length subs.now) }
     requires others_value { others ≡ sub_rows (take n subs.now) }
     requires rest_in_bounds { others + rest ≤ length rows.now }
     requires rest_bound { others + rest ≤ 512 }
@@ -579,7 +579,7 @@ fn numbers_ok(
     waiting: usize,
     on_queue: bool,
 ) -> bool
-    requires* n_bound { do ⌜ n ≤ (← ⟦subs.len()⟧) ⌝ }
+    requires n_bound { n ≤ (length subs.now) }
     requires others_value { others ≡ sub_rows (take n subs.now) }
     requires waiting_in_bounds { others + (reserved + waiting) ≤ length rows.now }
     requires waiting_bound { others + (reserved + waiting) ≤ 512 }
@@ -603,7 +603,7 @@ fn numbers_ok(
 // What follows the head.
 fn rest_ok(head: &[u64], subs: &[SubRow], rows: &[Row]) -> bool
     requires in_bounds { 8347 ≤ length head.now }
-    requires* do_bound { do ⌜ 32 ≤ (← ⟦subs.len()⟧) ⌝ }
+    requires do_bound { 32 ≤ (length subs.now) }
     requires in_bounds_2 { 512 ≤ length rows.now }
     requires head_value { (head_ok head.now ≡ true) × (rings_formed (at 14 head.now) (drop 113 head.now) ≡ true) }
     ensures { result ≡ rest_ok (lent head.now subs.now rows.now) }

@@ -1,5 +1,6 @@
 // The destination's own numbers by value (`State` of destination.rs), their words in the head, and the events that a call sends.
 #![tactic(auto)]
+
 ghost use Rattle.std.specs.Prelude.{◌≡◌, ◌+◌, ◌-◌, min, length, set};
 ghost use Rattle.model.specs.Model.{id_of};
 ghost use Rattle.stats.specs.Counted.{more, with_enqueued, with_dequeued_by, with_expired_by, with_discarded_by, with_dispatched};

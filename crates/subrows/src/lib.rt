@@ -1,5 +1,6 @@
 // Whether consumers and rows of lent buffers are sound, one by one.
 #![tactic(auto)]
+
 ghost use Rattle.std.specs.Prelude.{◌≡◌, true, not, ◌&&◌, ◌+◌, ◌≤◌, ◌<◌, ◌^◌, length, take, drop};
 ghost use Rattle.std.proofs.Math.Seq.{slice};
 ghost use Rattle.model.specs.Model.{id_of, same_id};
@@ -134,7 +135,7 @@ fn flying_ok(rows: &[Row], from: usize, to: usize, next: u64, freed: u64) -> boo
 
 // How many rows the first n consumers have; 513 for more than 512.
 fn sub_rows(subs: &[SubRow], n: usize) -> usize
-    requires* { do ⌜ n ≤ (← ⟦subs.len()⟧) ⌝ }
+    requires { n ≤ (length subs.now) }
     ensures { result ≡ rows_up_to (sub_rows (take n subs.now)) }
 {
     let mut room: u64 = 512;
@@ -198,7 +199,7 @@ fn sub_ok(w: SubRow, rows: &[Row], base: usize, most: u64, on_queue: bool) -> bo
 
 // The first n consumers.
 fn subs_ok(subs: &[SubRow], n: usize, rows: &[Row], most: u64, on_queue: bool) -> bool
-    requires* n_bound { do ⌜ n ≤ (← ⟦subs.len()⟧) ⌝ }
+    requires n_bound { n ≤ (length subs.now) }
     requires subs_in_bounds { sub_rows (take n subs.now) ≤ length rows.now }
     requires subs_bound { sub_rows (take n subs.now) ≤ 512 }
     ensures { result ≡ each_ok (kind_by on_queue) most (take n subs.now) rows.now }
@@ -228,7 +229,7 @@ fn same_id(conn: u64, session: u64, value: u64, conn2: u64, session2: u64, value
 // No consumer from place i on has this identifier.
 fn alone(subs: &[SubRow], from: usize, n: usize, conn: u64, session: u64, value: u64) -> bool
     requires from_le_n { from ≤ n }
-    requires* n_bound { do ⌜ n ≤ (← ⟦subs.len()⟧) ⌝ }
+    requires n_bound { n ≤ (length subs.now) }
     ensures { result ≡ all (λ v. not (same_id (id_at v) (id_of conn session value))) (slice from n subs.now) }
 {
     let mut i = from;
@@ -243,7 +244,7 @@ fn alone(subs: &[SubRow], from: usize, n: usize, conn: u64, session: u64, value:
 }
 
 fn ids_apart(subs: &[SubRow], n: usize) -> bool
-    requires* { do ⌜ n ≤ (← ⟦subs.len()⟧) ⌝ }
+    requires { n ≤ (length subs.now) }
     ensures { result ≡ ids_apart (take n subs.now) }
 {
     let mut i = 0;

@@ -17,11 +17,11 @@ use Rattle.queries.proofs.subs_lasting.Statement.{statement}
 use Rattle.queries.proofs.subs_lasting.Tie as tie
 
 abbrev invariant-loop : tie.invariant-loop
-invariant-loop subs n rows on-queue base₀ i₀ base i =
-    (i ≤ n) × (base + sub_rows (slice i n subs) ≡ sub_rows (take n subs)) × (all sub_lasts (subs_at (kind_by on-queue) (slice i n subs) (drop base rows)) ≡ all sub_lasts (subs_at (kind_by on-queue) (take n subs) rows))
+invariant-loop subs n rows on_queue base₀ i₀ base i =
+    (i ≤ n) × (base + sub_rows (slice i n subs) ≡ sub_rows (take n subs)) × (all sub_lasts (subs_at (kind_by on_queue) (slice i n subs) (drop base rows)) ≡ all sub_lasts (subs_at (kind_by on_queue) (take n subs) rows))
 
 abbrev decreases-loop : tie.decreases-loop
-decreases-loop subs n rows on-queue base₀ i₀ base i = n - i
+decreases-loop subs n rows on_queue base₀ i₀ base i = n - i
 
 loop-holds : tie.Need-loop-init invariant-loop decreases-loop
 loop-holds c = search rules
@@ -84,7 +84,7 @@ returns c =
     let a = s.args in
     let h = c.before.before.before.loop-test.true in
     let r = rows-turn a.subs.now p.loop.i a.n s.requires.0 h in
-    walk-stop a.subs.now p.loop.i a.n s.requires.0 sub_lasts (sub_at (kind_by a.on-queue)) a.rows.now p.loop.base (all sub_lasts (subs_at (kind_by a.on-queue) (take a.n a.subs.now) a.rows.now)) p.loop.invariant.2 h (sub-placed a.on-queue (get_or a.subs.now p.loop.i []) a.rows.now p.loop.base (omega (arith, r, p.loop.invariant.1, s.requires.1)) ∙ sym c.before.held-lasting.ensures ∙ not-true _ c.if1.true)
+    walk-stop a.subs.now p.loop.i a.n s.requires.0 sub_lasts (sub_at (kind_by a.on_queue)) a.rows.now p.loop.base (all sub_lasts (subs_at (kind_by a.on_queue) (take a.n a.subs.now) a.rows.now)) p.loop.invariant.2 h (sub-placed a.on_queue (get_or a.subs.now p.loop.i []) a.rows.now p.loop.base (omega (arith, r, p.loop.invariant.1, s.requires.1)) ∙ sym c.before.held-lasting.ensures ∙ not-true _ c.if1.true)
 
 add-base : tie.Need-overflow-add-base invariant-loop decreases-loop
 add-base c =
@@ -108,14 +108,14 @@ loop-again c =
     let a = s.args in
     let h = c.before.before.before.loop-test.true in
     let r = rows-turn a.subs.now p.loop.i a.n s.requires.0 h in
-    (search rules, omega (arith, r, p.loop.invariant.1), walk-next a.subs.now p.loop.i a.n s.requires.0 sub_lasts (sub_at (kind_by a.on-queue)) a.rows.now p.loop.base (all sub_lasts (subs_at (kind_by a.on-queue) (take a.n a.subs.now) a.rows.now)) p.loop.invariant.2 h (sub-placed a.on-queue (get_or a.subs.now p.loop.i []) a.rows.now p.loop.base (omega (arith, r, p.loop.invariant.1, s.requires.1)) ∙ sym c.before.held-lasting.ensures ∙ not-false _ c.if1.false))
+    (search rules, omega (arith, r, p.loop.invariant.1), walk-next a.subs.now p.loop.i a.n s.requires.0 sub_lasts (sub_at (kind_by a.on_queue)) a.rows.now p.loop.base (all sub_lasts (subs_at (kind_by a.on_queue) (take a.n a.subs.now) a.rows.now)) p.loop.invariant.2 h (sub-placed a.on_queue (get_or a.subs.now p.loop.i []) a.rows.now p.loop.base (omega (arith, r, p.loop.invariant.1, s.requires.1)) ∙ sym c.before.held-lasting.ensures ∙ not-false _ c.if1.false))
 
 returns-2 : tie.Need-returns-2 invariant-loop decreases-loop
 returns-2 c =
     let p = c.before in
     let s = p.before in
     let a = s.args in
-    walk_end a.subs.now p.loop.i a.n s.requires.0 sub_lasts (sub_at (kind_by a.on-queue)) a.rows.now p.loop.base (all sub_lasts (subs_at (kind_by a.on-queue) (take a.n a.subs.now) a.rows.now)) p.loop.invariant.2 (omega arith)
+    walk_end a.subs.now p.loop.i a.n s.requires.0 sub_lasts (sub_at (kind_by a.on_queue)) a.rows.now p.loop.base (all sub_lasts (subs_at (kind_by a.on_queue) (take a.n a.subs.now) a.rows.now)) p.loop.invariant.2 (omega arith)
 
 pub subs-lasting-spec : {M : Type 1} → statement M
 subs-lasting-spec =

@@ -19,10 +19,10 @@ use Rattle.sound.proofs.alike.Statement.{statement}
 use Rattle.sound.proofs.alike.Tie as tie
 
 abbrev invariant-loop : tie.invariant-loop
-invariant-loop subs n rows on-queue end many base₀ i₀ base i = (i ≤ n) × (base + sub_rows (slice i n subs) ≡ sub_rows (take n subs)) × (all (apart_by topic) (subs_at topic (take n subs) rows) ≡ true → all (copy (hub end many rows)) (take base rows) ≡ true)
+invariant-loop subs n rows on_queue end many base₀ i₀ base i = (i ≤ n) × (base + sub_rows (slice i n subs) ≡ sub_rows (take n subs)) × (all (apart_by topic) (subs_at topic (take n subs) rows) ≡ true → all (copy (hub end many rows)) (take base rows) ≡ true)
 
 abbrev decreases-loop : tie.decreases-loop
-decreases-loop subs n rows on-queue end many base₀ i₀ base i = n - i
+decreases-loop subs n rows on_queue end many base₀ i₀ base i = n - i
 
 returns : tie.Need-returns invariant-loop decreases-loop
 returns c = λ t. absurd (false≢true t)

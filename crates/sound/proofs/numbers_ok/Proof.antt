@@ -29,17 +29,17 @@ returns : tie.Need-returns
 returns c =
     let a = c.before.before.args in
     let seqs = c.before.apart in
-    let conj : Bool = (a.on-queue || eqb (a.reserved + a.waiting) 0) && seqs.result in
-    numbers-stop a.on-queue a.others a.reserved a.waiting (take a.n a.subs.now) a.rows.now seqs.result seqs.ensures (not-true conj c.if1.true)
+    let conj : Bool = (a.on_queue || eqb (a.reserved + a.waiting) 0) && seqs.result in
+    numbers-stop a.on_queue a.others a.reserved a.waiting (take a.n a.subs.now) a.rows.now seqs.result seqs.ensures (not-true conj c.if1.true)
 
 -- what is known where all but the sizes is tested
 known : (c : tie.Else1) → let a = c.before.before.args in
-    (empty_by (kind_by a.on-queue) (a.reserved + a.waiting) ≡ true) × (apart_all a.on-queue a.others a.reserved a.waiting (take a.n a.subs.now) a.rows.now ≡ true)
+    (empty_by (kind_by a.on_queue) (a.reserved + a.waiting) ≡ true) × (apart_all a.on_queue a.others a.reserved a.waiting (take a.n a.subs.now) a.rows.now ≡ true)
 known c =
     let a = c.before.before.args in
     let seqs = c.before.apart in
-    let conj : Bool = (a.on-queue || eqb (a.reserved + a.waiting) 0) && seqs.result in
-    numbers-known a.on-queue a.others a.reserved a.waiting (take a.n a.subs.now) a.rows.now seqs.result seqs.ensures (not-false conj c.if1.false)
+    let conj : Bool = (a.on_queue || eqb (a.reserved + a.waiting) 0) && seqs.result in
+    numbers-known a.on_queue a.others a.reserved a.waiting (take a.n a.subs.now) a.rows.now seqs.result seqs.ensures (not-false conj c.if1.false)
 
 alike-requires : tie.Need-alike-requires
 alike-requires c κs =
@@ -55,10 +55,10 @@ returns-2 c =
     let seqs = c.before.before.before.apart in
     let look = c.before.alike.ensures c.if2.true in
     let k = known c.before.before in
-    let u : a.others + a.reserved + a.waiting ≡ sub_rows us = omega (arith, topic-empty a.on-queue (a.reserved + a.waiting) look.on-topic k.0, s.requires.1.0) in
-    let conj : Bool = (a.on-queue || eqb (a.reserved + a.waiting) 0) && seqs.result in
-    numbers-last a.on-queue a.others a.reserved a.waiting us rows seqs.result seqs.ensures (not-false conj c.before.before.if1.false) true
-    (sym (ap (λ (m : ℕ). sizes_at m rows) u ∙ look.agree (topic-apart a.others a.reserved a.waiting us rows a.on-queue look.on-topic k.1)))
+    let u : a.others + a.reserved + a.waiting ≡ sub_rows us = omega (arith, topic-empty a.on_queue (a.reserved + a.waiting) look.on-topic k.0, s.requires.1.0) in
+    let conj : Bool = (a.on_queue || eqb (a.reserved + a.waiting) 0) && seqs.result in
+    numbers-last a.on_queue a.others a.reserved a.waiting us rows seqs.result seqs.ensures (not-false conj c.before.before.if1.false) true
+    (sym (ap (λ (m : ℕ). sizes_at m rows) u ∙ look.agree (topic-apart a.others a.reserved a.waiting us rows a.on_queue look.on-topic k.1)))
 
 add-sizes-ok : tie.Need-overflow-add-sizes-ok
 add-sizes-ok c = search rules
@@ -73,8 +73,8 @@ returns-3 : tie.Need-returns-3
 returns-3 c =
     let a = c.before.before.before.before.before.args in
     let seqs = c.before.before.before.before.apart in
-    let conj : Bool = (a.on-queue || eqb (a.reserved + a.waiting) 0) && seqs.result in
-    numbers-last a.on-queue a.others a.reserved a.waiting (take a.n a.subs.now) a.rows.now seqs.result seqs.ensures (not-false conj c.before.before.before.if1.false) c.sizes-ok.result c.sizes-ok.ensures
+    let conj : Bool = (a.on_queue || eqb (a.reserved + a.waiting) 0) && seqs.result in
+    numbers-last a.on_queue a.others a.reserved a.waiting (take a.n a.subs.now) a.rows.now seqs.result seqs.ensures (not-false conj c.before.before.before.if1.false) c.sizes-ok.result c.sizes-ok.ensures
 
 pub numbers-ok-spec : {M : Type 1} → statement M
 numbers-ok-spec =

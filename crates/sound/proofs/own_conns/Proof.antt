@@ -34,7 +34,7 @@ returns c =
     let g = c.before.before.gather-conns in
     let us = take a.n a.subs.now in
     ap (λ (n : ℕ). take n g.new.1.1.1.0) (sym (zero-add (a.others + a.rest))) ∙ g.ensures
-    ∙ ap (λ (q : Bool). own_conns q a.others a.rest us a.rows.now) (sym (not-true a.on-queue c.before.before.before.before.if1.true))
+    ∙ ap (λ (q : Bool). own_conns q a.others a.rest us a.rows.now) (sym (not-true a.on_queue c.before.before.before.before.if1.true))
 
 gather-conns-requires-2 : tie.Need-gather-conns-requires-2
 gather-conns-requires-2 c κs = search rules
@@ -55,7 +55,7 @@ returns-2 c =
     let rest : List ℕ = conns_at (take a.rest (drop a.others rows)) in
     let out : List ℕ = conns (taken (subs_at queue us rows)) in
     gathered-two a.out.now g.new.1.1.1.0 h.new.1.1.1.0 rest out a.rest h.result g.ensures h.ensures
-    ∙ ap (λ (q : Bool). own_conns q a.others a.rest us rows) (sym (not-false a.on-queue c.before.before.before.before.before.before.before.before.if1.false))
+    ∙ ap (λ (q : Bool). own_conns q a.others a.rest us rows) (sym (not-false a.on_queue c.before.before.before.before.before.before.before.before.if1.false))
 
 pub own-conns-spec : {M : Type 1} → statement M
 own-conns-spec =

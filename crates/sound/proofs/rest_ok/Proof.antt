@@ -33,8 +33,8 @@ shared-slice-read-reserved c = search rules
 shared-slice-read-waiting : tie.Need-shared-slice-read-waiting
 shared-slice-read-waiting c = search rules
 
-shared-slice-read-on-queue : tie.Need-shared-slice-read-on-queue
-shared-slice-read-on-queue c = search rules
+shared-slice-read-on_queue : tie.Need-shared-slice-read-on_queue
+shared-slice-read-on_queue c = search rules
 
 shared-slice-read-most : tie.Need-shared-slice-read-most
 shared-slice-read-most c = search rules
@@ -148,7 +148,7 @@ rest-ok-spec =
     shared-slice-read-n
     shared-slice-read-reserved
     shared-slice-read-waiting
-    shared-slice-read-on-queue
+    shared-slice-read-on_queue
     shared-slice-read-most
     mul_most
     add_most

@@ -13,7 +13,7 @@ add-if1 c = search rules
 returns : tie.Need-returns
 returns c =
     let a = c.before.args in
-    sym (shares-full a.rest (take a.n a.subs.now) a.rows.now a.share a.others a.on-queue c.before.requires.1.0 c.if1.true)
+    sym (shares-full a.rest (take a.n a.subs.now) a.rows.now a.share a.others a.on_queue c.before.requires.1.0 c.if1.true)
 
 slice-aggregate-own-conns : tie.Need-slice-aggregate-own-conns
 slice-aggregate-own-conns c = search rules

@@ -32,12 +32,12 @@ rows-apart-requires c κs =
     let w = a.t1 in
     let l : List Row = drop a.base a.rows.now in
     let b : at 14 w ≤ length l = simp length-drop (omega arith) in
-    (search rules, (search rules, (search rules, ap (λ (m : List Row). ascending (seqs_at m)) (part_of l (at 14 w) (at 15 w) b) ∙ topic-rises a.on-queue (seqs_at (take (at 15 w) (drop (at 14 w) l))) (not-true a.on-queue c.if1.true) s.requires.1.1)))
+    (search rules, (search rules, (search rules, ap (λ (m : List Row). ascending (seqs_at m)) (part_of l (at 14 w) (at 15 w) b) ∙ topic-rises a.on_queue (seqs_at (take (at 15 w) (drop (at 14 w) l))) (not-true a.on_queue c.if1.true) s.requires.1.1)))
 
 returns : tie.Need-returns
 returns c =
     let a = c.before.before.args in
-    c.rows_apart.ensures ∙ asked-topic a.on-queue (flag (at 6 a.t1)) (distinct (seqs_at (take (at 14 a.t1 + at 15 a.t1) (drop a.base a.rows.now)))) (not-true a.on-queue c.before.if1.true)
+    c.rows_apart.ensures ∙ asked-topic a.on_queue (flag (at 6 a.t1)) (distinct (seqs_at (take (at 14 a.t1 + at 15 a.t1) (drop a.base a.rows.now)))) (not-true a.on_queue c.before.if1.true)
 
 array-read-if2 : tie.Need-array-read-if2
 array-read-if2 c = search rules
@@ -51,12 +51,12 @@ rows-apart-requires-2 c κs =
 returns-2 : tie.Need-returns-2
 returns-2 c =
     let a = c.before.before.before.args in
-    c.rows-apart2.ensures ∙ asked-browser a.on-queue (flag (at 6 a.t1)) (distinct (seqs_at (take (at 14 a.t1 + at 15 a.t1) (drop a.base a.rows.now)))) (not-false a.on-queue c.before.before.if1.false) (ap not (ne_eqb (at 6 a.t1) 0 c.before.if2.true))
+    c.rows-apart2.ensures ∙ asked-browser a.on_queue (flag (at 6 a.t1)) (distinct (seqs_at (take (at 14 a.t1 + at 15 a.t1) (drop a.base a.rows.now)))) (not-false a.on_queue c.before.before.if1.false) (ap not (ne_eqb (at 6 a.t1) 0 c.before.if2.true))
 
 returns-3 : tie.Need-returns-3
 returns-3 c =
     let a = c.before.before.args in
-    not-asked a.on-queue (flag (at 6 a.t1)) (distinct (seqs_at (take (at 14 a.t1 + at 15 a.t1) (drop a.base a.rows.now)))) (not-false a.on-queue c.before.if1.false) (ap not (eq-eqb (at 6 a.t1) 0 c.if2.false))
+    not-asked a.on_queue (flag (at 6 a.t1)) (distinct (seqs_at (take (at 14 a.t1 + at 15 a.t1) (drop a.base a.rows.now)))) (not-false a.on_queue c.before.if1.false) (ap not (eq-eqb (at 6 a.t1) 0 c.if2.false))
 
 pub sub-apart-spec : {M : Type 1} → statement M
 sub-apart-spec =

@@ -20,10 +20,10 @@ use Rattle.sound.proofs.subs_apart.Statement.{statement}
 use Rattle.sound.proofs.subs_apart.Tie as tie
 
 abbrev invariant-loop : tie.invariant-loop
-invariant-loop subs n rows on-queue base₀ i₀ base i = (i ≤ n) × (base + sub_rows (slice i n subs) ≡ sub_rows (take n subs)) × (all (held_rise on-queue) (each_sub held_seqs (slice i n subs) (drop base rows)) ≡ true) × (all (apart_by (kind_by on-queue)) (subs_at (kind_by on-queue) (slice i n subs) (drop base rows)) ≡ all (apart_by (kind_by on-queue)) (subs_at (kind_by on-queue) (take n subs) rows))
+invariant-loop subs n rows on_queue base₀ i₀ base i = (i ≤ n) × (base + sub_rows (slice i n subs) ≡ sub_rows (take n subs)) × (all (held_rise on_queue) (each_sub held_seqs (slice i n subs) (drop base rows)) ≡ true) × (all (apart_by (kind_by on_queue)) (subs_at (kind_by on_queue) (slice i n subs) (drop base rows)) ≡ all (apart_by (kind_by on_queue)) (subs_at (kind_by on_queue) (take n subs) rows))
 
 abbrev decreases-loop : tie.decreases-loop
-decreases-loop subs n rows on-queue base₀ i₀ base i = n - i
+decreases-loop subs n rows on_queue base₀ i₀ base i = n - i
 
 loop-holds : tie.Need-loop-init invariant-loop decreases-loop
 loop-holds c = (search rules, search rules, c.requires.1.1.1, refl)
@@ -41,7 +41,7 @@ sub-apart-requires c κs =
     let a = s.args in
     let subs = a.subs.now in
     let h = c.before.loop-test.true in
-    (omega (arith, rows-turn subs p.loop.i a.n s.requires.0 h), (omega (arith, rows-turn subs p.loop.i a.n s.requires.0 h), and_left (held_rise a.on-queue (seqs_at (take (at 15 (get_or subs p.loop.i [])) (drop (at 14 (get_or subs p.loop.i [])) (drop p.loop.base a.rows.now))))) (all (held_rise a.on-queue) (each_sub held_seqs (slice (p.loop.i + 1) a.n subs) (drop (p.loop.base + (at 14 (get_or subs p.loop.i []) + at 15 (get_or subs p.loop.i []))) a.rows.now))) (walk_turn subs p.loop.i a.n s.requires.0 (held_rise a.on-queue) held_seqs a.rows.now p.loop.base true p.loop.invariant.2 h)))
+    (omega (arith, rows-turn subs p.loop.i a.n s.requires.0 h), (omega (arith, rows-turn subs p.loop.i a.n s.requires.0 h), and_left (held_rise a.on_queue (seqs_at (take (at 15 (get_or subs p.loop.i [])) (drop (at 14 (get_or subs p.loop.i [])) (drop p.loop.base a.rows.now))))) (all (held_rise a.on_queue) (each_sub held_seqs (slice (p.loop.i + 1) a.n subs) (drop (p.loop.base + (at 14 (get_or subs p.loop.i []) + at 15 (get_or subs p.loop.i []))) a.rows.now))) (walk_turn subs p.loop.i a.n s.requires.0 (held_rise a.on_queue) held_seqs a.rows.now p.loop.base true p.loop.invariant.2 h)))
 
 returns : tie.Need-returns invariant-loop decreases-loop
 returns c =
@@ -51,7 +51,7 @@ returns c =
     let subs = a.subs.now in
     let h = c.before.before.before.loop-test.true in
     let r = c.before.sub-apart in
-    walk-stop subs p.loop.i a.n s.requires.0 (apart_by (kind_by a.on-queue)) (sub_at (kind_by a.on-queue)) a.rows.now p.loop.base (all (apart_by (kind_by a.on-queue)) (subs_at (kind_by a.on-queue) (take a.n subs) a.rows.now)) p.loop.invariant.3 h (sym (r.ensures ∙ apart-here (get_or subs p.loop.i []) a.rows.now p.loop.base a.on-queue) ∙ not-true r.result c.if1.true)
+    walk-stop subs p.loop.i a.n s.requires.0 (apart_by (kind_by a.on_queue)) (sub_at (kind_by a.on_queue)) a.rows.now p.loop.base (all (apart_by (kind_by a.on_queue)) (subs_at (kind_by a.on_queue) (take a.n subs) a.rows.now)) p.loop.invariant.3 h (sym (r.ensures ∙ apart-here (get_or subs p.loop.i []) a.rows.now p.loop.base a.on_queue) ∙ not-true r.result c.if1.true)
 
 array-read-base : tie.Need-array-read-base invariant-loop decreases-loop
 array-read-base c = search rules
@@ -91,7 +91,7 @@ loop-again c =
     let subs = a.subs.now in
     let h = c.before.before.before.loop-test.true in
     let r = c.before.sub-apart in
-    (search rules, omega (arith, rows-turn subs p.loop.i a.n s.requires.0 h), and_right (held_rise a.on-queue (seqs_at (take (at 15 (get_or subs p.loop.i [])) (drop (at 14 (get_or subs p.loop.i [])) (drop p.loop.base a.rows.now))))) (all (held_rise a.on-queue) (each_sub held_seqs (slice (p.loop.i + 1) a.n subs) (drop (p.loop.base + (at 14 (get_or subs p.loop.i []) + at 15 (get_or subs p.loop.i []))) a.rows.now))) (walk_turn subs p.loop.i a.n s.requires.0 (held_rise a.on-queue) held_seqs a.rows.now p.loop.base true p.loop.invariant.2 h), walk-next subs p.loop.i a.n s.requires.0 (apart_by (kind_by a.on-queue)) (sub_at (kind_by a.on-queue)) a.rows.now p.loop.base (all (apart_by (kind_by a.on-queue)) (subs_at (kind_by a.on-queue) (take a.n subs) a.rows.now)) p.loop.invariant.3 h (sym (r.ensures ∙ apart-here (get_or subs p.loop.i []) a.rows.now p.loop.base a.on-queue) ∙ not-false r.result c.if1.false))
+    (search rules, omega (arith, rows-turn subs p.loop.i a.n s.requires.0 h), and_right (held_rise a.on_queue (seqs_at (take (at 15 (get_or subs p.loop.i [])) (drop (at 14 (get_or subs p.loop.i [])) (drop p.loop.base a.rows.now))))) (all (held_rise a.on_queue) (each_sub held_seqs (slice (p.loop.i + 1) a.n subs) (drop (p.loop.base + (at 14 (get_or subs p.loop.i []) + at 15 (get_or subs p.loop.i []))) a.rows.now))) (walk_turn subs p.loop.i a.n s.requires.0 (held_rise a.on_queue) held_seqs a.rows.now p.loop.base true p.loop.invariant.2 h), walk-next subs p.loop.i a.n s.requires.0 (apart_by (kind_by a.on_queue)) (sub_at (kind_by a.on_queue)) a.rows.now p.loop.base (all (apart_by (kind_by a.on_queue)) (subs_at (kind_by a.on_queue) (take a.n subs) a.rows.now)) p.loop.invariant.3 h (sym (r.ensures ∙ apart-here (get_or subs p.loop.i []) a.rows.now p.loop.base a.on_queue) ∙ not-false r.result c.if1.false))
 
 returns-2 : tie.Need-returns-2 invariant-loop decreases-loop
 returns-2 c =
@@ -99,7 +99,7 @@ returns-2 c =
     let s = p.before in
     let a = s.args in
     let subs = a.subs.now in
-    walk_end subs p.loop.i a.n s.requires.0 (apart_by (kind_by a.on-queue)) (sub_at (kind_by a.on-queue)) a.rows.now p.loop.base (all (apart_by (kind_by a.on-queue)) (subs_at (kind_by a.on-queue) (take a.n subs) a.rows.now)) p.loop.invariant.3 (omega arith)
+    walk_end subs p.loop.i a.n s.requires.0 (apart_by (kind_by a.on_queue)) (sub_at (kind_by a.on_queue)) a.rows.now p.loop.base (all (apart_by (kind_by a.on_queue)) (subs_at (kind_by a.on_queue) (take a.n subs) a.rows.now)) p.loop.invariant.3 (omega arith)
 
 pub subs-apart-spec : {M : Type 1} → statement M
 subs-apart-spec =

@@ -1,0 +1,17 @@
+use mathlib.Core.Path.{sym, ◌∙◌}
+use borrow.Author.Tests.{leb-true, not-true, not-false}
+use Rattle.callfile.proofs.Parts.{whole-line, no_room}
+use native.Mathlib.Omega.{arith}
+use Rattle.callfile.proofs.put_all.Goals as goal
+
+pub returns-then-not-room : goal.returns-then-not-room
+returns-then-not-room c = no_room _ _ _ (sym c.room.ensures ∙ not-true _ c.if-not-room.true-raw)
+
+pub put_each-requires : goal.put_each-requires
+put_each-requires c = leb-true _ _ (sym c.room.ensures ∙ not-false _ c.if-not-room.false-raw)
+
+pub returns : goal.returns
+returns c =
+    let t = sym c.room.ensures ∙ not-false _ c.if-not-room.false-raw in
+    let p = c.put_each.ensures in
+    whole-line t (p, omega (arith, p.next))

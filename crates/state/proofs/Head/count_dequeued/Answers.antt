@@ -1,0 +1,7 @@
+use mathlib.Core.Path.{ap}
+use Rattle.stats.specs.declared.Stats.{Stats}
+use Rattle.state.specs.State.{with_counters}
+use Rattle.state.proofs.Head.count_dequeued.Goals as goal
+
+pub returns : goal.returns
+returns c = ap (λ (s : Stats). with_counters s c.args.self) c.counted_dequeued_by-s.ensures
