@@ -1,5 +1,6 @@
 // An acknowledgement by value, which rows in flight it means, and the dead letters that it leaves (`ack` of destination.rs).
 #![tactic(auto)]
+
 ghost use Rattle.std.specs.Prelude.{◌≡◌, length};
 ghost use Rattle.std.proofs.Math.Option.{some};
 ghost use Rattle.definition.specs.Types.{letter};

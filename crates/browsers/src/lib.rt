@@ -1,5 +1,6 @@
 // Browsers of a queue are served from their own snapshots (`dispatch_browser` of destination.rs, and the loop of `dispatch_queue` over them).
 #![tactic(auto)]
+
 ghost use Rattle.std.specs.Prelude.{◌≡◌, ◌≤◌, ◌<◌, ◌^◌, true, false, ◌&&◌, leb, length};
 ghost use Rattle.consumers.specs.Consumers.{credit_of};
 ghost use Rattle.state.specs.Fits.{Fits, fits};

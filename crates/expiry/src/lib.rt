@@ -1,5 +1,6 @@
 // Entries that are deleted: `sweep_expired` and `clear` of destination.rs.
 #![tactic(auto)]
+
 ghost use Rattle.std.specs.Prelude.{◌≡◌, ◌&&◌, map, ◌≤◌, ◌^◌, leb, length, drop};
 ghost use Rattle.std.proofs.Math.Seq.{slice};
 ghost use Rattle.entry.specs.Entry.{entry_of};

@@ -1,5 +1,6 @@
 // Producers and their audits, in the head's words (`producers` and `audit` of destination.rs, `State`).
 #![tactic(auto)]
+
 ghost use Rattle.std.specs.Prelude.{◌≡◌, ◌+◌, ◌*◌, ◌≤◌, ◌<◌, length, drop};
 ghost use Rattle.std.proofs.Math.Seq.{slice};
 ghost use Rattle.definition.specs.Calls.{adding, removing, testing, forgetting};

@@ -1,6 +1,7 @@
 // Parts of `set_prefetch`, `pull` and `pull_timeout` of destination.rs that change one consumer's words and no row: what comes before
 // and after the dispatch.
 #![tactic(auto)]
+
 ghost use Rattle.std.specs.Prelude.{◌≡◌, true, false, ◌+◌, ◌<◌, ◌^◌, length, take, set};
 ghost use Rattle.model.specs.Model.{id_of};
 ghost use Rattle.definition.specs.Base.{all};

@@ -1,5 +1,6 @@
 // A queue's dispatch without its browsers (`dispatch_queue` of destination.rs): waiting entries go out to consumers that have credit, in turn.
 #![tactic(auto)]
+
 ghost use Rattle.std.specs.Prelude.{◌≡◌, not, [], ◌-◌, ◌%◌, ◌≤◌, ◌<◌, ◌^◌, eqb, length, take, get_or};
 ghost use Rattle.definition.specs.Base.{all};
 ghost use Rattle.consumers.specs.Table.{next_fits};

@@ -1,5 +1,6 @@
 // Entries that return to the queue (`remove_sub`, `release_reserved` and `reinsert` of destination.rs, before the dispatch).
 #![tactic(auto)]
+
 ghost use Rattle.std.specs.Prelude.{◌≡◌, List, [], ◌∷◌, ◌+◌, ◌-◌, ◌≤◌, ◌<◌, ◌^◌, true, not, ◌&&◌, eqb, ltb, length, take, get_or};
 ghost use Rattle.model.specs.Model.{id_of, same_id};
 ghost use Rattle.model.specs.declared.Id as Model;

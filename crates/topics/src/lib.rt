@@ -1,5 +1,6 @@
 // A topic's dispatch (`dispatch_topic` of destination.rs): what its consumers hold goes out to those that have credit.
 #![tactic(auto)]
+
 ghost use Rattle.std.specs.Prelude.{◌≡◌, ◌≤◌, ◌^◌, false, not, ◌&&◌, leb, [], length, drop, get_or};
 ghost use Rattle.definition.specs.Destination.{dispatch_topic};
 ghost use Rattle.consumers.specs.Seats.{OwnStrict};

@@ -19,4 +19,4 @@ pub put-requires-2 : goal.put-requires-2
 put-requires-2 t c = omega (arith, c.put_digits-next.ensures.next, c.put_digits-next.ensures.same, more-length c.args.n c.if-n-lt10.false (search rules))
 
 pub returns : goal.returns
-returns t c = rw ( c.args.n c.if-n-lt10.false (search rules)) (then c.put_digits-next.ensures c.put-2.ensures)
+returns t c = rw (decimal-more c.args.n c.if-n-lt10.false (search rules)) (then c.put_digits-next.ensures c.put-2.ensures)

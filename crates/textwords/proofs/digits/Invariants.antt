@@ -5,7 +5,7 @@ use Rattle.textwords.specs.Numbers.{digits_after}
 use Rattle.textwords.proofs.digits.Given as goal
 
 abbrev pub invariant-loop-i : goal.invariant-loop-i
-invariant-loop-i l = (l.initial.i < 2 ^ 64) × (digits_after l.initial.i (drop l.i l.s) ≡ digits_after 0 (drop l.from l.s))
+invariant-loop-i l = (l.n < 2 ^ 64) × (digits_after l.n (drop l.i l.s) ≡ digits_after 0 (drop l.from l.s))
 
 abbrev pub decreases-loop-i : goal.decreases-loop-i
 decreases-loop-i l = length l.s - l.i

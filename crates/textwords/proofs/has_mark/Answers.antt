@@ -1,5 +1,5 @@
 use mathlib.Core.Path.{sym}
-use mathlib.Core.List.{◌∷◌}
+use mathlib.Core.List.{[], ◌∷◌}
 use lib.ListN.{take, length-take}
 use Rattle.textwords.specs.Text.{has_mark}
 use Rattle.textwords.proofs.Scanning.{other-lengths}
