@@ -1,5 +1,6 @@
 // Writing blocks of the call file.
 #![tactic(auto)]
+
 ghost use Rattle.std.specs.Prelude.{◌≡◌, ◌+◌, ◌%◌, ◌≤◌, length};
 ghost use Rattle.callfile.specs.Placed.{Puts};
 ghost use Rattle.callblocks.specs.Packed.{low_bytes, word_bytes, with_call, sealed};

@@ -1,5 +1,6 @@
 // Calls as lines of text: a name and its numbers.
 #![tactic(auto)]
+
 ghost use Rattle.std.specs.Prelude.{◌≡◌, ◌+◌, ◌<◌, ◌≤◌, ◌^◌, length, get_or, drop};
 ghost use Rattle.textwords.specs.Text.{words_of, same_text};
 ghost use Rattle.callfile.specs.Placed.{Puts, PutLine};

@@ -1,5 +1,6 @@
 // `dispatch` of destination.rs: what can go out goes out, to a queue's browsers and then its consumers, or to a topic's consumers.
 #![tactic(auto)]
+
 ghost use Rattle.std.specs.Prelude.{◌≡◌, true, [], ◌≤◌, ◌<◌, ◌^◌, length, get_or};
 ghost use Rattle.definition.specs.Destination.{dispatch_queue, dispatch};
 ghost use Rattle.state.specs.Fits.{fits};

@@ -1,5 +1,6 @@
 // A consumer that joins (`add_sub` of destination.rs), before the dispatch.
 #![tactic(auto)]
+
 ghost use Rattle.std.specs.Prelude.{◌≡◌, true, ◌&&◌, ◌+◌, ◌≤◌, ◌<◌, ◌^◌, leb, length, set};
 ghost use Rattle.std.proofs.Math.Seq.{slice};
 ghost use Rattle.definition.specs.Base.{tally};

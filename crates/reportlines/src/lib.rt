@@ -1,5 +1,6 @@
 // The lines of a report of a queue's blocks, and the counts of those that are gone. Where there is no room nothing is put.
 #![tactic(auto)]
+
 ghost use Rattle.std.specs.Prelude.{◌≡◌, [], ◌∷◌, ◌+◌, ◌*◌, ◌≤◌, eqb, leb, length, take};
 ghost use Rattle.words.specs.Words.{signed};
 ghost use Rattle.callfile.specs.Lines.{field, signed_field};

@@ -1,5 +1,6 @@
 // The entries that are reserved for a consumer that has left, and their acknowledgement (`ack_reserved` of destination.rs).
 #![tactic(auto)]
+
 ghost use Rattle.std.specs.Prelude.{◌≡◌, false, List, ◌≤◌, length};
 ghost use Rattle.std.proofs.Math.Seq.{slice};
 ghost use Rattle.definition.specs.Base.{keep, tally};

@@ -1,5 +1,6 @@
 // The lines that a run of a station prints. Where there is no room for two of the longest lines nothing is put.
 #![tactic(auto)]
+
 ghost use Rattle.std.specs.Prelude.{◌≡◌, [], ◌∷◌, ◌+◌, ◌*◌, ◌≤◌, ◌<◌, leb, length, take};
 ghost use Rattle.words.specs.Words.{signed};
 ghost use Rattle.callfile.specs.Lines.{field, signed_field, id_fields, event_line, letter_at, message_at, null_at};

@@ -12,7 +12,7 @@ use Rattle.sound.specs.Sound.{marked_apart}
 use Rattle.sound.proofs.seen_apart.Given as goal
 
 abbrev pub invariant-loop-i : goal.invariant-loop-i
-invariant-loop-i l = (l.i ≤ l.n) × (l.base + sub_rows (slice l.i l.n l.subs) ≡ sub_rows (take l.n l.subs)) × (length l.slots ≡ 256) × ((l : List ℕ) × ((l ++ seqs (taken (subs_at queue (slice l.i l.n l.subs) (drop l.base l.rows))) ≡ seqs_at (reserved_at l.others l.reserved l.rows) ++ seqs (taken (subs_at queue (take l.n l.subs) l.rows))) × (marked_apart l.slots (seqs_at (slice l.first l.end l.rows)) l ≡ true)))
+invariant-loop-i v = (v.i ≤ v.n) × (v.base + sub_rows (slice v.i v.n v.subs) ≡ sub_rows (take v.n v.subs)) × (length v.slots ≡ 256) × ((l : List ℕ) × ((l ++ seqs (taken (subs_at queue (slice v.i v.n v.subs) (drop v.base v.rows))) ≡ seqs_at (reserved_at v.others v.reserved v.rows) ++ seqs (taken (subs_at queue (take v.n v.subs) v.rows))) × (marked_apart v.slots (seqs_at (slice v.first v.end v.rows)) l ≡ true)))
 
 abbrev pub decreases-loop-i : goal.decreases-loop-i
 decreases-loop-i l = l.n - l.i
