@@ -136,7 +136,7 @@ pub(crate) fn word_end(s: &[u8], from: usize) -> usize
 fn same_bytes(a: &[u8], b: &[u8]) -> bool
     ensures { result ≡ same_bytes a.now b.now }
 {
-    check::same(a, b)
+    a == b
 }
 
 pub(crate) fn kind_of(name: &[u8]) -> Kind

@@ -1,10 +1,10 @@
-use mathlib.Core.Logic.{⊎_elim}
 use borrow.Author.Rules.{rules}
 use mir.Syntax.{w64}
 use mir.Val.{SFits}
 use mir.ValLaws.{to_z-of_z}
 use Rattle.broker.specs.Broker.{base_of}
 use Rattle.broker.proofs.base_of.Goals as goal
+use Rattle.broker.proofs.base_of.Goals.{else-t-gt0-via-then-t-gt0+else-not-o, else-t-gt0-via-else-t-gt0}
 
 pub returns-then-not-o : goal.returns-then-not-o
 unfolding base_of
@@ -20,7 +20,7 @@ returns-else-t-gt0 c =
     let f : SFits w64 a.t.timestamp = search rules in
     let g : SFits w64 a.now = search rules in
     rw (to_z-of_z w64 a.now g)
-    (⊎_elim
-    (λ w. rw (rw (to_z-of_z w64 a.t.timestamp f) at w.0.taken, w.2.left))
-    (λ w. rw (rw (to_z-of_z w64 a.t.timestamp f) at w.left))
-    c.else-t-gt0.branch)
+    (elim c.else-t-gt0.branch [
+      | else-t-gt0-via-then-t-gt0+else-not-o w ↦ rw (rw (to_z-of_z w64 a.t.timestamp f) at w.if-t-gt0.true, w.if-not-o.false)
+      | else-t-gt0-via-else-t-gt0 w ↦ rw (rw (to_z-of_z w64 a.t.timestamp f) at w.if-t-gt0.false)
+    ])

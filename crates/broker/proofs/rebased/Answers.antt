@@ -1,5 +1,4 @@
 use mathlib.Core.Path.{◌≡◌}
-use mathlib.Core.Logic.{⊎_elim}
 use native.Mathlib.Omega.{arith}
 use Prim.Native.Nat.{◌-◌, ◌^◌}
 use borrow.Author.Rules.{rules}
@@ -9,49 +8,45 @@ use mir.Val.{SFits, to_z, of_z}
 use mir.ValLaws.{to_z-of_z}
 use Rattle.broker.specs.Broker.{Positive, rebased, ttl}
 use Rattle.broker.proofs.Range.{ranges, ttl-within, sum_fits}
-use Rattle.broker.proofs.rebased.Reads as reads
-use Rattle.broker.proofs.rebased.Lts as lts
-use Rattle.broker.proofs.ttl.Reads as ttl-reads
 use Rattle.broker.proofs.rebased.Goals as goal
+use Rattle.broker.proofs.rebased.Goals.{Then-t-gt0-2, After-ttl, else-o-via-then-o+then-t-gt0+else-t-gt0-2, else-o-via-then-o+else-t-gt0, else-o-via-else-o}
 
-positives : (c : lts.Then3 (ttl-reads.Asked, ttl-reads.Learnt) reads.Pre reads.Post)
-    → Positive c.before.before.before.before.before.before.before.args.t.expiration
-    × Positive c.before.before.before.before.before.before.before.args.t.timestamp
+positives : (c : Then-t-gt0-2) → Positive c.args.t.expiration × Positive c.args.t.timestamp
 positives c =
-    let s = c.before.before.before.before.before.before.before in
-    let t = s.args.t in
+    let t = c.args.t in
     let f : SFits w64 t.expiration = search rules in
     let g : SFits w64 t.timestamp = search rules in
-    let r = ranges s.args.o t s.args.now s.requires in (
-      record { above = rw (to_z-of_z w64 t.expiration f) at c.before.before.before.if2.true; most = r.expiration },
-      record { above = rw (to_z-of_z w64 t.timestamp g) at c.if3.true; most = r.timestamp },
+    let r = ranges c.args.o t c.args.now c.requires in (
+      record { above = rw (to_z-of_z w64 t.expiration f) at c.if-t-gt0.true; most = r.expiration },
+      record { above = rw (to_z-of_z w64 t.timestamp g) at c.if-t-gt0-2.true; most = r.timestamp },
     )
 
-sum : (c : lts.After-ttl (ttl-reads.Asked, ttl-reads.Learnt) reads.Pre reads.Post)
-    → let a = c.before.before.before.before.before.before.before.before.args in
-    (to_z w64 (of_z w64 a.now) +ℤ to_z w64 (of_z w64 c.ttl.result) ≡ a.now +ℤ ttl a.t) × SFits w64 (a.now +ℤ ttl a.t)
-sum c =
-    let s = c.before.before.before.before.before.before.before.before in
+sum : (c : After-ttl) → Positive c.args.t.expiration → Positive c.args.t.timestamp
+    → (to_z w64 (of_z w64 c.args.now) +ℤ to_z w64 (of_z w64 c.ttl.result) ≡ c.args.now +ℤ ttl c.args.t) × SFits w64 (c.args.now +ℤ ttl c.args.t)
+sum c h i =
     let f : SFits w64 c.ttl.result = search rules in
-    let p = positives c.before in
-    let r = ranges s.args.o s.args.t s.args.now s.requires in (
-      rw (to_z-of_z w64 s.args.now s.ranges.now, to_z-of_z w64 c.ttl.result f, c.ttl.ensures),
-      sum_fits s.args.now (ttl s.args.t) (2 ^ 62) (2 ^ 62 - 1) r.clock (ttl-within s.args.t p.0 p.1) (omega arith),
+    let r = ranges c.args.o c.args.t c.args.now c.requires in (
+      rw (to_z-of_z w64 c.args.now c.ranges.now, to_z-of_z w64 c.ttl.result f, c.ttl.ensures),
+      sum_fits c.args.now (ttl c.args.t) (2 ^ 62) (2 ^ 62 - 1) r.clock (ttl-within c.args.t h i) (omega arith),
     )
 
 pub ttl-requires : goal.ttl-requires
-ttl-requires c = positives c
+ttl-requires c = positives (goal.at.ttl-requires c).Then-t-gt0-2
 
 pub overflow_add-result : goal.overflow_add-result
-overflow_add-result c = rw (sum c).0 (sum c).1
+overflow_add-result c =
+    let p = positives (goal.at.overflow_add-result c).Then-t-gt0-2 in
+    let s = sum (goal.at.overflow_add-result c).After-ttl p.0 p.1 in
+    rw s.0 s.1
 
 pub returns-then-t-gt0-2 : goal.returns-then-t-gt0-2
 unfolding rebased
 returns-then-t-gt0-2 c =
-    let p = positives c in
+    let p = positives (goal.at.returns-then-t-gt0-2 c).Then-t-gt0-2 in
+    let s = sum (goal.at.returns-then-t-gt0-2 c).After-ttl p.0 p.1 in
     rw (
-      ((goal.at.returns-then-t-gt0-2 c).After-ttlum c).0,
-      to_z-of_z w64 (c.args.now +ℤ ttl c.args.t) ((goal.at.returns-then-t-gt0-2 c).After-ttlum c).1,
+      s.0,
+      to_z-of_z w64 (c.args.now +ℤ ttl c.args.t) s.1,
       to_z-of_z w64 c.args.now c.ranges.now,
       c.if-o.true,
       p.0.above,
@@ -62,16 +57,11 @@ pub returns : goal.returns
 unfolding rebased
 returns c =
     let t = c.args.t in
-    ⊎_elim
-    (λ w.
     let f : SFits w64 t.expiration = search rules in
     let g : SFits w64 t.timestamp = search rules in
-    rw (w.0.taken, rw (to_z-of_z w64 t.expiration f) at w.3.taken, rw (to_z-of_z w64 t.timestamp g) at w.6.left))
-    (λ w.
-    ⊎_elim
-    (λ v.
-    let f : SFits w64 t.expiration = search rules in
-    rw (v.0.taken, rw (to_z-of_z w64 t.expiration f) at v.3.left))
-    (λ v. rw v.left)
-    w)
-    c.else-o.branch
+    elim c.else-o.branch [
+      | else-o-via-then-o+then-t-gt0+else-t-gt0-2 w ↦
+          rw (w.if-o.true, rw (to_z-of_z w64 t.expiration f) at w.if-t-gt0.true, rw (to_z-of_z w64 t.timestamp g) at w.if-t-gt0-2.false)
+      | else-o-via-then-o+else-t-gt0 w ↦ rw (w.if-o.true, rw (to_z-of_z w64 t.expiration f) at w.if-t-gt0.false)
+      | else-o-via-else-o w ↦ rw w.if-o.false
+    ]
