@@ -6,7 +6,7 @@ use Rattle.reportlines.proofs.put_place.Goals as goal
 
 pub returns-in-0 : goal.returns-in-0
 unfolding place_name
-returns-in-0 c = let a = c.args in name-put a.place 0 (ap place_name c.in-0.is) (omega arith) c.requires c.put_all_lem.ensures
+returns-in-0 c = let a = c.args in name-put a.place 0 (ap place_name c.in-0.is) (omega arith) c.requires c.put_all.ensures
 
 pub returns-in-1 : goal.returns-in-1
 unfolding place_name

@@ -6,6 +6,7 @@ use Rattle.sound.proofs.Hub.{no-hub, apart_next, hub-here}
 use native.Mathlib.Omega.{arith}
 use borrow.Author.Rules.{rules}
 use Rattle.sound.proofs.most_rows.Goals as goal
+use Rattle.sound.proofs.most_rows.Goals.{then-many-k, else-many-k}
 
 pub loop-i-init : goal.loop-i-init
 loop-i-init c = let a = c.args in (search rules, search rules, no-hub (take a.n a.subs.now), λ rows e. e)
@@ -28,7 +29,10 @@ loop-i-preserved c =
     let v = c.loop-i.invariant in (
       search rules,
       omega (arith, rows-turn subs c.loop-i.i a.n c.requires.n_bound h),
-      ⊎_elim (λ w. rw (w.1, w.2) (hub-here subs c.loop-i.i a.n c.requires.n_bound c.loop-i.base h v.3 v.1)) (λ w. rw (w.1, w.2) v.2) c.if-many-k.branch,
+      elim c.if-many-k.branch [
+        | then-many-k w ↦ rw (w.end-is, w.many-is) (hub-here subs c.loop-i.i a.n c.requires.n_bound c.loop-i.base h v.3 v.1)
+        | else-many-k w ↦ rw (w.end-is, w.many-is) v.2
+      ],
       apart_next subs c.loop-i.i a.n c.requires.n_bound c.loop-i.base h v.3,
     )
 

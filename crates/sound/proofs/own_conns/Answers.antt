@@ -18,7 +18,7 @@ returns-then-not-on_queue c =
     let a = c.args in
     let g = c.gather_conns in
     let us = take a.n a.subs.now in
-    ap (λ (n : ℕ). take n g.new.1.1.1.0) (sym (zero-add (a.others + a.rest))) ∙ g.ensures
+    ap (λ (n : ℕ). take n g.new.out) (sym (zero-add (a.others + a.rest))) ∙ g.ensures
     ∙ ap (λ (q : Bool). own_conns q a.others a.rest us a.rows.now) (sym (not-true a.on_queue c.if-not-on_queue.true-raw))
 
 pub returns : goal.returns
@@ -30,5 +30,5 @@ returns c =
     let rows = a.rows.now in
     let rest : List ℕ = conns_at (take a.rest (drop a.others rows)) in
     let out : List ℕ = conns (taken (subs_at queue us rows)) in
-    gathered-two a.out.now g.new.1.1.1.0 h.new.1.1.1.0 rest out a.rest h.result g.ensures h.ensures
+    gathered-two a.out.now g.new.out h.new.out rest out a.rest h.result g.ensures h.ensures
     ∙ ap (λ (q : Bool). own_conns q a.others a.rest us rows) (sym (not-false a.on_queue c.if-not-on_queue.false-raw))

@@ -1,5 +1,5 @@
 use mathlib.Core.Path.{◌≡◌, sym, ap, ◌∙◌}
-use mathlib.Core.Bool.{true}
+use mathlib.Core.Bool.{Bool, true}
 use Prim.Native.Nat.{ℕ, ◌+◌, ◌≤◌}
 use borrow.Author.Tests.{not-true, not-false}
 use lib.Dec.{eqb}
@@ -20,7 +20,7 @@ use Rattle.sound.proofs.Lone.{lone-at}
 use Rattle.sound.proofs.Tables.{kind_in, tests, numbers, rest-unfit, rest-fit, rest-stop, rest-last}
 use native.Mathlib.Omega.{arith}
 use Rattle.sound.proofs.rest_ok.Goals as goal
-use Rattle.sound.proofs.rest_ok.Goals.{After-numbers_ok, Else-not-look}
+use Rattle.sound.proofs.rest_ok.Goals.{Else-not-look}
 
 abbrev given : (c : Else-not-look) → Buffers
 given c = let a = c.args in lent a.head.now a.subs.now a.rows.now
@@ -34,10 +34,11 @@ known c =
     let n : at 12 b.head ≤ length b.subs = omega (arith, (head-counts b.head c.requires.head_value.0).0, c.requires.do_bound) in
     (n, f.0, f.1, t.ensures.others_value ∙ counted-exact (at 12 b.head) b.subs n (omega (arith, f.0)))
 
-tested : (c : After-numbers_ok) → c.numbers_ok.result ≡ numbers (given c.before)
-tested c =
-    let b = given c.before in
-    c.numbers_ok.ensures ∙ ap (λ (m : ℕ). numbers_ok (kind_in b) m (at 15 b.head) (at 16 b.head) (used_subs b) b.rows) (known c.before).3
+tested : (c : Else-not-look) (r : Bool) → let b = given c in
+    r ≡ numbers_ok (kind_in b) c.test_all-look.result.others (at 15 b.head) (at 16 b.head) (used_subs b) b.rows → r ≡ numbers b
+tested c r e =
+    let b = given c in
+    e ∙ ap (λ (m : ℕ). numbers_ok (kind_in b) m (at 15 b.head) (at 16 b.head) (used_subs b) b.rows) (known c).3
 
 pub overflow_mul-most : goal.overflow_mul-most
 overflow_mul-most c =
@@ -77,7 +78,7 @@ numbers_ok-requires c =
 pub returns-then-not-numbers_ok : goal.returns-then-not-numbers_ok
 returns-then-not-numbers_ok c =
     let k = known (goal.at.returns-then-not-numbers_ok c).Else-not-look in
-    rest-stop (given (goal.at.returns-then-not-numbers_ok c).Else-not-look) k.1 c.requires.head_value.1 k.2 (sym (tested (goal.at.returns-then-not-numbers_ok c).After-numbers_ok) ∙ not-true c.numbers_ok.result c.if-not-numbers_ok.true-raw)
+    rest-stop (given (goal.at.returns-then-not-numbers_ok c).Else-not-look) k.1 c.requires.head_value.1 k.2 (sym (tested (goal.at.returns-then-not-numbers_ok c).Else-not-look c.numbers_ok.result c.numbers_ok.ensures) ∙ not-true c.numbers_ok.result c.if-not-numbers_ok.true-raw)
 
 pub overflow_add-rest : goal.overflow_add-rest
 overflow_add-rest c = let k = known (goal.at.overflow_add-rest c).Else-not-look in omega (arith, k.1)
@@ -93,4 +94,4 @@ returns c =
     let k = known (goal.at.returns c).Else-not-look in
     c.shares_ok.ensures
     ∙ ap (λ (m : ℕ). shares_at (at 8346 h) (eqb (at 0 h) 0) m (at 15 h + at 16 h) (used_subs b) b.rows) k.3
-    ∙ rest-last b k.1 c.requires.head_value.1 k.2 (sym (tested (goal.at.returns c).After-numbers_ok) ∙ not-false c.numbers_ok.result c.if-not-numbers_ok.false-raw)
+    ∙ rest-last b k.1 c.requires.head_value.1 k.2 (sym (tested (goal.at.returns c).Else-not-look c.numbers_ok.result c.numbers_ok.ensures) ∙ not-false c.numbers_ok.result c.if-not-numbers_ok.false-raw)

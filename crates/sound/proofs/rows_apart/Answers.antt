@@ -29,4 +29,4 @@ pub returns : goal.returns
 returns c =
     let g = c.gather in
     let a = c.args in
-    c.distinct.ensures ∙ ap (λ (k : ℕ). distinct (take k g.new.1.1.1.0)) (sym (zero-add a.n)) ∙ ap distinct g.ensures
+    c.distinct.ensures ∙ ap (λ (k : ℕ). distinct (take k g.new.out)) (sym (zero-add a.n)) ∙ ap distinct g.ensures

@@ -30,7 +30,7 @@ pub loop-i-init : goal.loop-i-init
 loop-i-init c =
     let a = c.args in
     let g = c.marks in
-    (search rules, search rules, g.auto.1.1.1.0 ∙ length-replicate 256 false, (seqs_at (reserved_at a.others a.reserved a.rows.now), (refl, g.ensures (not-false g.result c.if-not-marks.false-raw) [] refl)))
+    (search rules, search rules, g.auto.slots ∙ length-replicate 256 false, (seqs_at (reserved_at a.others a.reserved a.rows.now), (refl, g.ensures (not-false g.result c.if-not-marks.false-raw) [] refl)))
 
 pub marks-requires-in-loop-i : goal.marks-requires-in-loop-i
 marks-requires-in-loop-i c =
@@ -71,7 +71,7 @@ loop-i-preserved c =
     let total : List ℕ = seqs_at (reserved_at a.others a.reserved rows) ++ seqs (taken (subs_at queue (take a.n subs) rows)) in (
       omega (arith, h),
       omega (arith, v.1, rows-turn subs c.loop-i.i a.n c.requires.n_bound h),
-      g.auto.1.1.1.0 ∙ v.2,
+      g.auto.slots ∙ v.2,
       (
         met ++ seqs_at (take k.result (drop c.loop-i.base rows)),
         (

@@ -54,8 +54,8 @@ loop-i-preserved c =
       search rules,
       omega (arith, rows-turn subs c.loop-i.i a.n c.requires.n_bound h),
       omega (arith, k.ensures, taken-small (get_or subs c.loop-i.i [])),
-      g.auto.1.1.1.0 ∙ c.loop-i.invariant.3,
-      taken_next subs c.loop-i.i a.n c.requires.n_bound a.rows.now c.loop-i.base a.out.now c.loop-i.out g.new.1.1.1.0 a.start c.loop-i.end k.result (take a.start a.out.now ++ conns (taken (subs_at queue (take a.n subs) a.rows.now))) c.loop-i.invariant.4 h k.ensures g.ensures,
+      g.auto.out ∙ c.loop-i.invariant.3,
+      taken_next subs c.loop-i.i a.n c.requires.n_bound a.rows.now c.loop-i.base a.out.now c.loop-i.out g.new.out a.start c.loop-i.end k.result (take a.start a.out.now ++ conns (taken (subs_at queue (take a.n subs) a.rows.now))) c.loop-i.invariant.4 h k.ensures g.ensures,
     )
 
 pub returns : goal.returns
