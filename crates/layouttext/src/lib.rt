@@ -1,5 +1,6 @@
 // A table of layouts as text, a row a line: what is said of it.
 #![tactic(auto)]
+
 ghost use Rattle.std.specs.Prelude.{◌≡◌, [], ◌+◌, ◌<◌, ◌≤◌, length, drop, replicate};
 ghost use Rattle.callfile.specs.Lines.{field};
 ghost use Rattle.callfile.specs.Placed.{Puts, PutLine};

@@ -1,5 +1,6 @@
 // The queries of a destination on lent buffers: they use no call and change nothing.
 #![tactic(auto)]
+
 ghost use Rattle.std.specs.Prelude.{◌≡◌, true, false, ◌||◌, map, ◌+◌, ◌-◌, ◌/◌, ◌≤◌, min, length, take};
 ghost use Rattle.std.proofs.Math.Seq.{slice};
 ghost use Rattle.words.specs.Pick.{if◌then◌else◌};

@@ -1,5 +1,6 @@
 // The persistent entries that an acknowledgement rejects, read before it is made: document 02 §1 makes them its dead letters.
 #![tactic(auto)]
+
 ghost use Rattle.std.specs.Prelude.{◌≡◌, [], map, ◌≤◌, length, take};
 ghost use Rattle.std.proofs.Math.Option.{none};
 ghost use Rattle.std.proofs.Math.Seq.{slice};

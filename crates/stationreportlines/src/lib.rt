@@ -1,5 +1,6 @@
 // The lines of a report of a station's blocks. Where there is no room nothing is put.
 #![tactic(auto)]
+
 ghost use Rattle.std.specs.Prelude.{[], ◌∷◌, ◌+◌, ◌*◌, ◌≤◌, length, take};
 ghost use Rattle.words.specs.Words.{signed};
 ghost use Rattle.callfile.specs.Lines.{field, signed_field};

@@ -1,5 +1,6 @@
 // The text of a call file to blocks, and a block to text, in lent buffers.
 #![tactic(auto)]
+
 ghost use Rattle.std.specs.Prelude.{◌≡◌, ◌++◌, map, ◌+◌, ◌≤◌, length, take, drop, replicate};
 ghost use Rattle.callfile.specs.Placed.{Puts, PutLine};
 ghost use Rattle.calltext.specs.Faults.{fault_word};

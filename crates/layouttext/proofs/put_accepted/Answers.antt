@@ -1,0 +1,11 @@
+use Rattle.callfile.proofs.Parts.{then, line-puts}
+use Rattle.layouttext.specs.Messages.{accepted_text}
+use native.Mathlib.Omega.{arith}
+use Rattle.layouttext.proofs.put_accepted.Goals as goal
+
+pub returns : goal.returns
+unfolding accepted_text
+returns c =
+    let p = c.put_named-a.ensures in
+    let r = line-puts (omega (arith, p.1, p.0.same)) (omega arith) c.put_byte.ensures in
+    (then p.0 r, omega (arith, p.1, r.next))
