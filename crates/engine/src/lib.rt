@@ -1,5 +1,6 @@
 // The public calls of a destination on lent buffers, total, with refusals in the paper's order.
 #![tactic(auto)]
+
 ghost use Rattle.std.specs.Prelude.{◌≡◌, true, false, ◌<◌, eqb, length};
 ghost use Rattle.definition.specs.Base.{if◌then◌else◌};
 ghost use Rattle.definition.specs.Words.{share_of, open_words};
