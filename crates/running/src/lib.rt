@@ -1,6 +1,7 @@
 // What a run of a call file prints: the calls of its blocks on a lent state, each with its line and those of its events, and at the end the counters. The
 // file comes in pieces, cut anywhere; reading and writing are the caller's.
 #![tactic(auto)]
+
 ghost use Rattle.std.specs.Prelude.{◌≡◌, ◌&&◌, ◌+◌, ◌≤◌, eqb, ltb, leb, length, get_or};
 ghost use Rattle.definition.specs.Layout.{stats_at, lengths_of, buffer_step, lent};
 ghost use Rattle.engine.specs.Called.{Called};

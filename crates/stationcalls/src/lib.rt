@@ -1,6 +1,7 @@
 // The calls of a station (document 02 §1): eight destinations in lent buffers eight times as long, numbered 0 to 7, one row of sequence numbers, and dead letters that
 // go where their destination says. Total, with refusals in the paper's order.
 #![tactic(auto)]
+
 ghost use Rattle.std.specs.Prelude.{◌≡◌, not, ◌&&◌, ◌||◌, true, false, List, [], ◌≤◌, ◌<◌, ℕ, ltb, eqb, length};
 ghost use Rattle.definition.specs.Base.{if◌then◌else◌, all, up_from};
 ghost use Rattle.definition.specs.Words.{at, decode};

@@ -1,5 +1,6 @@
 // The two changing calls that have no code in the call file: each counts one entry, and uses a call.
 #![tactic(auto)]
+
 ghost use Rattle.std.specs.Prelude.{◌≡◌, length};
 ghost use Rattle.definition.specs.Calls.{discarding, missing};
 ghost use Rattle.definition.specs.Layout.{buffer_call, lent};

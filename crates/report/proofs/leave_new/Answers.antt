@@ -1,0 +1,24 @@
+use mathlib.Core.Path.{sym, ap, ◌∙◌}
+use native.Mathlib.Omega.{arith}
+use borrow.Author.Tests.{lt-ltb, le-ltb}
+use lib.ListN.{length, take}
+use lib.Seq.{sets}
+use Rattle.report.proofs.Going.{new_none, new-stays, new-goes}
+use Rattle.report.proofs.leave_new.Goals as goal
+
+pub returns-then-code-ne-ENQUEUE : goal.returns-then-code-ne-ENQUEUE
+returns-then-code-ne-ENQUEUE c =
+    let a = c.args in
+    let e = new_none a.code a.words (take a.m a.held.now) c.if-code-ne-ENQUEUE.true in record { value = omega (arith, ap length e); upper_bound = omega arith; left_after = sym (ap (sets a.left.now a.k) e) }
+
+pub returns-then-place-m : goal.returns-then-place-m
+returns-then-place-m c =
+    let a = c.args in
+    let f = c.find-place in
+    let e = new-stays a.code a.words (take a.m a.held.now) c.if-code-ne-ENQUEUE.false (sym f.ensures ∙ lt-ltb f.result a.m c.if-place-m.true) in record { value = omega (arith, ap length e); upper_bound = omega arith; left_after = sym (ap (sets a.left.now a.k) e) }
+
+pub returns : goal.returns
+returns c =
+    let a = c.args in
+    let f = c.find-place in
+    let e = new-goes a.code a.words (take a.m a.held.now) c.if-code-ne-ENQUEUE.false (sym f.ensures ∙ le-ltb f.result a.m c.if-place-m.false) _ c.went.ensures in record { value = omega (arith, ap length e); upper_bound = omega arith; left_after = sym (ap (sets a.left.now a.k) e) }

@@ -1,0 +1,18 @@
+use Rattle.stationcalls.proofs.Uncoded.{missing-silent, barred-left, barred-asks, bare-called}
+use Rattle.stationcalls.proofs.Steps.{asked-within}
+use Rattle.stationcalls.proofs.Shape.{as-refused}
+use Rattle.stationcalls.specs.Parts.{lent_all}
+use Rattle.definition_station.specs.Layout.{buffer_station_uncoded}
+use Rattle.definition.specs.Calls.{missing}
+use lib.ListN.{length}
+use mathlib.Core.List.{[]}
+use Rattle.stationcalls.proofs.expired_before_storing.Goals as goal
+
+pub returns-then-refusal-ne0 : goal.returns-then-refusal-ne0
+returns-then-refusal-ne0 c = as-refused (lent_all c.args.heads.now c.args.subs.now c.args.rows.now c.args.own.now) c.args.events.now c.args.number 1 [] (buffer_station_uncoded (lent_all c.args.heads.now c.args.subs.now c.args.rows.now c.args.own.now) (length c.args.events.now) c.args.number missing) c.barred-refusal.result c.refused.result c.refused.ensures (barred-left c.args.heads.now c.args.subs.now c.args.rows.now c.args.own.now c.args.events.now c.args.number missing c.barred-refusal.result c.barred-refusal.ensures c.if-refusal-ne0.true)
+
+pub expired_before_storing-requires : goal.expired_before_storing-requires
+expired_before_storing-requires c = (asked-within c.args.heads.now c.args.subs.now c.args.rows.now c.args.own.now c.args.number 1 (length c.args.events.now) (barred-asks c.args.heads.now c.args.subs.now c.args.rows.now c.args.own.now c.args.events.now c.args.number missing c.barred-refusal.result c.barred-refusal.ensures c.if-refusal-ne0.false)).0
+
+pub returns : goal.returns
+returns c = bare-called c.args.heads.now c.args.subs.now c.args.rows.now c.args.own.now c.args.events.now c.args.number missing (barred-asks c.args.heads.now c.args.subs.now c.args.rows.now c.args.own.now c.args.events.now c.args.number missing c.barred-refusal.result c.barred-refusal.ensures c.if-refusal-ne0.false) missing-silent c.expired_before_storing.new.heads c.expired_before_storing.new.subs c.expired_before_storing.new.rows c.expired_before_storing.new.events c.expired_before_storing.result (c.expired_before_storing.ensures c.args.own.now)
