@@ -1,6 +1,7 @@
 // What a report of a call file prints: the calls of its blocks on a lent state, each with its line, what it brought, what it sent and the blocks that left, and at the end the blocks
 // that are held, the totals and the counters. The file comes in pieces, cut anywhere; reading and writing are the caller's.
 #![tactic(auto)]
+
 ghost use Rattle.std.specs.Prelude.{◌≡◌, ◌&&◌, ◌+◌, ◌≤◌, eqb, ltb, leb, length, take};
 ghost use Rattle.definition.specs.Layout.{stats_at, lengths_of, buffer_step, lent};
 ghost use Rattle.callfile.specs.Placed.{Puts, PutLine};

@@ -1,5 +1,6 @@
 // The C library of a station: the calls of `stationcalls` for programs in C or Rust. Nothing checks include/station.h against these: examples/station does.
 #![tactic(auto)]
+
 ghost use Rattle.std.specs.Prelude.{◌≡◌, [], length};
 ghost use Rattle.definition.specs.Calls.{discarding, missing};
 ghost use Rattle.definition_station.specs.Station.{station_start};

@@ -2,6 +2,7 @@
 // sent, what became of its dead letters and the blocks that left, and at the end of each open destination the blocks that are held, the totals and the counters.
 // The file comes in pieces, cut anywhere; reading and writing are the caller's.
 #![tactic(auto)]
+
 ghost use Rattle.std.specs.Prelude.{◌≡◌, true, false, ◌&&◌, [], ◌∷◌, ◌+◌, ◌≤◌, eqb, leb, length, get_or, take, drop};
 ghost use Rattle.definition.specs.Base.{if◌then◌else◌};
 ghost use Rattle.definition_station.specs.Station.{station_short};

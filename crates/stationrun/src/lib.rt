@@ -1,6 +1,7 @@
 // What a run of a station's call file prints (document 02 §1): the calls of its blocks on a lent station, each with its line and those of its events. The
 // file comes in pieces, cut anywhere; reading and writing are the caller's.
 #![tactic(auto)]
+
 ghost use Rattle.std.specs.Prelude.{◌≡◌, ◌+◌, ◌≤◌, length, true, false, ◌&&◌, eqb, leb};
 ghost use Rattle.definition_station.specs.Layout.{station_lengths_of, slot_at, station_view, sound_station};
 ghost use Rattle.definition_station.specs.Called.{StationStarted};
