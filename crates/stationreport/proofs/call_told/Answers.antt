@@ -28,9 +28,9 @@ returns c =
     let b : StationBuffers = lent_all a.heads.now a.subs.now a.rows.now a.own.now in
     let events = a.events.now in
     let n : ℕ = length events in
-    let b' : StationBuffers = lent_all l.0 l.1.0 l.1.1.0 l.1.1.1.0 in
-    let events' = l.1.1.1.1.0 in
-    let told' = l.1.1.1.1.1.0 in
+    let b' : StationBuffers = lent_all l.heads l.subs l.rows l.own in
+    let events' = l.events in
+    let told' = l.told in
     station-told a.c b b' events events' a.told.now told' k.result c.if-code-eq-START.false c.requires
     (subst (λ (p : Call). StationCalled (buffer_station_step b n (file_place a.c) p.code p.words) (file_place a.c) p.code p.words b b' events events' k.result.refusal k.result.answer k.result.events) plain k.ensures.station_called)
     (subst (λ (p : Call). StationTells (buffer_station_step b n (file_place a.c) p.code p.words) (told_rows (file_place a.c) p.code p.words (station_view b)) a.told.now told' k.result.letters) plain k.ensures.station_tells)

@@ -11,4 +11,4 @@ pub returns : goal.returns
 returns c =
     let a = c.args in
     let r = c.blocks_in in
-    some-held a.k a.heads.now a.subs.now a.rows.now a.own.now a.list.now (opened c.if-own-k-eq0.false) c.requires.0 c.requires.2 r.result _ r.ensures
+    some-held a.k a.heads.now a.subs.now a.rows.now a.own.now a.list.now (opened c.if-own-k-eq0.false) c.requires.0 c.requires.2 r.result _ (r.ensures.value, (r.ensures.upper_bound, r.ensures.list_after))

@@ -16,4 +16,4 @@ returns c =
     let k = c.held_at-k in
     let queue = sym c.is_queue.ensures ∙ not-false _ c.if-not-is_queue.false-raw in
     some_left a.heads.now a.subs.now a.rows.now a.own.now a.j a.before.now a.n a.came.now a.m a.code a.words a.left.now p.within.0 p.within.1 p.own_value p.n_in_bounds.2
-    queue _ k.result (listed-are k.ensures) c.leavers-next.ensures c.leavers.ensures
+    queue _ k.result (listed-are k.ensures) (c.leavers-next.ensures.value, (c.leavers-next.ensures.upper_bound, c.leavers-next.ensures.left_after)) (c.leavers.ensures.value, (c.leavers.ensures.upper_bound, c.leavers.ensures.left_after))

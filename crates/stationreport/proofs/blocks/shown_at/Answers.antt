@@ -10,4 +10,4 @@ pub returns : goal.returns
 returns c =
     let a = c.args in
     let r = c.held-r in
-    held-shown a.k a.heads.now a.subs.now a.rows.now a.own.now c.requires.0 a.list.now _ c.requires.2 c.if-own-k-ne1.false r.result r.ensures
+    held-shown a.k a.heads.now a.subs.now a.rows.now a.own.now c.requires.0 a.list.now _ c.requires.2 c.if-own-k-ne1.false r.result (r.ensures.value, r.ensures.list_after)
