@@ -6,19 +6,23 @@ ghost use Rattle.std.specs.Prelude.{◌≡◌, length};
 use callfile::Reading;
 use consumers::SubRow;
 use entry::Row;
+use program::Input;
 use report::Block;
 use reporting::Kept;
 use reportlines::Gone;
 use state::Event;
+use std::io;
 
 // Writes the first n bytes of a text, and says whether that was done.
-fn write(text: &[u8], n: usize) -> bool {
-    program::write(b"blockfates", text, n)
+fn write(rt: HostRuntime, text: &[u8], n: usize) -> bool {
+    program::write(rt, b"blockfates", text, n)
 }
 
 // A read failed.
-fn say_failed() {
-    program::failed(b"blockfates", b"input");
+fn say_failed(rt: HostRuntime, error: Option<io::Error>) {
+    if let Some(e) = error {
+        program::failed(rt, b"blockfates", b"input", e);
+    }
 }
 
 // ---- pieces
@@ -35,6 +39,7 @@ struct Next {
 
 // Hands a piece over, and writes its lines.
 fn report_piece(
+    rt: HostRuntime,
     head: &mut [u64],
     subs: &mut [SubRow],
     rows: &mut [Row],
@@ -54,7 +59,7 @@ fn report_piece(
             head, subs, rows, events, held, kept, block, at, piece, from, out,
         );
         let took = t.took;
-        if !write(out, took.written) {
+        if !write(rt, out, took.written) {
             return Next {
                 at,
                 kept,
@@ -78,7 +83,8 @@ fn report_piece(
 
 // Reads the next piece and runs it.
 fn next_piece(
-    fd: i32,
+    rt: HostRuntime,
+    from: &mut Input,
     head: &mut [u64],
     subs: &mut [SubRow],
     rows: &mut [Row],
@@ -90,11 +96,11 @@ fn next_piece(
     piece: &mut [u8],
     out: &mut [u8],
 ) -> Next {
-    let g = reading::read_once(fd, piece, 0);
+    let g = reading::read_once(from, piece, 0);
     let n = g.n;
     let failed = g.how == reading::FAILED;
     if failed {
-        say_failed();
+        say_failed(rt, g.error);
     }
     if g.how != reading::AGAIN {
         return Next {
@@ -106,6 +112,7 @@ fn next_piece(
         };
     }
     report_piece(
+        rt,
         head,
         subs,
         rows,
@@ -133,7 +140,8 @@ fn none_kept() -> Kept {
 
 // All pieces, up to the end, a read that fails or a bad block.
 fn run_all(
-    fd: i32,
+    rt: HostRuntime,
+    from: &mut Input,
     head: &mut [u64],
     subs: &mut [SubRow],
     rows: &mut [Row],
@@ -153,7 +161,7 @@ fn run_all(
     let mut turns = 18446744073709551615u64;
     while 0 < turns {
         let r = next_piece(
-            fd, head, subs, rows, events, held, block, at, kept, piece, out,
+            rt, from, head, subs, rows, events, held, block, at, kept, piece, out,
         );
         if !r.goes_on {
             return r;
@@ -182,7 +190,7 @@ fn pieces() -> [u8; 65536]
 }
 
 // The whole run, from a state of zeros: at its end what is held, the totals and the counters.
-fn run(fd: i32) {
+fn run(rt: HostRuntime, from: &mut Input) {
     let mut head = [0u64; 8347];
     let mut subs = [[0u64; 16]; 32];
     let mut rows = [[0u64; 10]; 512];
@@ -192,7 +200,8 @@ fn run(fd: i32) {
     let mut piece = pieces();
     let mut out = text();
     let r = run_all(
-        fd,
+        rt,
+        from,
         &mut head,
         &mut subs,
         &mut rows,
@@ -204,18 +213,18 @@ fn run(fd: i32) {
     );
     if r.written {
         let n = reporting::report_end(&head, &held, r.kept, r.at, r.failed, &mut out);
-        write(&out, n);
+        write(rt, &out, n);
     }
-    program::hint(b"blockfates", &block, r.at);
+    program::hint(rt, b"blockfates", &block, r.at);
 }
 
-fn main() {
-    let s = program::open_argument(
+fn main(rt: HostRuntime) {
+    let mut s = program::open_argument(
+        rt,
         b"blockfates",
         b"usage: blockfates [FILE]: runs a call file, standard input without FILE, and says where each block ended\n",
     );
     if s.how == program::OPENED {
-        run(s.fd);
-        libc::close(s.fd);
+        run(rt, &mut s.input);
     }
 }

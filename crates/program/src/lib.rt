@@ -1,15 +1,20 @@
 // What every program does: its argument, reading, writing, messages. Which bytes a system gives and takes, and whether it opens a file, is open, and no contract speaks of it. What holds
 // whatever it does: a reading keeps what stood in the buffer, only bytes that were lent are written, a message begins with the program's name, and an argument means what `word_asks` says.
 #![tactic(auto)]
-ghost use Rattle.std.specs.Prelude.{◌≡◌, true, ◌+◌, ◌≤◌, leb, length};
+
+ghost use Rattle.std.specs.Prelude.{◌≡◌, true, ◌+◌, ◌≤◌, leb, length, IfOk, is_ok};
 ghost use Rattle.reading.specs.Read.{ReadInto};
 ghost use Rattle.callfile.specs.Placed.{Puts, PutLine};
 ghost use Rattle.program.specs.Said.{headed, Written, hint_text};
 ghost use Rattle.program.specs.Asked.{word_asks, is_text_byte, are_text, part_like, looks_like, read_of, is_puzzling};
 
 use callfile::Reading;
-use libc::{STDERR_FILENO, STDIN_FILENO, STDOUT_FILENO};
 use reading::Got;
+use std::env::FillError;
+use std::fs::File;
+use std::io::{ErrorKind, Read, Write};
+use std::rt::{Env, Stdin};
+use std::{io, str};
 
 // What an argument asks for.
 pub const FILE: u64 = 1;
@@ -18,16 +23,24 @@ pub const HELP: u64 = 2;
 
 pub const WRONG: u64 = 3;
 
-// Where a program reads from: OPENED, with a descriptor; NOTHING where the usage was asked for, and FAILED where there is no such file or the arguments are wrong.
+// Where a program reads from: OPENED, with an input; NOTHING where the usage was asked for, and FAILED where there is no such file or the arguments are wrong.
 pub const OPENED: u64 = 0;
 
 pub const NOTHING: u64 = 1;
 
 pub const FAILED: u64 = 2;
 
-#[derive(Clone, Copy)]
+// Standard input, a file that was opened, or neither: a read of that fails.
+#[derive(Drop)]
+pub enum Input {
+    Stdin(Stdin),
+    File(File),
+    Closed,
+}
+
+#[derive(Drop)]
 pub struct Source {
-    pub fd: i32,
+    pub input: Input,
     pub how: u64,
 }
 
@@ -40,42 +53,60 @@ pub const TEXT: u64 = 2;
 
 pub const OTHER: u64 = 3;
 
+// The system's numbers of a descriptor that is not open, an argument that is not there, one that is too long, and one that is no UTF-8.
+const EBADF: i32 = 9;
+
+const EINVAL: i32 = 22;
+
+const ENAMETOOLONG: i32 = 36;
+
+const EILSEQ: i32 = 84;
+
+// ---- reading
+
+impl Read for Input {
+    fn read(&mut self, buf: &mut [u8]) -> io::Result<usize> {
+        match self {
+            Input::Stdin(stdin) => stdin.read(buf),
+            Input::File(file) => file.read(buf),
+            Input::Closed => Err(io::Error::from_raw_os_error(EBADF)),
+        }
+    }
+}
+
 // ---- writing
 
-// One write, and another where a signal has interrupted it; 0 where it failed.
-fn write_some(fd: i32, part: &[u8]) -> usize
-    ensures { result ≤ length part.now }
+// One write, and another where a signal has interrupted it.
+fn write_some<W: Write>(to: &mut W, part: &[u8]) -> io::Result<usize>
+    ensures { IfOk result (λ n. n ≤ length part.now) }
 {
     let mut turns = 18446744073709551615u64;
     while 0 < turns {
-        let n = libc::write(fd, part);
-        if 0 <= n {
-            return io::count(n, part);
-        }
-        if os::errno() != libc::EINTR {
-            return 0;
+        match to.write(part) {
+            Err(e) if e.kind() == ErrorKind::Interrupted => {}
+            answer => return answer,
         }
         turns -= 1;
     }
-    0
+    Err(io::Error::from(ErrorKind::Interrupted))
 }
 
 // The first n bytes of a text; whether all were written.
-fn write_to(fd: i32, text: &[u8], n: usize) -> bool
-    ensures { Written text.now n result }
+fn write_to<W: Write>(to: &mut W, text: &[u8], n: usize) -> io::Result<()>
+    ensures { Written text.now n (is_ok result) }
 {
     if text.len() < n {
-        return false;
+        return Err(io::Error::from(ErrorKind::InvalidInput));
     }
     let mut done = 0;
     while done < n {
-        let put = write_some(fd, &text[done..n]);
+        let put = write_some(to, &text[done..n])?;
         if put == 0 {
-            return false;
+            return Err(io::Error::from(ErrorKind::WriteZero));
         }
         done += put;
     }
-    true
+    Ok(())
 }
 
 // ---- messages
@@ -116,7 +147,7 @@ pub fn put_headed(out: &mut [u8], name: &[u8], text: &[u8]) -> usize
 }
 
 // Writes `NAME: TEXT` to standard error; the text has its end of a line. Of more than 8192 bytes, nothing is written.
-pub fn message(name: &[u8], text: &[u8]) -> bool
+pub fn message(rt: HostRuntime, name: &[u8], text: &[u8]) -> bool
     ensures { result ≡ true → length name.now + 2 + length text.now ≤ 8192 }
 {
     if !has_room(8192, name.len(), text.len()) {
@@ -124,18 +155,45 @@ pub fn message(name: &[u8], text: &[u8]) -> bool
     }
     let mut line = [0u8; 8192];
     let n = put_headed(&mut line, name, text);
-    write_to(STDERR_FILENO, &line, n)
+    write_to(&mut rt.stderr(), &line, n).is_ok()
 }
 
-fn fail_with(line: &[u8], n: usize) {
+// Puts the words for an error, and answers how many bytes they take.
+fn put_words(out: &mut [u8], error: io::Error) -> usize
+    ensures { result ≤ length out.old }
+{
+    let room = out.len();
+    let mut rest = &mut *out;
+    let _ = write!(rest, "{error}");
+    room.saturating_sub(rest.len())
+}
+
+// Writes why a call failed, in the system's words. std puts the error's number behind them.
+fn write_reason<W: Write>(to: &mut W, error: io::Error) {
+    let mut text = [0u8; 256];
+    let n = put_words(&mut text, error);
+    if let Ok(words) = str::from_utf8(&text[0..n]) {
+        let reason = match words.split_once(" (os error ") {
+            Some((before, _)) => before,
+            None => words,
+        };
+        let _ = to.write_all(reason.as_bytes());
+    }
+}
+
+fn fail_with(rt: HostRuntime, line: &[u8], n: usize, error: io::Error) {
     if line.len() < n {
         return;
     }
-    os::fail(&line[0..n]);
+    let mut to = rt.stderr();
+    let _ = to.write_all(&line[0..n]);
+    let _ = to.write_all(b": ");
+    write_reason(&mut to, error);
+    let _ = to.write_all(b"\n");
 }
 
 // Says on standard error why a call of the system failed, as `NAME: WHAT: REASON`, and answers whether it did; of more than 8192 bytes it says nothing.
-pub fn failed(name: &[u8], what: &[u8]) -> bool
+pub fn failed(rt: HostRuntime, name: &[u8], what: &[u8], error: io::Error) -> bool
     ensures { result ≡ leb (length name.now + 2 + length what.now) 8192 }
 {
     if !has_room(8192, name.len(), what.len()) {
@@ -143,31 +201,33 @@ pub fn failed(name: &[u8], what: &[u8]) -> bool
     }
     let mut line = [0u8; 8192];
     let n = put_headed(&mut line, name, what);
-    fail_with(&line, n);
+    fail_with(rt, &line, n, error);
     true
 }
 
 // ---- reading and writing
 
 // Writes the first n bytes of a text to standard output and answers whether that was done; where it failed, it says so.
-pub fn write(name: &[u8], text: &[u8], n: usize) -> bool
+pub fn write(rt: HostRuntime, name: &[u8], text: &[u8], n: usize) -> bool
     ensures { Written text.now n result }
 {
-    if write_to(STDOUT_FILENO, text, n) {
-        return true;
+    match write_to(&mut rt.stdout(), text, n) {
+        Ok(()) => true,
+        Err(e) => {
+            failed(rt, name, b"standard output", e);
+            false
+        }
     }
-    failed(name, b"standard output");
-    false
 }
 
 // `reading::read_on`, which says so where it failed.
-pub fn read(name: &[u8], fd: i32, buf: &mut [u8], have: usize) -> Got
+pub fn read<R: Read>(rt: HostRuntime, name: &[u8], from: &mut R, buf: &mut [u8], have: usize) -> Got
     ensures how_bound { result.how ≤ 2 }
     ensures read_into { ReadInto have buf.old buf.new result.n result.how }
 {
-    let g = reading::read_on(fd, buf, have);
-    if g.how == reading::FAILED {
-        failed(name, b"input");
+    let g = reading::read_on(from, buf, have);
+    if let Some(e) = g.error {
+        failed(rt, name, b"input", e);
         return g;
     }
     g
@@ -194,58 +254,89 @@ pub fn asked(word: &[u8]) -> u64
 fn no_source(how: u64) -> Source
     ensures { result.how ≡ how }
 {
-    Source { fd: -1, how }
+    Source {
+        input: Input::Closed,
+        how,
+    }
 }
 
-fn open_file(name: &[u8], path: &[u8]) -> Source
+// A path of std's is UTF-8.
+fn open_path(rt: HostRuntime, path: &[u8]) -> io::Result<File> {
+    match str::from_utf8(path) {
+        Ok(text) => File::open(&rt, text),
+        Err(_) => Err(io::Error::from_raw_os_error(EILSEQ)),
+    }
+}
+
+fn open_file(rt: HostRuntime, name: &[u8], path: &[u8]) -> Source
     ensures { result.how ≤ 2 }
 {
-    let fd = os::open_read(path);
-    if fd < 0 {
-        failed(name, path);
-        return no_source(FAILED);
+    match open_path(rt, path) {
+        Ok(file) => Source {
+            input: Input::File(file),
+            how: OPENED,
+        },
+        Err(e) => {
+            failed(rt, name, path, e);
+            no_source(FAILED)
+        }
     }
-    Source { fd, how: OPENED }
 }
 
-fn open_word(name: &[u8], usage: &[u8], word: &[u8]) -> Source
+fn open_word(rt: HostRuntime, name: &[u8], usage: &[u8], word: &[u8]) -> Source
     ensures { result.how ≤ 2 }
 {
     let asks = asked(word);
     if asks == HELP {
-        write_to(STDOUT_FILENO, usage, usage.len());
+        let _ = write_to(&mut rt.stdout(), usage, usage.len());
         return no_source(NOTHING);
     }
     if asks == WRONG {
-        message(name, usage);
+        message(rt, name, usage);
         return no_source(FAILED);
     }
-    open_file(name, word)
+    open_file(rt, name, word)
+}
+
+// Whether the program was started with so many arguments.
+fn is_given(rt: HostRuntime, i: usize) -> bool {
+    let mut first = [0u8; 1];
+    match rt.arg(i, &mut first) {
+        Err(FillError::NotPresent) => false,
+        _ => true,
+    }
+}
+
+fn argument_error(e: FillError) -> io::Error {
+    match e {
+        FillError::NotPresent => io::Error::from_raw_os_error(EINVAL),
+        FillError::TooLong => io::Error::from_raw_os_error(ENAMETOOLONG),
+    }
 }
 
 // Where a program reads from: standard input without an argument, else the file that its one argument names. `--help` writes the line of usage to standard output; another option,
 // an empty argument or more than one to standard error. What the arguments are, and whether the file opens, is the system's.
-pub fn open_argument(name: &[u8], usage: &[u8]) -> Source
+pub fn open_argument(rt: HostRuntime, name: &[u8], usage: &[u8]) -> Source
     ensures { result.how ≤ 2 }
 {
-    let count = os::arg_count();
-    if count < 2 {
+    if !is_given(rt, 1) {
         return Source {
-            fd: STDIN_FILENO,
+            input: Input::Stdin(rt.stdin()),
             how: OPENED,
         };
     }
-    if 2 < count {
-        message(name, usage);
+    if is_given(rt, 2) {
+        message(rt, name, usage);
         return no_source(FAILED);
     }
-    let mut word = io::buffer();
-    let n = os::arg(1, &mut word);
-    if os::errno() != 0 {
-        failed(name, b"argument");
-        return no_source(FAILED);
+    let mut word = [0u8; 4096];
+    match rt.arg(1, &mut word) {
+        Ok(n) => open_word(rt, name, usage, &word[..n]),
+        Err(e) => {
+            failed(rt, name, b"argument", argument_error(e));
+            no_source(FAILED)
+        }
     }
-    open_word(name, usage, &word[..n])
 }
 
 // ---- what a file looks like
@@ -334,16 +425,16 @@ fn read_of(block: usize, at: Reading) -> usize
 }
 
 // Writes the hint of a kind to standard error.
-fn say_hint(name: &[u8], kind: u64) {
+fn say_hint(rt: HostRuntime, name: &[u8], kind: u64) {
     let mut said = [0u8; 160];
     let n = put_hint(&mut said, kind);
     if n <= 160 {
-        message(name, &said[0..n]);
+        message(rt, name, &said[0..n]);
     }
 }
 
 // Where not one call of an input was read, says on standard error what it looks like, by the block that has its first bytes, and answers whether there was something to say.
-pub fn hint(name: &[u8], block: &[u8], at: Reading) -> bool
+pub fn hint(rt: HostRuntime, name: &[u8], block: &[u8], at: Reading) -> bool
     ensures { result ≡ is_puzzling block.now at }
 {
     if at.index != 0 {
@@ -357,6 +448,6 @@ pub fn hint(name: &[u8], block: &[u8], at: Reading) -> bool
     if kind == CALLS {
         return false;
     }
-    say_hint(name, kind);
+    say_hint(rt, name, kind);
     true
 }

@@ -1,21 +1,26 @@
 // Runs a call file, document 01's program: from standard input, or from the file that its one argument names. Here is only reading and
 // writing: `running` says what is printed, wherever the file is cut.
 #![tactic(auto)]
+
 ghost use Rattle.std.specs.Prelude.{◌≡◌, length};
 
 use callfile::Reading;
 use consumers::SubRow;
 use entry::Row;
+use program::Input;
 use state::Event;
+use std::io;
 
 // Writes the first n bytes of a text, and says whether that was done.
-fn write(text: &[u8], n: usize) -> bool {
-    program::write(b"runcalls", text, n)
+fn write(rt: HostRuntime, text: &[u8], n: usize) -> bool {
+    program::write(rt, b"runcalls", text, n)
 }
 
 // A read failed.
-fn say_failed() {
-    program::failed(b"runcalls", b"input");
+fn say_failed(rt: HostRuntime, error: Option<io::Error>) {
+    if let Some(e) = error {
+        program::failed(rt, b"runcalls", b"input", e);
+    }
 }
 
 // ---- pieces
@@ -31,6 +36,7 @@ struct Next {
 
 // Hands a piece over, and writes its lines.
 fn run_piece(
+    rt: HostRuntime,
     head: &mut [u64],
     subs: &mut [SubRow],
     rows: &mut [Row],
@@ -44,7 +50,7 @@ fn run_piece(
     let mut from = 0;
     while from < piece.len() {
         let t = running::run_piece(head, subs, rows, events, block, at, piece, from, out);
-        if !write(out, t.written) {
+        if !write(rt, out, t.written) {
             return Next {
                 at,
                 goes_on: false,
@@ -65,7 +71,8 @@ fn run_piece(
 
 // Reads the next piece and runs it.
 fn next_piece(
-    fd: i32,
+    rt: HostRuntime,
+    from: &mut Input,
     head: &mut [u64],
     subs: &mut [SubRow],
     rows: &mut [Row],
@@ -75,11 +82,11 @@ fn next_piece(
     piece: &mut [u8],
     out: &mut [u8],
 ) -> Next {
-    let g = reading::read_once(fd, piece, 0);
+    let g = reading::read_once(from, piece, 0);
     let n = g.n;
     let failed = g.how == reading::FAILED;
     if failed {
-        say_failed();
+        say_failed(rt, g.error);
     }
     if g.how != reading::AGAIN {
         return Next {
@@ -89,12 +96,13 @@ fn next_piece(
             written: true,
         };
     }
-    run_piece(head, subs, rows, events, block, at, &piece[..n], out)
+    run_piece(rt, head, subs, rows, events, block, at, &piece[..n], out)
 }
 
 // All pieces, up to the end, a read that fails or a bad block.
 fn run_all(
-    fd: i32,
+    rt: HostRuntime,
+    from: &mut Input,
     head: &mut [u64],
     subs: &mut [SubRow],
     rows: &mut [Row],
@@ -111,7 +119,7 @@ fn run_all(
     };
     let mut turns = 18446744073709551615u64;
     while 0 < turns {
-        let r = next_piece(fd, head, subs, rows, events, block, at, piece, out);
+        let r = next_piece(rt, from, head, subs, rows, events, block, at, piece, out);
         if !r.goes_on {
             return r;
         }
@@ -139,7 +147,7 @@ fn pieces() -> [u8; 65536]
 }
 
 // The whole run, from a state of zeros.
-fn run(fd: i32) {
+fn run(rt: HostRuntime, from: &mut Input) {
     let mut head = [0u64; 8347];
     let mut subs = [[0u64; 16]; 32];
     let mut rows = [[0u64; 10]; 512];
@@ -148,7 +156,8 @@ fn run(fd: i32) {
     let mut piece = pieces();
     let mut out = text();
     let r = run_all(
-        fd,
+        rt,
+        from,
         &mut head,
         &mut subs,
         &mut rows,
@@ -159,18 +168,18 @@ fn run(fd: i32) {
     );
     if r.written {
         let n = running::run_end(&head, r.at, r.failed, &mut out);
-        write(&out, n);
+        write(rt, &out, n);
     }
-    program::hint(b"runcalls", &block, r.at);
+    program::hint(rt, b"runcalls", &block, r.at);
 }
 
-fn main() {
-    let s = program::open_argument(
+fn main(rt: HostRuntime) {
+    let mut s = program::open_argument(
+        rt,
         b"runcalls",
         b"usage: runcalls [FILE]: runs a call file, standard input without FILE, and prints its lines\n",
     );
     if s.how == program::OPENED {
-        run(s.fd);
-        libc::close(s.fd);
+        run(rt, &mut s.input);
     }
 }

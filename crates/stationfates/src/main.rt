@@ -6,17 +6,21 @@ ghost use Rattle.std.specs.Prelude.{◌≡◌, length};
 use callfile::Reading;
 use consumers::SubRow;
 use entry::Row;
+use program::Input;
 use stationcalls::Sent;
 use stationrun::StationReading;
+use std::io;
 
 // Writes the first n bytes of a text, and says whether that was done.
-fn write(text: &[u8], n: usize) -> bool {
-    program::write(b"stationfates", text, n)
+fn write(rt: HostRuntime, text: &[u8], n: usize) -> bool {
+    program::write(rt, b"stationfates", text, n)
 }
 
 // A read failed.
-fn say_failed() {
-    program::failed(b"stationfates", b"input");
+fn say_failed(rt: HostRuntime, error: Option<io::Error>) {
+    if let Some(e) = error {
+        program::failed(rt, b"stationfates", b"input", e);
+    }
 }
 
 // ---- pieces
@@ -32,6 +36,7 @@ struct Next {
 
 // Hands a piece over, a step at a time, and writes the lines of each.
 fn report_piece(
+    rt: HostRuntime,
     heads: &mut [u64],
     subs: &mut [SubRow],
     rows: &mut [Row],
@@ -49,7 +54,7 @@ fn report_piece(
         let t = stationreport::report_station_step(
             heads, subs, rows, own, events, gone, block, at, piece, from, out,
         );
-        if !write(out, t.written) {
+        if !write(rt, out, t.written) {
             return Next {
                 at,
                 goes_on: false,
@@ -70,7 +75,8 @@ fn report_piece(
 
 // Reads the next piece and runs it.
 fn next_piece(
-    fd: i32,
+    rt: HostRuntime,
+    from: &mut Input,
     heads: &mut [u64],
     subs: &mut [SubRow],
     rows: &mut [Row],
@@ -82,11 +88,11 @@ fn next_piece(
     piece: &mut [u8],
     out: &mut [u8],
 ) -> Next {
-    let g = reading::read_once(fd, piece, 0);
+    let g = reading::read_once(from, piece, 0);
     let n = g.n;
     let failed = g.how == reading::FAILED;
     if failed {
-        say_failed();
+        say_failed(rt, g.error);
     }
     if g.how != reading::AGAIN {
         return Next {
@@ -97,6 +103,7 @@ fn next_piece(
         };
     }
     report_piece(
+        rt,
         heads,
         subs,
         rows,
@@ -112,7 +119,8 @@ fn next_piece(
 
 // All pieces, up to the end, a read that fails or a bad block.
 fn run_all(
-    fd: i32,
+    rt: HostRuntime,
+    from: &mut Input,
     heads: &mut [u64],
     subs: &mut [SubRow],
     rows: &mut [Row],
@@ -133,7 +141,7 @@ fn run_all(
     let mut turns = 18446744073709551615u64;
     while 0 < turns {
         let r = next_piece(
-            fd, heads, subs, rows, own, events, gone, block, at, piece, out,
+            rt, from, heads, subs, rows, own, events, gone, block, at, piece, out,
         );
         if !r.goes_on {
             return r;
@@ -162,7 +170,7 @@ fn pieces() -> [u8; 65536]
 }
 
 // The whole run, from a state of zeros.
-fn run(fd: i32) {
+fn run(rt: HostRuntime, from: &mut Input) {
     let mut heads = [0u64; 66776];
     let mut subs = [[0u64; 16]; 256];
     let mut rows = [[0u64; 10]; 4096];
@@ -173,7 +181,8 @@ fn run(fd: i32) {
     let mut piece = pieces();
     let mut out = text();
     let r = run_all(
-        fd,
+        rt,
+        from,
         &mut heads,
         &mut subs,
         &mut rows,
@@ -190,18 +199,18 @@ fn run(fd: i32) {
         let n = stationreport::report_station_end(
             &heads, &subs, &rows, &own, &events, &gone, reading, r.failed, &mut out,
         );
-        write(&out, n);
+        write(rt, &out, n);
     }
-    program::hint(b"stationfates", &block, reading);
+    program::hint(rt, b"stationfates", &block, reading);
 }
 
-fn main() {
-    let s = program::open_argument(
+fn main(rt: HostRuntime) {
+    let mut s = program::open_argument(
+        rt,
         b"stationfates",
         b"usage: stationfates [FILE]: runs a station's call file, standard input without FILE, and says where each block ended\n",
     );
     if s.how == program::OPENED {
-        run(s.fd);
-        libc::close(s.fd);
+        run(rt, &mut s.input);
     }
 }

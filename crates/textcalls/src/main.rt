@@ -1,7 +1,13 @@
 // Writes the call file of a text, a call a line; what is wrong with a text goes to standard error.
 #![tactic(auto)]
+
 ghost use Rattle.std.specs.Prelude.{◌≡◌, ◌≤◌, length};
 
+use program::Input;
+use std::fs::File;
+use std::io::{Seek, SeekFrom, Write};
+use std::os::unix::fs::FileTypeExt;
+use std::{fs, io};
 use texting::Bad;
 
 // What is carried from part to part: the bytes of the last line so far, the number of the next line, the calls in the block, whether a line was bad,
@@ -48,26 +54,26 @@ fn keep(buf: &mut [u8], from: usize, n: usize) {
 
 // ---- writing
 
-fn write_out(part: &[u8]) -> bool {
-    program::write(b"textcalls", part, part.len())
+fn write_out(rt: HostRuntime, part: &[u8]) -> bool {
+    program::write(rt, b"textcalls", part, part.len())
 }
 
 // In place of blocks; too short for one.
-fn spoil() {
-    write_out(b"bad text\n");
+fn spoil(rt: HostRuntime) {
+    write_out(rt, b"bad text\n");
 }
 
 // The first bytes of a text, as a message.
-fn say(text: &[u8], n: usize) {
+fn say(rt: HostRuntime, text: &[u8], n: usize) {
     if text.len() < n {
         return;
     }
     let part = &text[0..n];
-    program::message(b"textcalls", part);
+    program::message(rt, b"textcalls", part);
 }
 
 // The message of a bad line of a text.
-fn complain(part: &[u8], b: Bad) {
+fn complain(rt: HostRuntime, part: &[u8], b: Bad) {
     let from = b.from;
     let to = b.to;
     if part.len() < to {
@@ -78,13 +84,13 @@ fn complain(part: &[u8], b: Bad) {
     }
     let mut text = [0u8; 192];
     let n = texting::put_message(&mut text, b.line, &part[from..to]);
-    say(&text, n);
+    say(rt, &text, n);
 }
 
 // ---- a part of a text
 
 // The messages of its bad lines.
-fn check(part: &[u8], w: Work) -> Work
+fn check(rt: HostRuntime, part: &[u8], w: Work) -> Work
     requires { w.k ≤ 6 }
     ensures { result.k ≤ 6 }
 {
@@ -96,7 +102,7 @@ fn check(part: &[u8], w: Work) -> Work
         if b.kind == 0 {
             return next;
         }
-        complain(part, b);
+        complain(rt, part, b);
         next.line = stats::more_of(b.line);
         next.bad = true;
         from = b.at;
@@ -105,7 +111,7 @@ fn check(part: &[u8], w: Work) -> Work
 }
 
 // Its blocks, as far as they are full.
-fn write_full(part: &[u8], block: &mut [u8], w: Work) -> Work
+fn write_full(rt: HostRuntime, part: &[u8], block: &mut [u8], w: Work) -> Work
     requires { w.k ≤ 6 }
     ensures { result.k ≤ 6 }
 {
@@ -118,7 +124,7 @@ fn write_full(part: &[u8], block: &mut [u8], w: Work) -> Work
             return next;
         }
         next.k = 0;
-        if !write_out(block) {
+        if !write_out(rt, block) {
             next.gone = true;
             return next;
         }
@@ -128,7 +134,7 @@ fn write_full(part: &[u8], block: &mut [u8], w: Work) -> Work
 }
 
 // The last block, with what is left.
-fn write_last(block: &mut [u8], w: Work) -> Work
+fn write_last(rt: HostRuntime, block: &mut [u8], w: Work) -> Work
     requires { w.k ≤ 6 }
     ensures { result.k ≤ 6 }
 {
@@ -138,7 +144,7 @@ fn write_last(block: &mut [u8], w: Work) -> Work
         return next;
     }
     callblocks::seal(block, k as u64);
-    if !write_out(block) {
+    if !write_out(rt, block) {
         next.gone = true;
     }
     next.k = 0;
@@ -146,7 +152,14 @@ fn write_last(block: &mut [u8], w: Work) -> Work
 }
 
 // Whole lines of a text: their messages, and their blocks where no line was bad so far.
-fn take_part(buf: &[u8], end: usize, block: &mut [u8], w: Work, write: bool) -> Work
+fn take_part(
+    rt: HostRuntime,
+    buf: &[u8],
+    end: usize,
+    block: &mut [u8],
+    w: Work,
+    write: bool,
+) -> Work
     requires { w.k ≤ 6 }
     ensures { result.k ≤ 6 }
 {
@@ -154,14 +167,14 @@ fn take_part(buf: &[u8], end: usize, block: &mut [u8], w: Work, write: bool) -> 
         return w;
     }
     let part = &buf[0..end];
-    let c = check(part, w);
+    let c = check(rt, part, w);
     if c.bad {
         return c;
     }
     if !write {
         return c;
     }
-    write_full(part, block, c)
+    write_full(rt, part, block, c)
 }
 
 // ---- the whole text
@@ -179,18 +192,18 @@ fn stopped(w: Work) -> Work
     }
 }
 
-fn too_long(line: u64) {
+fn too_long(rt: HostRuntime, line: u64) {
     let mut text = [0u8; 192];
     let n = texting::put_long(&mut text, line);
-    say(&text, n);
+    say(rt, &text, n);
 }
 
 // The last part, which needs no end of a line.
-fn last_part(buf: &[u8], n: usize, block: &mut [u8], w: Work, write: bool) -> Work
+fn last_part(rt: HostRuntime, buf: &[u8], n: usize, block: &mut [u8], w: Work, write: bool) -> Work
     requires { w.k ≤ 6 }
     ensures { result.k ≤ 6 }
 {
-    let mut c = take_part(buf, n, block, w, write);
+    let mut c = take_part(rt, buf, n, block, w, write);
     c.more = false;
     if c.bad {
         return c;
@@ -198,28 +211,35 @@ fn last_part(buf: &[u8], n: usize, block: &mut [u8], w: Work, write: bool) -> Wo
     if c.gone {
         return c;
     }
-    write_last(block, c)
+    write_last(rt, block, c)
 }
 
 // Reads a part, and does what is to be done with it.
-fn turn(fd: i32, buf: &mut [u8], block: &mut [u8], w: Work, write: bool) -> Work
+fn turn(
+    rt: HostRuntime,
+    from: &mut Input,
+    buf: &mut [u8],
+    block: &mut [u8],
+    w: Work,
+    write: bool,
+) -> Work
     requires { w.k ≤ 6 }
     ensures { result.k ≤ 6 }
 {
-    let g = program::read(b"textcalls", fd, buf, w.have);
+    let g = program::read(rt, b"textcalls", from, buf, w.have);
     let n = g.n;
     if g.how == reading::FAILED {
         return stopped(w);
     }
     if g.how == reading::END {
-        return last_part(buf, n, block, w, write);
+        return last_part(rt, buf, n, block, w, write);
     }
     let end = last_end(buf, n);
     if end == 0 {
-        too_long(w.line);
+        too_long(rt, w.line);
         return stopped(w);
     }
-    let mut c = take_part(buf, end, block, w, write);
+    let mut c = take_part(rt, buf, end, block, w, write);
     keep(buf, end, n);
     c.have = n - end;
     c
@@ -232,7 +252,7 @@ fn buffer() -> [u8; 1048576]
 }
 
 // Reads a text from part to part. Its blocks are written or not; from a bad line on, none.
-fn pass(fd: i32, write: bool) -> Work {
+fn pass(rt: HostRuntime, from: &mut Input, write: bool) -> Work {
     let mut buf = buffer();
     let mut block = [0u8; 512];
     let mut w = Work {
@@ -245,7 +265,7 @@ fn pass(fd: i32, write: bool) -> Work {
     };
     let mut turns = 18446744073709551615u64;
     while 0 < turns {
-        w = turn(fd, &mut buf, &mut block, w, write);
+        w = turn(rt, from, &mut buf, &mut block, w, write);
         if w.gone {
             return w;
         }
@@ -258,54 +278,114 @@ fn pass(fd: i32, write: bool) -> Work {
 }
 
 // A text with a bad line ends in what is no block, and so does an output that could not be written whole.
-fn finish(w: Work) {
+fn finish(rt: HostRuntime, w: Work) {
     if w.gone {
-        io::write_all(libc::STDOUT_FILENO, b"bad text\n");
+        let _ = rt.stdout().write_all(b"bad text\n");
         return;
     }
     if w.bad {
-        spoil();
+        spoil(rt);
     }
 }
 
+// ---- reading again
+
+// Standard input under the name by which the system opens it again: std has no other way to go back in it.
+const STDIN: &str = "/proc/self/fd/0";
+
+// What the system says of standard input; the first line is its place, as `pos:` and a number.
+const STDIN_PLACE: &str = "/proc/self/fdinfo/0";
+
+// Whether standard input is a file: a pipe, a socket or a terminal is not, and is not to be opened.
+fn is_stdin_file(rt: HostRuntime) -> bool {
+    match fs::metadata(&rt, STDIN) {
+        Ok(known) => {
+            let kind = known.file_type();
+            kind.is_file() || kind.is_block_device()
+        }
+        Err(_) => false,
+    }
+}
+
+fn stdin_place(rt: HostRuntime) -> Option<u64> {
+    let said = fs::read_to_string(&rt, STDIN_PLACE).ok()?;
+    let (line, _) = said.as_str().split_once('\n')?;
+    line.strip_prefix("pos:")?.trim().parse::<u64>().ok()
+}
+
+fn stdin_again(rt: HostRuntime, place: u64) -> io::Result<File> {
+    let mut file = File::open(&rt, STDIN)?;
+    file.seek(SeekFrom::Start(place))?;
+    Ok(file)
+}
+
+// Where an input stands, if it can be read again from there.
+fn place_of(rt: HostRuntime, from: &mut Input) -> Option<u64> {
+    match from {
+        Input::Stdin(_) => {
+            if !is_stdin_file(rt) {
+                return None;
+            }
+            let place = stdin_place(rt)?;
+            stdin_again(rt, place).ok()?;
+            Some(place)
+        }
+        Input::File(file) => file.stream_position().ok(),
+        Input::Closed => None,
+    }
+}
+
+// Goes back to a place of an input.
+fn go_back(rt: HostRuntime, from: &mut Input, place: u64) -> io::Result<()> {
+    match from {
+        Input::Stdin(_) => {
+            let file = stdin_again(rt, place)?;
+            *from = Input::File(file);
+        }
+        Input::File(file) => {
+            file.seek(SeekFrom::Start(place))?;
+        }
+        Input::Closed => {}
+    }
+    Ok(())
+}
+
 // Reads a text twice, where it can be read twice: so that no block is written where a line is bad.
-fn text_calls(fd: i32) {
-    let start = libc::lseek(fd, 0, libc::SEEK_CUR);
-    if start < 0 {
-        finish(pass(fd, true));
+fn text_calls(rt: HostRuntime, from: &mut Input) {
+    let Some(start) = place_of(rt, from) else {
+        finish(rt, pass(rt, from, true));
         return;
-    }
-    let first = pass(fd, false);
+    };
+    let first = pass(rt, from, false);
     if first.bad {
-        spoil();
+        spoil(rt);
         return;
     }
-    if libc::lseek(fd, start, libc::SEEK_SET) != start {
-        program::failed(b"textcalls", b"input");
-        spoil();
+    if let Err(e) = go_back(rt, from, start) {
+        program::failed(rt, b"textcalls", b"input", e);
+        spoil(rt);
         return;
     }
-    let again = pass(fd, true);
+    let again = pass(rt, from, true);
     if again.gone | again.bad {
-        finish(again);
+        finish(rt, again);
         return;
     }
     if again.line != first.line {
-        program::message(b"textcalls", b"the text has changed\n");
-        spoil();
+        program::message(rt, b"textcalls", b"the text has changed\n");
+        spoil(rt);
     }
 }
 
 // ---- the argument
 
-fn main() {
-    let s = program::open_argument(b"textcalls", b"usage: textcalls [FILE]\n");
+fn main(rt: HostRuntime) {
+    let mut s = program::open_argument(rt, b"textcalls", b"usage: textcalls [FILE]\n");
     if s.how == program::FAILED {
-        spoil();
+        spoil(rt);
         return;
     }
     if s.how == program::OPENED {
-        text_calls(s.fd);
-        libc::close(s.fd);
+        text_calls(rt, &mut s.input);
     }
 }

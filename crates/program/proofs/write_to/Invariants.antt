@@ -1,0 +1,9 @@
+-- Each turn writes a byte or more.
+use Rattle.std.proofs.Common.{◌-◌, ◌≤◌}
+use Rattle.program.proofs.write_to.Given as goal
+
+abbrev pub invariant-loop-done : goal.invariant-loop-done
+invariant-loop-done g l = l.done ≤ l.n
+
+abbrev pub decreases-loop-done : goal.decreases-loop-done
+decreases-loop-done g l = l.n - l.done
