@@ -1,5 +1,5 @@
 // Duplicate detection for one producer (`Audit` of destination.rs): the last 1,024 numbers, in a lent window.
-// The functions named `audit_..` are the same for C, and include/audit.h describes them.
+// The functions named `audit_..` are the same for C: crate audit_c exports them, and include/audit.h describes them.
 #![tactic(auto)]
 
 ghost use Rattle.std.specs.Prelude.{◌≡◌, ◌≤◌, length, take};
@@ -132,29 +132,25 @@ pub fn check_and_record(window: &mut [u64], a: Audit, number: u64) -> Checked
     }
 }
 
-#[unsafe(no_mangle)]
-pub extern "C" fn audit_window() -> usize
+pub fn audit_window() -> usize
     ensures { result ≡ audit_window }
 {
     Audit::WINDOW
 }
 
-#[unsafe(no_mangle)]
-pub extern "C" fn audit_new() -> Audit
+pub fn audit_new() -> Audit
     ensures { result ≡ new_audit }
 {
     Audit::new()
 }
 
-#[unsafe(no_mangle)]
-pub extern "C" fn audit_sound(a: Audit) -> bool
+pub fn audit_sound(a: Audit) -> bool
     ensures { result ≡ ring_sound a }
 {
     a.sound()
 }
 
-#[unsafe(no_mangle)]
-pub extern "C" fn audit_check_and_record(window: &mut [u64], a: Audit, number: u64) -> Checked
+pub fn audit_check_and_record(window: &mut [u64], a: Audit, number: u64) -> Checked
     ensures { CheckedAndRecorded number a window.old result window.new }
 {
     check_and_record(window, a, number)

@@ -307,22 +307,19 @@ pub fn lookup(table: &[LayoutRow], layout: u64) -> Checked
 
 // ---- for C
 
-#[unsafe(no_mangle)]
-pub extern "C" fn layouts_rows() -> usize
+pub fn layouts_rows() -> usize
     ensures { result ≡ 64 }
 {
     ROWS
 }
 
-#[unsafe(no_mangle)]
-pub extern "C" fn layouts_check(table: &[LayoutRow]) -> Checked
+pub fn layouts_check(table: &[LayoutRow]) -> Checked
     ensures { result ≡ checked table.now }
 {
     check(table)
 }
 
-#[unsafe(no_mangle)]
-pub extern "C" fn layouts_lookup(table: &[LayoutRow], layout: u64) -> Checked
+pub fn layouts_lookup(table: &[LayoutRow], layout: u64) -> Checked
     ensures { result ≡ looked_up table.now layout }
 {
     lookup(table, layout)
