@@ -1,5 +1,4 @@
 use mathlib.Core.Path.{sym, ◌∙◌}
-use Prim.Native.Nat.{◌-◌}
 use Rattle.audit.proofs.Ring.{seen_here, seen_next, seen_end}
 use borrow.Author.Rules.{rules}
 use Rattle.audit.proofs.seen.Goals as goal
