@@ -11,7 +11,7 @@ use lib.ListN.{length, take, get_or, set, length-set}
 use lib.Seq.{slice, get_or-take, get_or-drop, get_or-set_same}
 use Rattle.words.specs.Words.{unsigned, int}
 use Rattle.entry.specs.Entry.{entry_of, one_more, redelivered}
-use Rattle.definition.specs.Base.{if◌then◌else◌, keep, tally, find, all}
+use Rattle.definition.specs.Base.{whether◌then◌else◌, keep, tally, find, all}
 use Rattle.definition.specs.Types.{Inflight, Sub}
 use Rattle.model.specs.declared.AckRange.{AckRange}
 use Rattle.definition.specs.Consumer.{Ack, dseq_of, by_seq, or0, freed_as, bumped}
@@ -120,14 +120,14 @@ module _ (p : Span) where
   mark-inflight : (tx : Bool) (r : Row) → full_row r ≡ true → inflight_at (mark_row p.first p.last tx r) ≡ freed_as (in_span p) tx (inflight_at r)
   mark-inflight tx r h = by (dseq_between p.first p.last r)
     where
-      by : (b : Bool) → inflight_at (if b then freed_row tx r else r) ≡ (if b then record { dseq = get_or r 6 0; entry = entry_of r; freed = true; tx = tx || flag (get_or r 8 0) } else inflight_at r)
+      by : (b : Bool) → inflight_at (whether b then freed_row tx r else r) ≡ (whether b then record { dseq = get_or r 6 0; entry = entry_of r; freed = true; tx = tx || flag (get_or r 8 0) } else inflight_at r)
       by true = freed-inflight tx r (omega (arith, eqb-true (length r) 10 h))
       by false = refl
 
   raise-inflight : (r : Row) → full_row r ≡ true → inflight_at (redeliver_row p.first p.last r) ≡ bumped (in_span p) (inflight_at r)
   raise-inflight r h = by (dseq_between p.first p.last r)
     where
-      by : (b : Bool) → inflight_at (if b then raised_row r else r) ≡ (if b then record { dseq = get_or r 6 0; entry = redelivered (entry_of r); freed = flag (get_or r 7 0); tx = flag (get_or r 8 0) } else inflight_at r)
+      by : (b : Bool) → inflight_at (whether b then raised_row r else r) ≡ (whether b then record { dseq = get_or r 6 0; entry = redelivered (entry_of r); freed = flag (get_or r 7 0); tx = flag (get_or r 8 0) } else inflight_at r)
       by true = raised-inflight r (omega (arith, eqb-true (length r) 10 h))
       by false = refl
 

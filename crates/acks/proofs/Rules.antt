@@ -13,7 +13,7 @@ use Rattle.model.specs.declared.AckRange.{AckRange}
 use Rattle.model.specs.declared.AckRange.TheVariants.{Empty, Between, Cumulative, Last}
 use Rattle.model.specs.declared.AckRule.{AckRule}
 use Rattle.model.specs.Model.{rule_of, ack_rule}
-use Rattle.definition.specs.Base.{if◌then◌else◌}
+use Rattle.definition.specs.Base.{whether◌then◌else◌}
 use Rattle.definition.specs.Types.{Inflight, Sub, Event}
 use Rattle.definition.specs.Consumer.{AckType, Delivered, Poison, Standard, Redelivered, Individual, Unmatched, Expired, Other, ack_type, Ack, Step, is_browser, by_seq, or0, ranged, is_dseq, ack_range, ack_last, ack_transacted, ack_plain, ack_sub}
 use Rattle.definition.proofs.Tests.{by-test, if-true, if-false}
@@ -56,7 +56,7 @@ module _ (a : Ack) (s : Sub) where
   abbrev meant : AckRange → Inflight → Bool
   meant range i = tested range (by_seq s a.first) i (by_seq s a.last)
 
-  same_if : (b : Bool) → (if◌then◌else◌ {A = List Event} b [] []) ≡ []
+  same_if : (b : Bool) → (whether◌then◌else◌ {A = List Event} b [] []) ≡ []
   same_if true = refl
   same_if false = refl
 
@@ -115,7 +115,7 @@ module _ (a : Ack) (s : Sub) where
 
   -- outside a transaction or in one
   pub acts-either : (r : AckRule) → r ≡ ack_rule a.type → (range : AckRange) (effect : AckEffect)
-      → range ≡ (if a.transacted then r.tx_range else r.range) → effect ≡ (if a.transacted then r.tx_effect else r.effect)
+      → range ≡ (whether a.transacted then r.tx_range else r.range) → effect ≡ (whether a.transacted then r.tx_effect else r.effect)
       → acts effect r.counts a.cause (in_span (span_of range (or0 (by_seq s a.first)) (by_seq s a.last))) s ≡ ack_sub a s
   acts-either r e range effect p q =
       let by : AckRange → AckEffect → Step = λ x y. acts y r.counts a.cause (in_span (span_of x (or0 (by_seq s a.first)) (by_seq s a.last))) s in

@@ -13,7 +13,7 @@ use Rattle.stats.specs.Counted.{with_discarded_by}
 use Rattle.model.specs.declared.AckCount.{AckCount}
 use Rattle.model.specs.declared.AckCount.TheVariants.{DeadLetter}
 use Rattle.entry.specs.Entry.{entry_of}
-use Rattle.definition.specs.Base.{if◌then◌else◌, keep, tally, all}
+use Rattle.definition.specs.Base.{whether◌then◌else◌, keep, tally, all}
 use Rattle.definition.specs.Types.{Inflight, Event, letter}
 use Rattle.definition.specs.Consumer.{◌⊕◌, zero_stats, add_discarded, dead_letters}
 use Rattle.definition.specs.Layout.{Row, inflight_at, event_words}
@@ -215,7 +215,7 @@ module _ (cause : Bool) (q : Row → Bool) (rows : List Row) (from to : ℕ) (d�
 -- the same of rows in flight
 dead_letters-flying : (cause : Bool) (l : List Row) → dead_letters cause (map inflight_at l) ≡ row_letters cause l
 dead_letters-flying cause [] = refl
-dead_letters-flying cause (r ∷ l) = ap (λ (x : List Event). if (entry_of r).persistent then letter (entry_of r).seq (entry_of r).redelivery cause ∷ x else x) (dead_letters-flying cause l)
+dead_letters-flying cause (r ∷ l) = ap (λ (x : List Event). whether (entry_of r).persistent then letter (entry_of r).seq (entry_of r).redelivery cause ∷ x else x) (dead_letters-flying cause l)
 
 pub told-flying : (cause : Bool) (p : Span) (l : List Row) (d r : Head) (events events' : List Row)
     → Told (counted (λ w. in_span p (inflight_at w)) l) (told cause (λ w. in_span p (inflight_at w)) l) (tally (λ w. in_span p (inflight_at w)) l) d r events events'

@@ -3,7 +3,7 @@ use Rattle.std.specs.Prelude.{◌≡◌, Bool, true, not, ◌&&◌, List, [], �
 use Rattle.stats.specs.declared.Stats.{Stats}
 use Rattle.stats.specs.Counted.{with_discarded_by}
 use Rattle.entry.specs.Entry.{entry_of}
-use Rattle.definition.specs.Base.{if◌then◌else◌, tally, all}
+use Rattle.definition.specs.Base.{whether◌then◌else◌, tally, all}
 use Rattle.definition.specs.Types.{Kind, Event, letter}
 use Rattle.definition.specs.Types as Def
 use Rattle.definition.specs.Consumer.{◌⊕◌, Step}
@@ -62,16 +62,16 @@ pub record Told (counts : Stats) (sent : List Event) (most : ℕ) (d r : Head) (
 
 -- a dead letter goes out where there is room for it; what is not persistent is discarded
 abbrev pub dead_head : Bool → Head → ℕ → Head
-dead_head persistent d room = if persistent then pushed d room else with_counters (with_discarded_by d.stats 1) d
+dead_head persistent d room = whether persistent then pushed d room else with_counters (with_discarded_by d.stats 1) d
 
 abbrev pub dead_events : Bool → ℕ → Event → List Row → List Row
-dead_events persistent n e events = if persistent then set events n (event_words e) else events
+dead_events persistent n e events = whether persistent then set events n (event_words e) else events
 
 -- the dead letters of rows
 abbrev pub row_letters : Bool → List Row → List Event
 row_letters cause [] = []
 row_letters cause (r ∷ l) =
-    if (entry_of r).persistent then letter (entry_of r).seq (entry_of r).redelivery cause ∷ row_letters cause l
+    whether (entry_of r).persistent then letter (entry_of r).seq (entry_of r).redelivery cause ∷ row_letters cause l
     else row_letters cause l
 
 -- how many of the rows that pass a test are discarded instead

@@ -9,7 +9,7 @@ use Rattle.model.specs.declared.AckEffect.{AckEffect}
 use Rattle.model.specs.declared.AckEffect.TheVariants.{Stays, Frees, Marks, Removes, Redelivers}
 use Rattle.model.specs.declared.AckCount.{AckCount}
 use Rattle.model.specs.declared.AckCount.TheVariants.{Uncounted, Dequeue, Expiry, DeadLetter}
-use Rattle.definition.specs.Base.{if◌then◌else◌, keep, tally, find}
+use Rattle.definition.specs.Base.{whether◌then◌else◌, keep, tally, find}
 use Rattle.definition.specs.Types.{Inflight, Sub, Stats, Event}
 use Rattle.definition.specs.Consumer.{zero_stats, add_dequeued, add_expired, add_discarded, Step, is_browser, Ack, dseq_of, or0, free, remove_inflight, redeliver, dead_letters}
 use Rattle.definition.specs.Layout.{Row, inflight_at}
@@ -44,7 +44,7 @@ number_in l (some q) = dseq_of (find (λ i. eqb i.entry.seq q) (map inflight_at 
 
 -- the rows from..to; none where they do not lie within the table
 abbrev pub rows_in : ℕ → ℕ → List Row → List Row
-rows_in from to rows = if inside from to (length rows) then slice from to rows else []
+rows_in from to rows = whether inside from to (length rows) then slice from to rows else []
 
 -- what an ack means among rows in flight
 unfoldable pub span_in : AckRange → Ack → List Row → Span
@@ -72,10 +72,10 @@ events_of DeadLetter cause l = dead_letters cause l
 
 -- a browser's removals count nothing and send nothing
 abbrev pub removed_counts : AckCount → Bool → (Inflight → Bool) → List Inflight → Stats
-removed_counts c browser hit l = if browser then zero_stats else counts_of c hit l
+removed_counts c browser hit l = whether browser then zero_stats else counts_of c hit l
 
 abbrev pub removed_events : AckCount → Bool → Bool → (Inflight → Bool) → List Inflight → List Event
-removed_events c browser cause hit l = if browser then [] else events_of c cause (keep hit l)
+removed_events c browser cause hit l = whether browser then [] else events_of c cause (keep hit l)
 
 -- an effect on what passes the test
 unfoldable pub acts : AckEffect → AckCount → Bool → (Inflight → Bool) → Sub → Step

@@ -9,7 +9,7 @@ use lib.IntN.{ℤ, pos, negsuc, nat_abs, ◌+ℤ◌, ◌-ℤ◌}
 use lib.Signed.{le_z, lt_z}
 use mir.Syntax.{w64}
 use mir.Val.{SFits, of_z}
-use Rattle.words.specs.Pick.{if◌then◌else◌}
+use Rattle.words.specs.Pick.{whether◌then◌else◌}
 use Rattle.broker.specs.declared.Times.{Times}
 use Rattle.broker.specs.declared.ExpiryOptions.{ExpiryOptions}
 use Rattle.broker.specs.Broker.{time_most, setting_most, from_zero_to, Positive, times_in_range, settings_in_range, times_and_settings_ok, ttl, rebased, base_of, times}
@@ -46,7 +46,7 @@ unfoldable less : ℕ → ℕ → ℤ
 less a b = pos a -ℤ pos b
 
 Right : ℤ → Type 0
-Right d = SFits w64 d × (from_zero_to (if lt_z d (pos 0) then pos 0 else d) (pos (2 ^ 62 - 1)) ≡ true)
+Right d = SFits w64 d × (from_zero_to (whether lt_z d (pos 0) then pos 0 else d) (pos (2 ^ 62 - 1)) ≡ true)
 
 below : (a b : ℕ) (t : Bool) → ltb a (suc b) ≡ t → a ≤ 2 ^ 62 → b < 2 ^ 62 → Right (less a (suc b))
 unfolding Right less
@@ -92,12 +92,12 @@ ranges cfg msg now e =
     record { expiration = t.0; timestamp = t.1; default = s.0; ceiling = s.1; clock = p.1 }
 
 module _ (cfg : ExpiryOptions) (msg : Times) (now : ℤ) (r : Ranges cfg msg now) where
-  stamped : (b : Bool) (x : ℤ) → le_z (if b then times x now else msg).timestamp time_most ≡ true
+  stamped : (b : Bool) (x : ℤ) → le_z (whether b then times x now else msg).timestamp time_most ≡ true
   stamped true x = (both (le_z (pos 0) now) (le_z now time_most) r.clock).1
   stamped false x = r.timestamp
 
   based : (b : Bool) (a : Times) → le_z a.timestamp time_most ≡ true → (t : Bool) → lt_z (pos 0) a.timestamp ≡ t
-      → from_zero_to (if t && b then a.timestamp else now) time_most ≡ true
+      → from_zero_to (whether t && b then a.timestamp else now) time_most ≡ true
   based b a h false e = r.clock
   based false a h true e = r.clock
   based true a h true e = from_zero a.timestamp (record { above = e; most = h })

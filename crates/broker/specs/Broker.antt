@@ -1,7 +1,7 @@
 -- mod.rs: the memory limit, and what becomes of an expiration on arrival. Assumes nothing.
 use Rattle.std.specs.Prelude.{◌≡◌, ℕ, ◌+◌, ◌*◌, ◌/◌, ◌^◌, Bool, true, false, not, ◌&&◌, ◌||◌, eqb, ltb, ℤ, pos, nat_abs, ◌+ℤ◌, ◌-ℤ◌}
 use Rattle.std.specs.Int.Signed.{lt_z, le_z}
-use Rattle.words.specs.Pick.{if◌then◌else◌}
+use Rattle.words.specs.Pick.{whether◌then◌else◌}
 use Rattle.broker.specs.declared.Admission.{Admission}
 use Rattle.broker.specs.declared.Times.{Times}
 use Rattle.broker.specs.declared.ExpiryOptions.{ExpiryOptions}
@@ -23,15 +23,15 @@ below_nine_tenths used limit = ltb used (limit * 9 / 10)
 -- if used + size > limit { limited = true; return false } true; the flag is clear here
 abbrev pub room_for : ℕ → ℕ → ℕ → Admission
 room_for limit used size =
-    if ltb limit (used + size) then admission 0 false true
+    whether ltb limit (used + size) then admission 0 false true
     else admission 0 true false
 
 -- out of range; if limit == 0 { return true }; if limited { if used < limit * 9 / 10 { limited = false } else { return false } }
 unfoldable pub admit_memory : ℕ → Bool → ℕ → ℕ → Admission
 admit_memory limit limited used size =
-    if ltb memory_most limit || ltb memory_most used || ltb memory_most size then admission 3 false limited
-    else if eqb limit 0 then admission 0 true limited
-    else if limited && not (below_nine_tenths used limit) then admission 0 false true
+    whether ltb memory_most limit || ltb memory_most used || ltb memory_most size then admission 3 false limited
+    else whether eqb limit 0 then admission 0 true limited
+    else whether limited && not (below_nine_tenths used limit) then admission 0 false true
     else room_for limit used size
 
 -- ---- apply_expiry_options
@@ -66,28 +66,28 @@ pub record Positive (x : ℤ) : Type 0 where
 
 -- (msg.expiration - msg.timestamp).max(0)
 unfoldable pub ttl : Times → ℤ
-ttl msg = let left = msg.expiration -ℤ msg.timestamp in if lt_z left (pos 0) then pos 0 else left
+ttl msg = let left = msg.expiration -ℤ msg.timestamp in whether lt_z left (pos 0) then pos 0 else left
 
 -- 1. if cfg.use_broker_clock && msg.expiration > 0 && msg.timestamp > 0 { msg.timestamp = now; msg.expiration = now + ttl }
 unfoldable pub rebased : ExpiryOptions → Times → ℤ → Times
 rebased cfg msg now =
-    if cfg.use_broker_clock && lt_z (pos 0) msg.expiration && lt_z (pos 0) msg.timestamp then times (now +ℤ ttl msg) now
+    whether cfg.use_broker_clock && lt_z (pos 0) msg.expiration && lt_z (pos 0) msg.timestamp then times (now +ℤ ttl msg) now
     else msg
 
 -- base = if msg.timestamp > 0 && !cfg.use_broker_clock { msg.timestamp } else { now }
 unfoldable pub base_of : ExpiryOptions → Times → ℤ → ℤ
 base_of cfg msg now =
-    if lt_z (pos 0) msg.timestamp && not cfg.use_broker_clock then msg.timestamp
+    whether lt_z (pos 0) msg.timestamp && not cfg.use_broker_clock then msg.timestamp
     else now
 
 -- if cfg.use_broker_clock { msg.timestamp = now }
 unfoldable pub stamp : ExpiryOptions → Times → ℤ → ℤ
-stamp cfg msg now = if cfg.use_broker_clock then now else msg.timestamp
+stamp cfg msg now = whether cfg.use_broker_clock then now else msg.timestamp
 
 -- 2. if msg.expiration == 0 && cfg.default_ttl > 0 { msg.expiration = base + cfg.default_ttl; stamp }
 unfoldable pub defaulted : ExpiryOptions → Times → ℤ → ℤ → Times
 defaulted cfg msg base now =
-    if eqb (nat_abs msg.expiration) 0 && lt_z (pos 0) cfg.default_ttl
+    whether eqb (nat_abs msg.expiration) 0 && lt_z (pos 0) cfg.default_ttl
     then times (base +ℤ cfg.default_ttl) (stamp cfg msg now)
     else msg
 
@@ -95,7 +95,7 @@ defaulted cfg msg base now =
 unfoldable pub capped : ExpiryOptions → Times → ℤ → Times
 capped cfg msg base =
     let cap = base +ℤ cfg.ttl_ceiling in
-    if lt_z (pos 0) cfg.ttl_ceiling && lt_z (pos 0) msg.expiration && lt_z cap msg.expiration then times cap msg.timestamp
+    whether lt_z (pos 0) cfg.ttl_ceiling && lt_z (pos 0) msg.expiration && lt_z cap msg.expiration then times cap msg.timestamp
     else msg
 
 abbrev pub arrival : ℕ → Times → Bool → Arrival
@@ -115,5 +115,5 @@ expiry_steps cfg msg now =
 unfoldable pub apply_expiry_options : ExpiryOptions → Times → ℤ → Arrival
 apply_expiry_options cfg msg now =
     let m = expiry_steps cfg msg now in
-    if times_and_settings_ok cfg msg now then arrival 0 m (not (times_expired m now))
+    whether times_and_settings_ok cfg msg now then arrival 0 m (not (times_expired m now))
     else arrival 3 msg false

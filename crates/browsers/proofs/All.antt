@@ -8,7 +8,7 @@ use lib.ListN.{length, take, drop, get_or}
 use lib.Seq.{drop-drop, drop-length}
 use Rattle.stats.specs.declared.Stats.{Stats}
 use Rattle.entry.specs.Entry.{entry_of}
-use Rattle.definition.specs.Base.{if◌then◌else◌}
+use Rattle.definition.specs.Base.{whether◌then◌else◌}
 use Rattle.definition.specs.Types.{Entry, queue}
 use Rattle.definition.specs.Types as Def
 use Rattle.definition.specs.Consumer.{◌⊕◌, is_browser, Browse, dispatch_browser}
@@ -74,7 +74,7 @@ whole-end now ws i base d subs rows events e =
 
 -- what the definition does with one consumer
 abbrev pub met : ℕ → List Entry → Def.Sub → Browse
-met now pending s = if is_browser s then dispatch_browser now pending s else alone pending s
+met now pending s = whether is_browser s then dispatch_browser now pending s else alone pending s
 
 abbrev joined : ℕ → List Def.Sub → Browse → Browsed
 joined now l b = let x = browsers now l b.pending in record { subs = b.sub ∷ x.subs; pending = x.pending; counts = b.counts ⊕ x.counts; events = b.events ++ x.events }

@@ -10,7 +10,7 @@ use lib.ListN.{length, take, drop, get_or}
 use lib.Seq.{slice, slice_empty, length-take-le, drop-append-le, drop-drop, take-take}
 use Rattle.words.proofs.Tests.{by-test}
 use Rattle.entry.specs.Entry.{entry_of}
-use Rattle.definition.specs.Base.{if◌then◌else◌, keep, tally}
+use Rattle.definition.specs.Base.{whether◌then◌else◌, keep, tally}
 use Rattle.definition.specs.Types.{Entry}
 use Rattle.definition.specs.Consumer.{same_seq}
 use Rattle.definition.specs.Layout.{Row}
@@ -38,7 +38,7 @@ entries-left e (r ∷ l) = rw (same_number e r) (by-test (has_seq e.seq r) (λ h
 
 pub entries-gone : (e : Entry) (l : List Row) → tally (same_seq e) (map entry_of l) ≡ tally (has_seq e.seq) l
 entries-gone e [] = refl
-entries-gone e (r ∷ l) = ap₂ (λ (b : Bool) (n : ℕ). (if b then 1 else 0) + n) (same_number e r) (entries-gone e l)
+entries-gone e (r ∷ l) = ap₂ (λ (b : Bool) (n : ℕ). (whether b then 1 else 0) + n) (same_number e r) (entries-gone e l)
 
 -- no more go than wait
 pub gone-few : (seq : ℕ) (d : Head) (rows : List Row) (from k : ℕ) → from ≡ first_waiting d → k ≡ removed_rows (has_seq seq) from d.used d.used rows

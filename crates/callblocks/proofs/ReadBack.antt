@@ -7,7 +7,7 @@ use mathlib.Core.List.{List, [], ◌∷◌, ◌++◌}
 use mathlib.Core.Bool.{◌&&◌}
 use borrow.Author.Tests.{le-leb, eq-eqb, ltb-true, ltb-false}
 use lib.Dec.{leb, ltb}
-use Rattle.words.specs.Pick.{if◌then◌else◌}
+use Rattle.words.specs.Pick.{whether◌then◌else◌}
 use Rattle.words.proofs.Tests.{by-test}
 use lib.ListN.{length, get_or, take, set, length-append, get_or-append}
 use lib.Seq.{sets, length-sets, get_or-append-add, length-take-le}
@@ -118,7 +118,7 @@ module _ (l l' : List ℕ) (j : ℕ) (alike : length l ≡ length l') (same : (i
       let a : word_at (j * 72) l ≡ word_at (j * 72) l' = same_word l l' (j * 72) (j * 72 + 72) same (j * 72) (omega arith) (omega arith) in
       let ws : words_at (j * 72) l ≡ words_at (j * 72) l' =
       λ i. word-stays 8 (omega arith) i ∷ word-stays 16 (omega arith) i ∷ word-stays 24 (omega arith) i ∷ word-stays 32 (omega arith) i ∷ word-stays 40 (omega arith) i ∷ word-stays 48 (omega arith) i ∷ word-stays 56 (omega arith) i ∷ word-stays 64 (omega arith) i ∷ [] in
-      λ i. if leb 512 (alike i) && leb j 6 then new_call (a i) (ws i) else no_such_call
+      λ i. whether leb 512 (alike i) && leb j 6 then new_call (a i) (ws i) else no_such_call
 
 apart-bytes : (j k : ℕ) (vs l : List ℕ) → (j ≡ k → ⊥) → length vs ≡ 72 → (i : ℕ) → j * 72 ≤ i → i < j * 72 + 72 → get_or (sets l (k * 72) vs) i 0 ≡ get_or l i 0
 apart-bytes j k vs l n m i a b = by-test (ltb j k)

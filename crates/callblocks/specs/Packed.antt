@@ -2,7 +2,7 @@
 -- Assumes nothing.
 use Rattle.std.specs.Prelude.{ℕ, zero, suc, ◌*◌, ◌/◌, ◌%◌, ◌&&◌, List, [], ◌∷◌, ◌++◌, leb, length}
 use Rattle.std.proofs.lemmas.List.Edits.{sets}
-use Rattle.words.specs.Pick.{if◌then◌else◌}
+use Rattle.words.specs.Pick.{whether◌then◌else◌}
 use Rattle.calls.specs.declared.Call.{Call}
 use Rattle.callfile.specs.Blocks.{check}
 
@@ -22,7 +22,7 @@ call_bytes c = word_bytes (c.code ∷ c.words)
 
 -- the block with call k, from 0 to 6; a short one as it was
 unfoldable pub with_call : ℕ → Call → List ℕ → List ℕ
-with_call k c block = if leb 512 (length block) && leb k 6 then sets block (k * 72) (call_bytes c) else block
+with_call k c block = whether leb 512 (length block) && leb k 6 then sets block (k * 72) (call_bytes c) else block
 
 -- with a count, and then the check
 abbrev pub with_count : ℕ → List ℕ → List ℕ
@@ -32,4 +32,4 @@ abbrev pub with_check : List ℕ → List ℕ
 with_check block = sets block 508 (low_bytes 4 (check block))
 
 unfoldable pub sealed : ℕ → List ℕ → List ℕ
-sealed n block = if leb 512 (length block) then with_check (with_count n block) else block
+sealed n block = whether leb 512 (length block) then with_check (with_count n block) else block

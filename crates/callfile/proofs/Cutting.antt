@@ -8,7 +8,7 @@ use borrow.Author.Tests.{ltb-true, ltb-false, eqb-true, eqb-false}
 use lib.Dec.{ltb, eqb}
 use lib.ListN.{length, take, drop, length-append, length-take, length-drop, take-append-drop, drop_of_length-le}
 use lib.Seq.{take_all, take_at, drop_at}
-use Rattle.words.specs.Pick.{if◌then◌else◌}
+use Rattle.words.specs.Pick.{whether◌then◌else◌}
 use Rattle.words.proofs.Tests.{by-test}
 use Rattle.stats.specs.Counted.{more}
 use Rattle.callfile.specs.Cutting.{cut_at_most, cut_blocks, Did, Work, silent, printed_before, along_blocks, Stage, StepTaken, beginning, lacked, with_bytes, take_piece, end_of_file, along_rest, along_pieces, inARow, CutAnywhere}
@@ -50,10 +50,10 @@ none-cut (a ∷ b) h = absurd (omega arith)
 -- ---- what is to come, from a stage on
 
 -- the last block, and nothing after it
-only : {S : Type 0} (d : Did S) → printed_before d.text (if d.goes_on then silent true d.state else silent false d.state) ≡ d
+only : {S : Type 0} (d : Did S) → printed_before d.text (whether d.goes_on then silent true d.state else silent false d.state) ≡ d
 only {S = S} d = by_flag d.text d.state d.goes_on
   where
-    by_flag : (text : List ℕ) (s : S) (goes_on : Bool) → printed_before text (if goes_on then silent true s else silent false s) ≡ record { text = text; goes_on = goes_on; state = s }
+    by_flag : (text : List ℕ) (s : S) (goes_on : Bool) → printed_before text (whether goes_on then silent true s else silent false s) ≡ record { text = text; goes_on = goes_on; state = s }
     by_flag text s true = λ j. record { text = append-nil text j; goes_on = true; state = s }
     by_flag text s false = λ j. record { text = append-nil text j; goes_on = false; state = s }
 
@@ -65,7 +65,7 @@ drop-taken (suc n) (a ∷ l) = ap (λ (x : List ℕ). a ∷ x) (drop-taken n l)
 module _ {S : Type 0} (work : Work S) where
   -- what a program does with these bytes to come
   unfoldable pub from_stage : Stage S → List ℕ → Did S
-  from_stage g later = if g.goes_on then along_blocks work (cut_blocks (g.begun ++ later)) g.number g.state else silent false g.state
+  from_stage g later = whether g.goes_on then along_blocks work (cut_blocks (g.begun ++ later)) g.number g.state else silent false g.state
 
   abbrev pub small : Stage S → Type 0
   small g = length g.begun < 512

@@ -1,6 +1,6 @@
 -- Blocks of the call file: 512 bytes, up to seven calls of 72 bytes, the count in bytes 504 to 507, the check in 508 to 511. Assumes nothing.
 use Rattle.std.specs.Prelude.{ℕ, ◌+◌, ◌*◌, ◌-◌, ◌^◌, Bool, ◌&&◌, List, [], ◌∷◌, leb, eqb, length, take, get_or, replicate}
-use Rattle.words.specs.Pick.{if◌then◌else◌}
+use Rattle.words.specs.Pick.{whether◌then◌else◌}
 use Rattle.calls.specs.declared.Call.{Call}
 use Rattle.calls.specs.Calls.{new_call}
 
@@ -24,7 +24,7 @@ check block = check_from 0 (take 508 block)
 
 -- of a block that is long enough
 unfoldable pub check_in : List ℕ → ℕ
-check_in block = if leb 512 (length block) then check block else 0
+check_in block = whether leb 512 (length block) then check block else 0
 
 -- whole, with a count of 1 to 7 and its check
 unfoldable pub good : List ℕ → ℕ → Bool
@@ -32,7 +32,7 @@ good block got = leb 512 (length block) && eqb got 512 && leb (number_at 504 blo
 
 -- how many calls a block has, of which so many bytes were read; 0: it is a bad one
 unfoldable pub calls_in : List ℕ → ℕ → ℕ
-calls_in block got = if good block got then number_at 504 block else 0
+calls_in block got = whether good block got then number_at 504 block else 0
 
 -- the eight words from a place on
 abbrev pub words_at : ℕ → List ℕ → List ℕ
@@ -53,4 +53,4 @@ no_such_call = new_call (2 ^ 64 - 1) (replicate 8 0)
 
 -- call k, from 0
 unfoldable pub call_at : ℕ → List ℕ → Call
-call_at k block = if leb 512 (length block) && leb k 6 then new_call (word_at (k * 72) block) (words_at (k * 72) block) else no_such_call
+call_at k block = whether leb 512 (length block) && leb k 6 then new_call (word_at (k * 72) block) (words_at (k * 72) block) else no_such_call

@@ -1,7 +1,7 @@
 -- A file as blocks of 512 bytes, a program that does one block after another, and the same program where the file comes in pieces, cut anywhere.
 -- What it does with a block is its own. Assumes nothing.
 use Rattle.std.specs.Prelude.{ℕ, zero, suc, ◌+◌, ◌-◌, ◌≡◌, Bool, true, false, not, ◌&&◌, List, [], ◌∷◌, ◌++◌, ltb, eqb, length, take, drop}
-use Rattle.words.specs.Pick.{if◌then◌else◌}
+use Rattle.words.specs.Pick.{whether◌then◌else◌}
 use Rattle.stats.specs.Counted.{more}
 
 -- ---- blocks
@@ -43,7 +43,7 @@ module _ {S : Type 0} (work : Work S) where
   along_blocks [] number s = silent true s
   along_blocks (b ∷ bs) number s =
       let d = work b number s in
-      printed_before d.text (if d.goes_on then along_blocks bs (more number) d.state else silent false d.state)
+      printed_before d.text (whether d.goes_on then along_blocks bs (more number) d.state else silent false d.state)
 
 -- ---- a file in pieces
 
@@ -73,18 +73,18 @@ module _ {S : Type 0} (work : Work S) where
   unfoldable pub with_bytes : List ℕ → ℕ → Stage S → StepTaken S
   with_bytes block used g =
       let d = work block g.number g.state in
-      if ltb (length block) 512 then record { text = []; used = used; stage = record { begun = block; number = g.number; goes_on = g.goes_on; state = g.state } }
+      whether ltb (length block) 512 then record { text = []; used = used; stage = record { begun = block; number = g.number; goes_on = g.goes_on; state = g.state } }
       else record { text = d.text; used = used; stage = record { begun = []; number = more g.number; goes_on = d.goes_on; state = d.state } }
 
   -- a step on what is left of a piece: bytes for one block. Where reading has ended, all of it is used up, and nothing is done
   unfoldable pub take_piece : List ℕ → Stage S → StepTaken S
   take_piece rest g =
-      if g.goes_on then with_bytes (g.begun ++ lacked g.begun rest) (length (lacked g.begun rest)) g
+      whether g.goes_on then with_bytes (g.begun ++ lacked g.begun rest) (length (lacked g.begun rest)) g
       else record { text = []; used = length rest; stage = g }
 
   -- no more bytes: a block that was begun is done with the bytes that it has
   unfoldable pub end_of_file : Stage S → Did S
-  end_of_file g = if g.goes_on && not (eqb (length g.begun) 0) then work g.begun g.number g.state else silent g.goes_on g.state
+  end_of_file g = whether g.goes_on && not (eqb (length g.begun) 0) then work g.begun g.number g.state else silent g.goes_on g.state
 
   -- the rest of a piece, then the other pieces, then the end; a step uses a byte or more, so n steps are enough for n bytes
   unfoldable pub along_rest : ℕ → List ℕ → (Stage S → Did S) → Stage S → Did S

@@ -3,7 +3,7 @@
 use Rattle.std.specs.Prelude.{ℕ, zero, suc, ◌+◌, ◌/◌, ◌%◌, Bool, not, List, [], ◌∷◌, ◌++◌, ltb, eqb, ℤ, pos, negsuc}
 use Rattle.std.proofs.Math.Option.{Option, none, some}
 use mir.Val.{bool_byte}
-use Rattle.words.specs.Pick.{if◌then◌else◌}
+use Rattle.words.specs.Pick.{whether◌then◌else◌}
 use Rattle.words.specs.Words.{signed}
 use Rattle.model.specs.Model.{id_of}
 use Rattle.definition.specs.Types.{Id, Stats, Event, letter, message, null}
@@ -12,7 +12,7 @@ use Rattle.definition.specs.Words.{at}
 -- a number's decimal digits, the highest first: up to k + 1 of them
 unfoldable pub digits : ℕ → ℕ → List ℕ
 digits zero n = (48 + n) ∷ []
-digits (suc k) n = if ltb n 10 then (48 + n) ∷ [] else digits k (n / 10) ++ ((48 + n % 10) ∷ [])
+digits (suc k) n = whether ltb n 10 then (48 + n) ∷ [] else digits k (n / 10) ++ ((48 + n % 10) ∷ [])
 
 -- a 64-bit word has at most 20
 unfoldable pub decimal : ℕ → List ℕ
@@ -32,7 +32,7 @@ signed_field z = 32 ∷ signed_decimal z
 
 -- a word's number, signed or not
 abbrev pub word_field : Bool → ℕ → List ℕ
-word_field minus w = if minus then signed_field (signed w) else field w
+word_field minus w = whether minus then signed_field (signed w) else field w
 
 abbrev pub id_fields : Id → List ℕ
 id_fields i = field i.conn ++ (signed_field i.session ++ signed_field i.value)
@@ -62,9 +62,9 @@ null_at ws = null (id_of (at 1 ws) (at 2 ws) (at 3 ws))
 
 unfoldable pub event_at : List ℕ → Option Event
 event_at ws =
-    if eqb (at 0 ws) 1 then some (letter_at ws)
-    else if eqb (at 0 ws) 2 then some (message_at ws)
-    else if eqb (at 0 ws) 3 then some (null_at ws)
+    whether eqb (at 0 ws) 1 then some (letter_at ws)
+    else whether eqb (at 0 ws) 2 then some (message_at ws)
+    else whether eqb (at 0 ws) 3 then some (null_at ws)
     else none
 
 -- its line; no line for none

@@ -1,7 +1,7 @@
 -- Bytes put into a lent buffer. Assumes nothing.
 use Rattle.std.specs.Prelude.{ℕ, ◌+◌, ◌≡◌, Bool, List, ◌++◌, leb, length, take, drop}
 use Rattle.std.proofs.lemmas.List.Edits.{sets}
-use Rattle.words.specs.Pick.{if◌then◌else◌}
+use Rattle.words.specs.Pick.{whether◌then◌else◌}
 
 -- a part of a line, put from `at` on, where it has room: the buffer and the place after it
 pub record Puts (part : List ℕ) (at : ℕ) (out : List ℕ) (r : ℕ) (out' : List ℕ) : Type 0 where
@@ -15,10 +15,10 @@ line_room most at out = leb (at + most) (length out)
 
 -- the buffer with a line from `at` on, and the place after it; without room, as it was
 unfoldable pub line_placed : ℕ → List ℕ → ℕ → List ℕ → List ℕ
-line_placed most line at out = if line_room most at out then take at out ++ (line ++ drop (at + length line) out) else out
+line_placed most line at out = whether line_room most at out then take at out ++ (line ++ drop (at + length line) out) else out
 
 unfoldable pub place_after : ℕ → List ℕ → ℕ → List ℕ → ℕ
-place_after most line at out = if line_room most at out then at + length line else at
+place_after most line at out = whether line_room most at out then at + length line else at
 
 -- what putting a line leaves
 pub record PutLine (most : ℕ) (line : List ℕ) (at : ℕ) (out : List ℕ) (r : ℕ) (out' : List ℕ) : Type 0 where

@@ -8,7 +8,7 @@ use mathlib.Core.List.{List, [], ◌∷◌, ◌++◌}
 use borrow.Author.Tests.{lt-ltb, le-leb, ne_eqb, ltb-true, ltb-false}
 use lib.Dec.{ltb}
 use lib.ListN.{length, get_or, length-append, get_or-append}
-use Rattle.words.specs.Pick.{if◌then◌else◌}
+use Rattle.words.specs.Pick.{whether◌then◌else◌}
 use Rattle.words.specs.Words.{signed}
 use Rattle.words.proofs.Tests.{by-test}
 use Rattle.callfile.specs.Lines.{digits, decimal, signed_decimal, word_field}
@@ -89,7 +89,7 @@ decimal-read n h = digits-read 19 n (omega arith) h
 -- ---- a word's number
 
 abbrev pub word_text : Bool → ℕ → List ℕ
-word_text minus w = if minus then signed_decimal (signed w) else decimal w
+word_text minus w = whether minus then signed_decimal (signed w) else decimal w
 
 pub field-text : (minus : Bool) (w : ℕ) → word_field minus w ≡ 32 ∷ word_text minus w
 field-text true w = refl

@@ -10,7 +10,7 @@ use borrow.Author.Tests.{leb-true, ltb-true, ltb-false, eqb-true, eqb-false}
 use lib.Dec.{leb, ltb, eqb}
 use lib.ListN.{length, get_or, take, set, replicate, get_or-replicate, length-replicate, length-set}
 use lib.Seq.{sets, take-suc, length-take-le, get_or-take, get_or-set_other, ext_get_or}
-use Rattle.words.specs.Pick.{if◌then◌else◌}
+use Rattle.words.specs.Pick.{whether◌then◌else◌}
 use Rattle.words.proofs.Tests.{by-test}
 use Rattle.calls.specs.declared.Call.{Call}
 use Rattle.calls.specs.Calls.{new_call, Words}
@@ -225,7 +225,7 @@ module _ (c : Call) (fits : c.code < 2 ^ 64) (words : Words c.words) where
 
   -- the words after the name
   after : List (List ℕ)
-  after = if has_name c.code then texts else decimal c.code ∷ texts
+  after = whether has_name c.code then texts else decimal c.code ∷ texts
 
   after-solid : Solids after
   unfolding after texts
@@ -259,10 +259,10 @@ module _ (c : Call) (fits : c.code < 2 ^ 64) (words : Words c.words) where
 
   -- the words of the line
   first : List ℕ
-  first = if eqb destination 0 then name_at place else 64 ∷ decimal destination
+  first = whether eqb destination 0 then name_at place else 64 ∷ decimal destination
 
   later : List (List ℕ)
-  later = if eqb destination 0 then after else name_at place ∷ after
+  later = whether eqb destination 0 then after else name_at place ∷ after
 
   line-words : line_text c ≡ first ++ spaced later
   unfolding line_text destination place first later spaced

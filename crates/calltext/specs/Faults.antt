@@ -1,6 +1,6 @@
 -- The word at fault of a line that is no call. Assumes nothing.
 use Rattle.std.specs.Prelude.{ℕ, ◌+◌, ◌-◌, ◌≤◌, ◌≡◌, Bool, true, false, List, [], ◌∷◌, eqb, leb, length, take, drop}
-use Rattle.words.specs.Pick.{if◌then◌else◌}
+use Rattle.words.specs.Pick.{whether◌then◌else◌}
 use Rattle.textwords.specs.Text.{words_of, plain}
 use Rattle.textwords.specs.declared.Number.{Number}
 use Rattle.textwords.specs.declared.Number.TheVariants.{Of, Bad}
@@ -16,21 +16,21 @@ is_number (Of v) = true
 -- among words of which the first would be number n: the one too many, or the first that is no number
 unfoldable pub fault_among : ℕ → List (List ℕ) → List ℕ
 fault_among n [] = []
-fault_among n (w ∷ ws) = if leb 9 n then w else if is_number (number_of w) then fault_among (n + 1) ws else w
+fault_among n (w ∷ ws) = whether leb 9 n then w else whether is_number (number_of w) then fault_among (n + 1) ws else w
 
 -- or the name, where it is unknown
 unfoldable pub fault_named : List ℕ → List (List ℕ) → List ℕ
-fault_named w ws = if leb (name_place w) 16 then fault_among 1 ws else if eqb (name_place w) RAW then fault_among 0 ws else w
+fault_named w ws = whether leb (name_place w) 16 then fault_among 1 ws else whether eqb (name_place w) RAW then fault_among 0 ws else w
 
 -- or the destination's number, where no call's name comes after it
 unfoldable pub fault_after : List ℕ → List (List ℕ) → List ℕ
 fault_after d [] = d
-fault_after d (w ∷ ws) = if eqb (name_place w) RAW then d else fault_named w ws
+fault_after d (w ∷ ws) = whether eqb (name_place w) RAW then d else fault_named w ws
 
 -- or where it is none
 unfoldable pub fault_in : List (List ℕ) → List ℕ
 fault_in [] = []
-fault_in (w ∷ ws) = if at_sign w then (if is_number (destination_of w) then fault_after w ws else w) else fault_named w ws
+fault_in (w ∷ ws) = whether at_sign w then (whether is_number (destination_of w) then fault_after w ws else w) else fault_named w ws
 
 unfoldable pub fault_word : List ℕ → List ℕ
 fault_word line = fault_in (words_of (plain line))

@@ -1,6 +1,6 @@
 -- A line of text as a call: a destination, a name and its numbers. Assumes nothing.
 use Rattle.std.specs.Prelude.{ℕ, ◌+◌, ◌*◌, ◌^◌, Bool, List, [], ◌∷◌, eqb, leb, ltb, get_or, drop, set, replicate}
-use Rattle.words.specs.Pick.{if◌then◌else◌}
+use Rattle.words.specs.Pick.{whether◌then◌else◌}
 use Rattle.calls.specs.declared.Call.{Call}
 use Rattle.calls.specs.Calls.{new_call}
 use Rattle.textwords.specs.declared.Number.{Number}
@@ -43,7 +43,7 @@ call_number (Of v) f = f v
 -- the words of a line go to the places from n on; those that are missing stay 0
 unfoldable pub gather_call : ℕ → List ℕ → List (List ℕ) → Parsed
 gather_call n nine [] = parsed_call 0 (call_of nine)
-gather_call n nine (w ∷ ws) = if eqb n 9 then without_call 4 else call_number (number_of w) (λ v. gather_call (n + 1) (set nine n v) ws)
+gather_call n nine (w ∷ ws) = whether eqb n 9 then without_call 4 else call_number (number_of w) (λ v. gather_call (n + 1) (set nine n v) ws)
 
 -- a word that begins with `@` stands for a destination
 abbrev pub at_sign : List ℕ → Bool
@@ -52,7 +52,7 @@ at_sign w = eqb (get_or w 0 0) 64
 -- whose number leaves room for the code
 unfoldable pub small_number : Number → Number
 small_number Bad = Bad
-small_number (Of v) = if ltb v (2 ^ 56) then Of v else Bad
+small_number (Of v) = whether ltb v (2 ^ 56) then Of v else Bad
 
 unfoldable pub destination_of : List ℕ → Number
 destination_of w = small_number (number_of (drop 1 w))
@@ -60,12 +60,12 @@ destination_of w = small_number (number_of (drop 1 w))
 -- a name gives the code of a call for destination d; `raw` leaves word 0 to the first number
 unfoldable pub named_call : ℕ → ℕ → List (List ℕ) → Parsed
 named_call d place ws =
-    if leb place 16 then gather_call 1 (set (replicate 9 0) 0 (place + 256 * d)) ws else if eqb place RAW then gather_call 0 (replicate 9 0) ws else without_call 2
+    whether leb place 16 then gather_call 1 (set (replicate 9 0) 0 (place + 256 * d)) ws else whether eqb place RAW then gather_call 0 (replicate 9 0) ws else without_call 2
 
 -- so a destination's number stands before a call's name, and not before `raw`
 unfoldable pub call_for : ℕ → List (List ℕ) → Parsed
 call_for d [] = without_call 6
-call_for d (w ∷ ws) = if eqb (name_place w) RAW then without_call 6 else named_call d (name_place w) ws
+call_for d (w ∷ ws) = whether eqb (name_place w) RAW then without_call 6 else named_call d (name_place w) ws
 
 abbrev pub call_after : Number → List (List ℕ) → Parsed
 call_after Bad ws = without_call 5
@@ -73,7 +73,7 @@ call_after (Of d) ws = call_for d ws
 
 unfoldable pub call_in : List (List ℕ) → Parsed
 call_in [] = without_call 1
-call_in (w ∷ ws) = if at_sign w then call_after (destination_of w) ws else named_call 0 (name_place w) ws
+call_in (w ∷ ws) = whether at_sign w then call_after (destination_of w) ws else named_call 0 (name_place w) ws
 
 unfoldable pub line_call : List ℕ → Parsed
 line_call line = call_in (words_of (plain line))

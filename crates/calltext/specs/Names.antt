@@ -1,6 +1,6 @@
 -- The names of the calls by code, and what their words hold. Assumes nothing.
 use Rattle.std.specs.Prelude.{ℕ, suc, ◌+◌, ◌*◌, ◌%◌, Bool, List, [], ◌∷◌, eqb, leb, get_or}
-use Rattle.words.specs.Pick.{if◌then◌else◌}
+use Rattle.words.specs.Pick.{whether◌then◌else◌}
 use Rattle.textwords.specs.Text.{same_text}
 
 -- a call of a code without a name is written `raw`, its word 0 and its words
@@ -53,7 +53,7 @@ name_at k = get_or names k []
 -- the place of a name among some whose first has the place k; past the last where there is none
 unfoldable pub place_in : List (List ℕ) → ℕ → List ℕ → ℕ
 place_in [] k word = k
-place_in (n ∷ ns) k word = if same_text word n then k else place_in ns (suc k) word
+place_in (n ∷ ns) k word = whether same_text word n then k else place_in ns (suc k) word
 
 unfoldable pub name_place : List ℕ → ℕ
 name_place word = place_in names 0 word
@@ -64,7 +64,7 @@ has_name word = leb (word % 256) 16
 
 -- the name for a call's word 0
 unfoldable pub code_place : ℕ → ℕ
-code_place word = if has_name word then word % 256 else RAW
+code_place word = whether has_name word then word % 256 else RAW
 
 -- what a word holds, eight to a name: 0 nothing, 1 an unsigned number, 2 a signed one
 unfoldable pub kinds : List ℕ

@@ -12,7 +12,7 @@ use lib.Dec.{leb}
 use lib.ListN.{length, take, drop, get_or, length-map, length-append, length-drop}
 use lib.Seq.{slice, take-add, take_at, take-take, length-take-le, length-slice}
 use Rattle.entry.specs.Entry.{entry_of}
-use Rattle.definition.specs.Base.{if◌then◌else◌, is_some, tally, all}
+use Rattle.definition.specs.Base.{whether◌then◌else◌, is_some, tally, all}
 use Rattle.definition.specs.Types.{Kind, queue, topic, Entry}
 use Rattle.definition.specs.Types as Def
 use Rattle.definition.specs.Consumer.{has_credit, accepts, is_browser}
@@ -29,7 +29,7 @@ use Rattle.consumers.specs.Table.{taken_out, sub_removed, on_first, held_back_ro
 
 -- ---- one consumer
 
-waiting : (b : Bool) (g : ℕ) → is_some (if b then some g else none) ≡ b
+waiting : (b : Bool) (g : ℕ) → is_some (whether b then some g else none) ≡ b
 waiting true g = refl
 waiting false g = refl
 
@@ -122,7 +122,7 @@ removed-first at n ws h g =
 pub tally-subs : (k : Kind) (e : Entry) (ws rows : List Row) → tally (λ s. accepts s e) (subs_at k ws rows) ≡ tally (takes_entry e) ws
 unfolding each_sub sub_at accepts accepts_of row_sub
 tally-subs k e [] rows = refl
-tally-subs k e (w ∷ ws) rows = ap (λ (n : ℕ). (if takes_entry e w then 1 else 0) + n) (tally-subs k e ws (drop (held_count w) (drop (inflight_count w) rows)))
+tally-subs k e (w ∷ ws) rows = ap (λ (n : ℕ). (whether takes_entry e w then 1 else 0) + n) (tally-subs k e ws (drop (held_count w) (drop (inflight_count w) rows)))
 
 -- ---- the rows of the consumers
 
@@ -143,7 +143,7 @@ consumer-rows k (w ∷ ws) rows =
     ∙ sym (map-append entry_of (f ++ h) r)
     ∙ ap (map entry_of) (append_assoc f h r ∙ sym (take-add a (b + sub_rows ws) rows ∙ ap (λ (x : List Row). f ++ x) (take-add b (sub_rows ws) (drop a rows))))
 
-pending-length : (k : Kind) (b : Bool) (l : List Entry) → length (tpending_at k b l) ≡ (if is_queue k && b then 0 else length l)
+pending-length : (k : Kind) (b : Bool) (l : List Entry) → length (tpending_at k b l) ≡ (whether is_queue k && b then 0 else length l)
 pending-length queue true l = refl
 pending-length queue false l = refl
 pending-length topic b l = refl
@@ -158,7 +158,7 @@ held-subs k (w ∷ ws) rows h =
     let one : length (map inflight_at (take a rows)) ≡ a = length-map (take a rows) inflight_at ∙ length-take-le a rows (omega arith) in
     let all : length (map entry_of l) ≡ b = length-map l entry_of ∙ length-take-le b (drop a rows) (simp length-drop (omega arith)) in
     let two : length (tpending_at k (flag (at 6 w)) (map entry_of l)) ≡ held_counted (is_queue k) w =
-    pending-length k (flag (at 6 w)) (map entry_of l) ∙ ap (λ (n : ℕ). if is_queue k && flag (at 6 w) then 0 else n) all in
+    pending-length k (flag (at 6 w)) (map entry_of l) ∙ ap (λ (n : ℕ). whether is_queue k && flag (at 6 w) then 0 else n) all in
     let three : held_rows (subs_at k ws (drop b (drop a rows))) ≡ kept_rows (is_queue k) ws = held-subs k ws (drop b (drop a rows)) (simp length-drop (omega arith)) in
     λ i. one i + two i + three i
 

@@ -2,7 +2,7 @@
 use Rattle.std.specs.Prelude.{ℕ, ◌+◌, ◌-◌, ◌^◌, Bool, false, not, ◌&&◌, List, [], ◌∷◌, map, ltb, leb, eqb}
 use Rattle.std.proofs.Math.Option.{none, some}
 use mir.Val.{bool_byte}
-use Rattle.words.specs.Pick.{if◌then◌else◌}
+use Rattle.words.specs.Pick.{whether◌then◌else◌}
 use Rattle.entry.specs.Entry.{entry_of, selects}
 use Rattle.entry.specs.declared.Entry.{Entry}
 use Rattle.model.specs.Model.{id_of}
@@ -52,7 +52,7 @@ sub_view k s flying held = record {
   freed = s.freed;
   next_dseq = s.next_dseq;
   cursor = s.cursor;
-  pull = if s.pulling then some s.pull else none;
+  pull = whether s.pulling then some s.pull else none;
   generation = s.generation;
   tpending = tpending_at k s.browser (map entry_of held);
 }
@@ -61,14 +61,14 @@ sub_view k s flying held = record {
 
 -- Sub::has_credit
 unfoldable pub credit_of : Sub → Bool
-credit_of s = if eqb s.prefetch 0 then s.pulling else ltb (s.inflight - s.freed) s.prefetch
+credit_of s = whether eqb s.prefetch 0 then s.pulling else ltb (s.inflight - s.freed) s.prefetch
 
 -- Sub::accepts: nothing from its own connection, where it says so
 abbrev pub local_of : Sub → ℕ → Bool
 local_of s producer = s.no_local && (not (eqb producer 0) && eqb producer s.conn)
 
 unfoldable pub accepts_of : Sub → Entry → Bool
-accepts_of s e = if local_of s e.producer then false else selects e.match_word s.selector
+accepts_of s e = whether local_of s e.producer then false else selects e.match_word s.selector
 
 -- ---- one changed
 
@@ -82,4 +82,4 @@ sent_sub s = record { conn = s.conn; session = s.session; value = s.value; prefe
 
 -- where both numbers can rise
 unfoldable pub sent_of : Sub → Sub
-sent_of s = if leb s.next_dseq (2 ^ 63) && leb s.inflight (2 ^ 63) then sent_sub s else s
+sent_of s = whether leb s.next_dseq (2 ^ 63) && leb s.inflight (2 ^ 63) then sent_sub s else s

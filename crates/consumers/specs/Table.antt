@@ -1,7 +1,7 @@
 -- The table of consumers, a row of sixteen words each: what the functions on its first n rows answer and leave. Assumes nothing.
 use Rattle.std.specs.Prelude.{ℕ, suc, ◌+◌, ◌-◌, ◌^◌, min, Bool, ◌&&◌, List, [], ◌∷◌, ◌++◌, map, leb, ltb, length, take, drop, set}
 use Rattle.std.proofs.Math.Seq.{slice}
-use Rattle.words.specs.Pick.{if◌then◌else◌}
+use Rattle.words.specs.Pick.{whether◌then◌else◌}
 use Rattle.entry.specs.declared.Entry.{Entry}
 use Rattle.model.specs.declared.Id.{Id}
 use Rattle.model.specs.Model.{same_id}
@@ -14,7 +14,7 @@ use Rattle.consumers.specs.Consumers.{row_sub, accepts_of}
 -- `position`: the first with that identifier, where the first of all stands at i
 unfoldable pub position_from : ℕ → Id → List Row → Found
 position_from i id [] = Nothing
-position_from i id (w ∷ ws) = if same_id (id_at w) id then At i else position_from (suc i) id ws
+position_from i id (w ∷ ws) = whether same_id (id_at w) id then At i else position_from (suc i) id ws
 
 -- the row at a place taken out of the first n; the last of the n places keeps what it held
 unfoldable pub taken_out : ℕ → ℕ → List Row → List Row
@@ -22,7 +22,7 @@ taken_out at n ws = take at ws ++ (slice (suc at) n ws ++ drop (n - 1) ws)
 
 -- outside the first n, or where there are not so many, nothing is taken out
 unfoldable pub sub_removed : ℕ → ℕ → List Row → List Row
-sub_removed at n ws = if leb n (length ws) && ltb at n then taken_out at n ws else ws
+sub_removed at n ws = whether leb n (length ws) && ltb at n then taken_out at n ws else ws
 
 -- f put to each of the first n
 unfoldable pub on_first : (Row → Row) → ℕ → List Row → List Row
@@ -48,7 +48,7 @@ takes_entry e w = accepts_of (row_sub w) e
 
 -- what it holds that is no snapshot of a queue, and that with what it has in flight
 abbrev pub held_counted : Bool → Row → ℕ
-held_counted queue w = if queue && flag (at 6 w) then 0 else held_count w
+held_counted queue w = whether queue && flag (at 6 w) then 0 else held_count w
 
 abbrev pub kept_by : Bool → Row → ℕ
 kept_by queue w = inflight_count w + held_counted queue w

@@ -9,7 +9,7 @@ use borrow.Author.Tests.{eqb-true, eqb-false, eq-eqb, ne_eqb}
 use lib.Dec.{leb, eqb}
 use lib.ListN.{length, take, drop, get_or, set, replicate, length-take, length-drop}
 use lib.Seq.{slice, slice_empty, slice-cons, get_or-drop, get_or-take, get_or-set_same, get_or-set_other}
-use Rattle.words.specs.Pick.{if◌then◌else◌}
+use Rattle.words.specs.Pick.{whether◌then◌else◌}
 use Rattle.words.proofs.Tests.{by-test}
 use Rattle.entry.specs.Entry.{entry_of}
 use Rattle.definition.specs.Base.{all, member, tally}
@@ -199,7 +199,7 @@ module _ (rows : List Row) (i to : ℕ) (b : to ≤ length rows) where
     pub all_end : i ≡ to → true ≡ total
     all_end q = sym (ap (all p) (ap (λ (j : ℕ). slice j to rows) q ∙ slice_empty to rows)) ∙ e
 
-  pub tally-turn : (p : Row → Bool) → i < to → tally p (slice i to rows) ≡ (if p (get_or rows i []) then 1 else 0) + tally p (slice (i + 1) to rows)
+  pub tally-turn : (p : Row → Bool) → i < to → tally p (slice i to rows) ≡ (whether p (get_or rows i []) then 1 else 0) + tally p (slice (i + 1) to rows)
   tally-turn p h = ap (tally p) (part-turn h)
 
 pub tally-end : (rows : List Row) (i to : ℕ) (p : Row → Bool) → i ≡ to → tally p (slice i to rows) ≡ 0
@@ -214,8 +214,8 @@ alike-test x z w b e = ap₂ (λ (c d : Bool). not c || d) (eqb_comm x (at 0 w))
     turned true false = refl
     turned false d = refl
 
-pub enough-queue : (q : Bool) (n : ℕ) → q ≡ true → leb 1 n ≡ leb (if q then 1 else 2) n
-enough-queue q n e = ap (λ (b : Bool). leb (if b then 1 else 2) n) (sym e)
+pub enough-queue : (q : Bool) (n : ℕ) → q ≡ true → leb 1 n ≡ leb (whether q then 1 else 2) n
+enough-queue q n e = ap (λ (b : Bool). leb (whether b then 1 else 2) n) (sym e)
 
-pub enough-topic : (q : Bool) (n : ℕ) → q ≡ false → leb 2 n ≡ leb (if q then 1 else 2) n
-enough-topic q n e = ap (λ (b : Bool). leb (if b then 1 else 2) n) (sym e)
+pub enough-topic : (q : Bool) (n : ℕ) → q ≡ false → leb 2 n ≡ leb (whether q then 1 else 2) n
+enough-topic q n e = ap (λ (b : Bool). leb (whether b then 1 else 2) n) (sym e)

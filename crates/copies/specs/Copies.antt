@@ -1,7 +1,7 @@
 -- Copies of one entry among rows, as the code looks for them. What `agree` ensures is said by the definitions alone. Assumes nothing.
 use Rattle.std.specs.Prelude.{◌≡◌, Bool, true, false, not, ◌&&◌, ◌||◌, List, [], ◌∷◌, map, ℕ, ◌≤◌, ◌<◌, leb, eqb}
 use Rattle.std.proofs.Math.Seq.{slice}
-use Rattle.words.specs.Pick.{if◌then◌else◌}
+use Rattle.words.specs.Pick.{whether◌then◌else◌}
 use Rattle.definition.specs.Base.{all, member, tally}
 use Rattle.definition.specs.Words.{at}
 use Rattle.definition.specs.Layout.{Row, flag}
@@ -25,4 +25,4 @@ may_copy q w = (not q || flag (at 6 w)) && not (eqb (at 14 w) 0 && eqb (at 15 w)
 
 -- on a queue one such, on a topic two
 abbrev pub shared_by : Bool → List Row → Bool
-shared_by q l = leb (if q then 1 else 2) (tally (may_copy q) l)
+shared_by q l = leb (whether q then 1 else 2) (tally (may_copy q) l)

@@ -3,7 +3,7 @@
 
 ghost use Rattle.std.specs.Prelude.{◌≡◌, true, map, ◌≤◌, length, take, leb};
 ghost use Rattle.std.proofs.Math.Seq.{slice};
-ghost use Rattle.words.specs.Pick.{if◌then◌else◌};
+ghost use Rattle.words.specs.Pick.{whether◌then◌else◌};
 ghost use Rattle.entry.specs.Entry.{entry_of};
 ghost use Rattle.definition.specs.Base.{all, tally};
 ghost use Rattle.definition.specs.Calls.{sizes_agree};
@@ -149,7 +149,7 @@ fn holders(subs: &[SubRow], n: usize, on_queue: bool) -> u64
 
 // Whether they are enough.
 fn enough(count: u64, on_queue: bool) -> bool
-    ensures { result ≡ leb (if on_queue then 1 else 2) count }
+    ensures { result ≡ leb (whether on_queue then 1 else 2) count }
 {
     if on_queue {
         return 1 <= count;

@@ -8,7 +8,7 @@ use lib.Dec.{leb, ltb, eqb}
 use lib.ListN.{length}
 use borrow.Author.Tests.{eqb-true, ltb-true}
 use Rattle.words.proofs.Tests.{eqb_comm}
-use Rattle.definition.specs.Base.{if◌then◌else◌, all, member}
+use Rattle.definition.specs.Base.{whether◌then◌else◌, all, member}
 use Rattle.definition.specs.Types.{Entry}
 use Rattle.definition.specs.Calls.{entry_ok, word, signed_within, seqs, all_rows, sizes_agree}
 use Rattle.definition.specs.Queries.{bytes_of}
@@ -28,7 +28,7 @@ size_ok e h =
 few_bytes : (l : List Entry) → all entry_ok l ≡ true → bytes_of l ≤ length l * 4294967295
 few_bytes [] h = omega arith
 few_bytes (e ∷ l) h =
-    let x : (if member e.seq (seqs l) then 0 else e.size) ≤ 4294967295 = by-if (λ n. n ≤ 4294967295) (member e.seq (seqs l)) 0 e.size (λ c. omega arith) (λ c. size_ok e (and_left (entry_ok e) _ h)) in
+    let x : (whether member e.seq (seqs l) then 0 else e.size) ≤ 4294967295 = by-if (λ n. n ≤ 4294967295) (member e.seq (seqs l)) 0 e.size (λ c. omega arith) (λ c. size_ok e (and_left (entry_ok e) _ h)) in
     omega (arith, x, few_bytes l (and_right (entry_ok e) _ h))
 
 pub bytes_fit : BytesFit
@@ -49,20 +49,20 @@ all_middle p [] e m h = and_left (p e) _ h
 all_middle p (f ∷ l) e m h = all_middle p l e m (and_right (p f) _ h)
 
 -- two numbers that may be one, each counted unless it is held below
-two : (s p r : Bool) (x y b : ℕ) → (s ≡ true → (p ≡ r) × (x ≡ y)) → (if s || p then 0 else x) + ((if r then 0 else y) + b) ≡ (if s || r then 0 else y) + ((if p then 0 else x) + b)
-two true p r x y b h = let e = h refl in ap (λ z. 0 + ((if r then 0 else z) + b)) (sym e.1) ∙ ap (λ q. 0 + ((if q then 0 else x) + b)) (sym e.0)
+two : (s p r : Bool) (x y b : ℕ) → (s ≡ true → (p ≡ r) × (x ≡ y)) → (whether s || p then 0 else x) + ((whether r then 0 else y) + b) ≡ (whether s || r then 0 else y) + ((whether p then 0 else x) + b)
+two true p r x y b h = let e = h refl in ap (λ z. 0 + ((whether r then 0 else z) + b)) (sym e.1) ∙ ap (λ q. 0 + ((whether q then 0 else x) + b)) (sym e.0)
 two false true true x y b h = omega arith
 two false true false x y b h = omega arith
 two false false true x y b h = omega arith
 two false false false x y b h = omega arith
 
-bytes-middle : (l : List Entry) (e : Entry) (m : List Entry) → sizes_agree (l ++ e ∷ m) ≡ true → bytes_of (l ++ e ∷ m) ≡ (if member e.seq (seqs (l ++ m)) then 0 else e.size) + bytes_of (l ++ m)
+bytes-middle : (l : List Entry) (e : Entry) (m : List Entry) → sizes_agree (l ++ e ∷ m) ≡ true → bytes_of (l ++ e ∷ m) ≡ (whether member e.seq (seqs (l ++ m)) then 0 else e.size) + bytes_of (l ++ m)
 bytes-middle [] e m h = refl
 bytes-middle (f ∷ l) e m h =
-    ap (λ b. (if b then 0 else f.size) + bytes_of (l ++ e ∷ m)) (member-middle f.seq l e m)
-    ∙ ap (λ n. (if eqb f.seq e.seq || member f.seq (seqs (l ++ m)) then 0 else f.size) + n) (bytes-middle l e m (and_right (all like (l ++ e ∷ m)) _ h))
+    ap (λ b. (whether b then 0 else f.size) + bytes_of (l ++ e ∷ m)) (member-middle f.seq l e m)
+    ∙ ap (λ n. (whether eqb f.seq e.seq || member f.seq (seqs (l ++ m)) then 0 else f.size) + n) (bytes-middle l e m (and_right (all like (l ++ e ∷ m)) _ h))
     ∙ two (eqb f.seq e.seq) (member f.seq (seqs (l ++ m))) (member e.seq (seqs (l ++ m))) f.size e.size (bytes_of (l ++ m)) one_size
-    ∙ ap (λ b. (if b || member e.seq (seqs (l ++ m)) then 0 else e.size) + ((if member f.seq (seqs (l ++ m)) then 0 else f.size) + bytes_of (l ++ m))) (eqb_comm f.seq e.seq)
+    ∙ ap (λ b. (whether b || member e.seq (seqs (l ++ m)) then 0 else e.size) + ((whether member f.seq (seqs (l ++ m)) then 0 else f.size) + bytes_of (l ++ m))) (eqb_comm f.seq e.seq)
   where
     like : Entry → Bool
     like g = not (eqb f.seq g.seq) || eqb f.size g.size
@@ -81,6 +81,6 @@ agree-swap l m h = sum-agree (m ++ l) (λ x. let z = agree-sum (l ++ m) h x in (
 pub bytes-any-order : BytesAnyOrder
 bytes-any-order [] m h = ap bytes_of (sym (append-nil m))
 bytes-any-order (e ∷ l) m h =
-    ap (λ n. (if member e.seq (seqs (l ++ m)) then 0 else e.size) + n) (bytes-any-order l m (and_right (all (λ f. not (eqb e.seq f.seq) || eqb e.size f.size) (l ++ m)) _ h))
-    ∙ ap (λ b. (if b then 0 else e.size) + bytes_of (m ++ l)) (member-swap e.seq l m)
+    ap (λ n. (whether member e.seq (seqs (l ++ m)) then 0 else e.size) + n) (bytes-any-order l m (and_right (all (λ f. not (eqb e.seq f.seq) || eqb e.size f.size) (l ++ m)) _ h))
+    ∙ ap (λ b. (whether b then 0 else e.size) + bytes_of (m ++ l)) (member-swap e.seq l m)
     ∙ sym (bytes-middle m e l (agree-swap (e ∷ l) m h))

@@ -9,7 +9,7 @@ use lib.Dec.{ltb, eqb}
 use lib.ListN.{length, set, length-map}
 use lib.IntN.{ℤ, pos}
 use lib.Signed.{lt_z}
-use Rattle.definition.specs.Base.{if◌then◌else◌, keep, find, put, nth, empty}
+use Rattle.definition.specs.Base.{whether◌then◌else◌, keep, find, put, nth, empty}
 use Rattle.definition.specs.Types.{Kind, queue, topic, Id, Entry, Inflight, Sub, Audit, Dest, with_prefetch, with_cursor, with_tpending, with_pending, with_subs, with_reserved}
 use Rattle.definition.specs.Consumer.{expired, add_expired, is_browser, snapshot, has_credit, send, send_null, redelivered, ack_sub, at_rest, dispatch_browser}
 use Rattle.definition.specs.Destination.{ack_at, pull_at, remove_at, sweep_at, test_at, timeout_at, visit_at, Out, Look, look, given, visit, scan, turns, rounds, Browsed, browsers, dispatch_queue, serve_all, dispatch_topic, dispatch_by, dispatch, touch_idle, count, is_id, sub_of, put_sub, room, set_prefetch, ack, pulled, pull, pull_timeout, fired, resumed, fan_out_all, stored, fanned_out, enqueue_by, Spec, add_sub, hold_back_all, reinsert, held_by, reserved_of, ack_reserved, returning, drop_sub, remove_sub, no_tx, unmarked, return_reserved, Swept, sweep_list, SweptSubs, sweep_subs, sweep_expired, cleared, clear, audit_of, is_duplicate, due}
@@ -278,7 +278,7 @@ module _ (b : Bool) where
   no_tx-rests queue s r = λ u c. r u (sym (no_tx-credit s) ∙ c)
 
   unmark-calm : (i : Id) (t : Dest) → Calm b t → Calm b (unmarked i t)
-  unmark-calm i t h = map-calm (λ s. if is_id i s then no_tx s else s) t
+  unmark-calm i t h = map-calm (λ s. whether is_id i s then no_tx s else s) t
       (λ s r. by-if (λ (v : Sub). Rests t.kind v) (is_id i s) (no_tx s) s (λ c. no_tx-rests t.kind s r) (λ c. r)) h
 
   reinsert-idle : (now : ℕ) (l : List Entry) (t : Dest) → IdleRight t → IdleRight (reinsert now l t)

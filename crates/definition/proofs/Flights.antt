@@ -10,7 +10,7 @@ use lib.Signed.{lt_z}
 use lib.ListN.{length}
 use borrow.Author.Tests.{eqb-true, not-true}
 use Rattle.audit.specs.Audit.{seen}
-use Rattle.definition.specs.Base.{if◌then◌else◌, keep, find, nth, empty, all, member}
+use Rattle.definition.specs.Base.{whether◌then◌else◌, keep, find, nth, empty, all, member}
 use Rattle.definition.specs.Types.{Kind, queue, topic, Id, Entry, Inflight, Sub, Audit, Dest, Event, null, with_prefetch, with_pull, with_generation, with_cursor, with_tpending, with_pending, with_subs, with_reserved}
 use Rattle.definition.specs.Consumer.{same_id, zero_stats, add_expired, expired, selects, is_browser, has_credit, accepts, send, sent, send_null, snapshot, with_snapshot, redelivered, Ack, ack_sub, Step, at_rest, meet_topic, drain_topic, serve_topic, Browse, meet_browser, close_browser, drain_browser, dispatch_browser}
 use Rattle.definition.specs.Destination.{Out, Answer, Spec, Look, look, given, Turn, visit_at, visit, scan, turns, rounds, browsers, dispatch_queue, serve_all, dispatch_topic, dispatch_by, dispatch, due, touch_idle, count, is_id, sub_of, put_sub, hold_back, hold_back_all, fan_out, fan_out_all, stored, fanned_out, enqueue_by, room, new_sub, joined, add_sub, prefetch_at, set_prefetch, reinsert, held_by, reserved_of, ack_reserved, ack_at, ack, pulled, resumed, pull_at, pull, fired, timeout_at, pull_timeout, returned_from, reserved_from, without, returning, drop_sub, remove_at, remove_sub, no_tx, return_reserved, sweep_list, sweep_subs, sweep_expired, cleared, clear, audit_of, test_at, is_duplicate}
@@ -349,7 +349,7 @@ module _ (i : Id) (q : ℕ) where
   perform-off t (joining p now) s h n = dispatch-off now (joined now p t) (joined-off now p t h) n
   perform-off t (leaving j last now) s h n = remove-off now j last t (sub_of j t) h n
   perform-off t (asking j r) s h n = ask-off j t r s h n
-  perform-off t (unmarking j) s h n = map-off (λ v. if is_id j v then no_tx v else v) t.subs (λ v g. by-if Off (is_id j v) (no_tx v) v (λ c. no_tx-off v g) (λ c. g)) h
+  perform-off t (unmarking j) s h n = map-off (λ v. whether is_id j v then no_tx v else v) t.subs (λ v g. by-if Off (is_id j v) (no_tx v) v (λ c. no_tx-off v g) (λ c. g)) h
   perform-off t (releasing j now) s h n = release-off now j t h n
   perform-off t (sweeping now most) s h n = sweep-off now most t h
   perform-off t clearing s h n = map-off cleared t.subs cleared-off h

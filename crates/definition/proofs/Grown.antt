@@ -10,7 +10,7 @@ use lib.ListN.{length, length-append, length-map}
 use lib.IntN.{ℤ, pos, negsuc}
 use lib.Signed.{lt_z}
 use borrow.Author.Tests.{le-leb}
-use Rattle.definition.specs.Base.{if◌then◌else◌, tally}
+use Rattle.definition.specs.Base.{whether◌then◌else◌, tally}
 use Rattle.definition.specs.Types.{Kind, queue, topic, Entry, Inflight, Sub, Stats, with_prefetch}
 use Rattle.definition.specs.Consumer.{◌⊕◌, add_expired, Step, is_browser, snapshot, send_null, Ack, AckType, Delivered, Poison, Standard, Redelivered, Individual, Unmatched, Expired, Other, ack_type, ack_range, ack_last, unless_browser, ack_plain, ack_sub, at_rest, add_dequeued, add_discarded}
 use Rattle.definition.specs.Destination.{room}
@@ -23,7 +23,7 @@ use Rattle.definition.proofs.Fit.{Waits, Fit, Less, less-refl, less-trans, Acked
 
 -- what counts of a queue's consumer among the queue's entries
 abbrev pub counted : Sub → List Entry
-counted s = if is_browser s then [] else flying s
+counted s = whether is_browser s then [] else flying s
 
 abbrev pub Flight : Kind → Sub → Sub → Type 0
 Flight queue s v = Thin (counted s) (counted v)
@@ -68,14 +68,14 @@ flight-refl topic s = tt
 
 -- another consumer, with the same entries in flight
 flight-same : (k : Kind) (s v : Sub) → is_browser v ≡ is_browser s → v.inflight ≡ s.inflight → Flight k s v
-flight-same queue s v p q = subst⁻¹ (λ (b : Bool). Thin (counted s) (if b then [] else flying v)) p
-    (subst⁻¹ (λ (l : List Inflight). Thin (counted s) (if is_browser s then [] else map (λ i. i.entry) l)) q (thin-refl (counted s)))
+flight-same queue s v p q = subst⁻¹ (λ (b : Bool). Thin (counted s) (whether b then [] else flying v)) p
+    (subst⁻¹ (λ (l : List Inflight). Thin (counted s) (whether is_browser s then [] else map (λ i. i.entry) l)) q (thin-refl (counted s)))
 flight-same topic s v p q = tt
 
 flight-acked : (k : Kind) (s v : Sub) → Acked k s v → Flight k s v
-flight-acked queue s v a = subst⁻¹ (λ (b : Bool). Thin (counted s) (if b then [] else flying v)) a.browser (both (is_browser s))
+flight-acked queue s v a = subst⁻¹ (λ (b : Bool). Thin (counted s) (whether b then [] else flying v)) a.browser (both (is_browser s))
   where
-    both : (b : Bool) → Thin (if b then [] else flying s) (if b then [] else flying v)
+    both : (b : Bool) → Thin (whether b then [] else flying s) (whether b then [] else flying v)
     both true = done
     both false = a.flight
 flight-acked topic s v a = tt

@@ -7,7 +7,7 @@ use mathlib.Core.List.{List, [], ◌∷◌, ◌++◌, map}
 use mathlib.Core.Option.{Option, none, some}
 use lib.Dec.{eqb}
 use lib.ListN.{length}
-use Rattle.definition.specs.Base.{if◌then◌else◌, keep, empty, nth}
+use Rattle.definition.specs.Base.{whether◌then◌else◌, keep, empty, nth}
 use Rattle.definition.specs.Types.{Kind, queue, topic, Id, Entry, Sub, Dest, with_calls_used, with_pending, with_subs, with_reserved}
 use Rattle.definition.specs.Consumer.{is_browser, has_credit, redelivered}
 use Rattle.definition.specs.Destination.{Out, Look, look, given, Turn, visit_at, visit, scan, turns, rounds, browsers, dispatch_queue, dispatch_topic, dispatch_by, dispatch, count, reinsert, held_by, reserved_of, unmarked, return_reserved, release_reserved, due}
@@ -17,7 +17,7 @@ use Rattle.definition.specs.Claims.{Halves, ReleaseHalves}
 use Rattle.definition.proofs.Tests.{if-true, if-false, by-test}
 use Rattle.definition.proofs.Made.{call-accepted, none-refused}
 
-if-map : {A B : Type 0} (f : A → B) (b : Bool) (x y : A) → f (if b then x else y) ≡ (if b then f x else f y)
+if-map : {A B : Type 0} (f : A → B) (b : Bool) (x y : A) → f (whether b then x else y) ≡ (whether b then f x else f y)
 if-map f true x y = refl
 if-map f false x y = refl
 
@@ -40,7 +40,7 @@ module _ (n : ℕ) where
   visit-used now i t none = refl
   visit-used now i t (some s) =
       let l = look now s s.cursor t.pending in
-      ap (λ (r : Turn). if is_browser s || not (has_credit s) then record { took = false; dest = with_calls_used n t; events = [] } else r) (given-used i s l t l.chosen)
+      ap (λ (r : Turn). whether is_browser s || not (has_credit s) then record { took = false; dest = with_calls_used n t; events = [] } else r) (given-used i s l t l.chosen)
       ∙ sym (if-map turn_used (is_browser s || not (has_credit s)) (record { took = false; dest = t; events = [] }) (given i s l t l.chosen))
 
   scan-used : (now : ℕ) (is : List ℕ) (t : Dest) → scan now is (with_calls_used n t) ≡ turn_used (scan now is t)
@@ -48,8 +48,8 @@ module _ (n : ℕ) where
   scan-used now [] t = refl
   scan-used now (i ∷ is) t =
       let here = visit now i t in
-      ap (λ (r : Turn). if r.took then r else scan now is r.dest) (visit-used now i t (nth i t.subs))
-      ∙ ap (λ (r : Turn). if here.took then turn_used here else r) (scan-used now is here.dest)
+      ap (λ (r : Turn). whether r.took then r else scan now is r.dest) (visit-used now i t (nth i t.subs))
+      ∙ ap (λ (r : Turn). whether here.took then turn_used here else r) (scan-used now is here.dest)
       ∙ sym (if-map turn_used here.took here (scan now is here.dest))
 
   rounds-used : (fuel now : ℕ) (t : Dest) → rounds fuel now (with_calls_used n t) ≡ out_used (rounds fuel now t)
@@ -58,9 +58,9 @@ module _ (n : ℕ) where
   rounds-used (suc fuel) now t =
       let here = scan now (turns t) t in
       let later = rounds fuel now here.dest in
-      let next : Out → Out = λ r. if not here.took || empty here.dest.pending then record { dest = with_calls_used n here.dest; events = here.events } else record { dest = r.dest; events = here.events ++ r.events } in
+      let next : Out → Out = λ r. whether not here.took || empty here.dest.pending then record { dest = with_calls_used n here.dest; events = here.events } else record { dest = r.dest; events = here.events ++ r.events } in
       ap (λ (r : Turn). let later = rounds fuel now r.dest in
-      if not r.took || empty r.dest.pending then record { dest = r.dest; events = r.events } else record { dest = later.dest; events = r.events ++ later.events }) (scan-used now (turns t) t)
+      whether not r.took || empty r.dest.pending then record { dest = r.dest; events = r.events } else record { dest = later.dest; events = r.events ++ later.events }) (scan-used now (turns t) t)
       ∙ ap next (rounds-used fuel now here.dest)
       ∙ sym (if-map out_used (not here.took || empty here.dest.pending) (record { dest = here.dest; events = here.events }) (record { dest = later.dest; events = here.events ++ later.events }))
 
@@ -70,7 +70,7 @@ module _ (n : ℕ) where
       let b = browsers now t.subs t.pending in
       let u = count b.counts (with_pending b.pending (with_subs b.subs t)) in
       let r = rounds (suc (length b.pending)) now u in
-      ap (λ (r : Out). if empty t.subs then record { dest = with_calls_used n t; events = [] } else record { dest = r.dest; events = b.events ++ r.events }) (rounds-used (suc (length b.pending)) now u)
+      ap (λ (r : Out). whether empty t.subs then record { dest = with_calls_used n t; events = [] } else record { dest = r.dest; events = b.events ++ r.events }) (rounds-used (suc (length b.pending)) now u)
       ∙ sym (if-map out_used (empty t.subs) (record { dest = t; events = [] }) (record { dest = r.dest; events = b.events ++ r.events }))
 
   pub dispatch-used : (now : ℕ) (t : Dest) (k : Kind) → dispatch_by now (with_calls_used n t) k ≡ out_used (dispatch_by now t k)
@@ -82,7 +82,7 @@ module _ (n : ℕ) where
   unfolding return_reserved release_reserved reinsert
   return-used now i t =
       let v = reinsert now (map redelivered (reserved_of i t)) (with_reserved (keep (λ h. not (held_by i h)) t.reserved) (unmarked i t)) in
-      ap (λ (r : Out). if empty (reserved_of i t) then record { dest = with_calls_used n (unmarked i t); events = [] } else r) (dispatch-used (due now v) v v.kind)
+      ap (λ (r : Out). whether empty (reserved_of i t) then record { dest = with_calls_used n (unmarked i t); events = [] } else r) (dispatch-used (due now v) v v.kind)
       ∙ sym (if-map out_used (empty (reserved_of i t)) (record { dest = unmarked i t; events = [] }) (dispatch now v))
 
 -- ---- the calls

@@ -8,7 +8,7 @@ use mathlib.Core.Option.{Option, none, some}
 use lib.Dec.{leb, ltb, eqb}
 use lib.ListN.{length, length-append, drop}
 use borrow.Author.Tests.{leb-true, leb-false, le-leb, ltb-false, eqb-false}
-use Rattle.definition.specs.Base.{if◌then◌else◌, keep, all, find, put, is_some, member}
+use Rattle.definition.specs.Base.{whether◌then◌else◌, keep, all, find, put, is_some, member}
 use Rattle.definition.specs.Types.{Sub, Kind, queue, topic, Id, Entry, Audit, Dest, with_producers, with_audits, with_idle}
 use Rattle.definition.specs.Consumer.{same_id, add_discarded, add_expired}
 use Rattle.audit.specs.Audit.{seen, recorded}
@@ -46,11 +46,11 @@ accepted lent c t = by-test (short lent) (λ a. rw a (λ h. absurd (omega arith)
     (λ b. rw (a, b) (λ h. absurd (omega arith))))
 
 -- a refusal that is not made
-not-refused : (b : Bool) (n m : ℕ) → (if b then suc n else m) ≡ 0 → b ≡ false
+not-refused : (b : Bool) (n m : ℕ) → (whether b then suc n else m) ≡ 0 → b ≡ false
 not-refused true n m h = absurd (omega (arith, h))
 not-refused false n m h = refl
 
-then_next : (b : Bool) (n m : ℕ) → (if b then suc n else m) ≡ 0 → m ≡ 0
+then_next : (b : Bool) (n m : ℕ) → (whether b then suc n else m) ≡ 0 → m ≡ 0
 then_next true n m h = absurd (omega (arith, h))
 then_next false n m h = h
 

@@ -11,7 +11,7 @@ use lib.Signed.{lt_z}
 use lib.ListN.{length, set}
 use borrow.Author.Tests.{eqb-true, eq-eqb}
 use Rattle.audit.specs.Audit.{seen}
-use Rattle.definition.specs.Base.{if◌then◌else◌, keep, find, put, nth, empty, all, member}
+use Rattle.definition.specs.Base.{whether◌then◌else◌, keep, find, put, nth, empty, all, member}
 use Rattle.definition.specs.Types.{Kind, queue, topic, Id, Entry, Sub, Audit, Dest, with_prefetch, with_pull, with_generation, with_cursor, with_pending, with_subs, with_reserved, with_producers, with_audits, with_idle}
 use Rattle.definition.specs.Consumer.{same_id, zero_stats, add_expired, expired, selects, is_browser, has_credit, accepts, send, send_null, snapshot, same_seq, redelivered, Ack, ack_sub, Browse, meet_browser, close_browser, drain_browser, dispatch_browser}
 use Rattle.definition.specs.Destination.{Out, Answer, Spec, Look, look, given, Turn, visit_at, visit, scan, turns, rounds, browsers, dispatch_queue, serve_all, dispatch_topic, dispatch_by, dispatch, due, touch_idle, count, is_id, sub_of, put_sub, insert, hold_back, hold_back_all, stored, fanned_out, enqueue_by, room, new_sub, joined, add_sub, prefetch_at, set_prefetch, insert_all, reinsert, held_by, reserved_of, ack_reserved, ack_at, ack, pulled, resumed, pull_at, pull, fired, timeout_at, pull_timeout, returned_from, reserved_from, without, returning, drop_sub, remove_at, remove_sub, unmarked, return_reserved, sweep_at, sweep_list, sweep_subs, soonest, sooner, is_sooner, sweep_expired, audit_of, test_at, is_duplicate}
@@ -147,7 +147,7 @@ module _ (n q : ℕ) where
   in_either (e ∷ l) m h f g = in_either l m (in_tail e (l ++ m) (or-no-left (eqb q e.seq) (member q (seqs l)) g) h) (λ x. x) (or-no-right (eqb q e.seq) (member q (seqs l)) g)
 
   abbrev own : Sub → List Entry
-  own s = if is_browser s then [] else flying s
+  own s = whether is_browser s then [] else flying s
 
   taken-set : (k : ℕ) (l : List Sub) (s v : Sub) → nth k l ≡ some s → (In (own s) → In (own v)) → In (taken l) → In (taken (set l k v))
   taken-set k [] s v f g h = h
@@ -486,7 +486,7 @@ module _ (n q : ℕ) where
       (λ c. absurd (no-4 (member e.seq (seqs (all_rows t))) _ f (ap (λ k. member k (seqs (all_rows t))) (sym (eqb-true q e.seq c)) ∙ in_left t.pending (held t ++ consumer_rows t.subs) h)))
       (λ c. c)
     where
-      no-4 : (b : Bool) (m : ℕ) → (if b then 4 else m) ≡ 0 → b ≡ true → ⊥
+      no-4 : (b : Bool) (m : ℕ) → (whether b then 4 else m) ≡ 0 → b ≡ true → ⊥
       no-4 true m f g = omega (arith, f)
       no-4 false m f g = true≢false (sym g)
 

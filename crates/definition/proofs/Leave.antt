@@ -9,7 +9,7 @@ use lib.Dec.{leb, ltb, eqb}
 use lib.IntN.{ℤ, pos}
 use lib.ListN.{length}
 use borrow.Author.Tests.{leb-false, lt-ltb}
-use Rattle.definition.specs.Base.{if◌then◌else◌, keep, tally, all, find, empty, distinct, ascending}
+use Rattle.definition.specs.Base.{whether◌then◌else◌, keep, tally, all, find, empty, distinct, ascending}
 use Rattle.definition.specs.Types.{Kind, queue, topic, Id, Entry, Inflight, Sub, Dest, with_tpending, with_pending, with_subs, with_reserved}
 use Rattle.definition.specs.Consumer.{same_id, expired, ◌⊕◌, add_expired, is_browser, shown, snapshot, redelivered}
 use Rattle.definition.specs.Destination.{count, is_id, sub_of, insert_all, hold_back_all, room, was_delivered, returned_from, reserved_from, without, drop_sub, returning, remove_at, remove_sub, reinsert, held_by, reserved_of, no_tx, unmarked, return_reserved, Swept, sweep_at, sweep_list, soonest, SweptSubs, sweep_subs, sweep_expired, emptied, cleared, clear, due}
@@ -53,7 +53,7 @@ module _ (p : Sub → Bool) where
       (λ e. subst P (some_inj (sym (if-true (some c) (find p l) e) ∙ f)) h.0)
       (λ e. find-fit P l s (sym (if-false (some c) (find p l) e) ∙ f) h.1)
 
-turn-less : (r n : ℕ) → (ltb (if leb n r then 0 else r) n || eqb (if leb n r then 0 else r) 0) ≡ true
+turn-less : (r n : ℕ) → (ltb (whether leb n r then 0 else r) n || eqb (whether leb n r then 0 else r) 0) ≡ true
 turn-less r n = by-test (leb n r) (λ c. rw c (or-true (ltb 0 n))) (λ c. rw (c, lt-ltb r n (leb-false n r c)))
 
 -- ---- what returns, and what stays reserved
@@ -61,18 +61,18 @@ turn-less r n = by-test (leb n r) (λ c. rw c (or-true (ltb 0 n))) (λ c. rw (c,
 returned-sum : (f : Entry → ℕ) → Tame f → (last : ℤ) (j : Id) (l : List Inflight) → sum f (returned_from last l) + sum f (map (λ h. h.entry) (reserved_from j l)) ≤ sum f (map (λ i. i.entry) l)
 returned-sum f w last j [] = omega arith
 returned-sum f w last j (i ∷ l) = by_bool
-    (λ b. sum f (if b then returned_from last l else (if was_delivered last i.entry then redelivered i.entry else i.entry) ∷ returned_from last l)
-    + sum f (map (λ h. h.entry) (if b then record { holder = j; entry = i.entry } ∷ reserved_from j l else reserved_from j l)) ≤ f i.entry + sum f (map (λ i. i.entry) l))
+    (λ b. sum f (whether b then returned_from last l else (whether was_delivered last i.entry then redelivered i.entry else i.entry) ∷ returned_from last l)
+    + sum f (map (λ h. h.entry) (whether b then record { holder = j; entry = i.entry } ∷ reserved_from j l else reserved_from j l)) ≤ f i.entry + sum f (map (λ i. i.entry) l))
     (omega (arith, returned-sum f w last j l))
     (omega (arith, returned-sum f w last j l, once_more))
     i.tx
   where
-    once_more : f (if was_delivered last i.entry then redelivered i.entry else i.entry) ≤ f i.entry
+    once_more : f (whether was_delivered last i.entry then redelivered i.entry else i.entry) ≤ f i.entry
     once_more = by-if (λ (e : Entry). f e ≤ f i.entry) (was_delivered last i.entry) (redelivered i.entry) i.entry (λ c. w i.entry (redelivered i.entry) (alike-redelivered i.entry)) (λ c. omega arith)
 
 holders-from : (j : Id) (l : List Inflight) → id_ok j ≡ true → all (λ h. id_ok h.holder) (reserved_from j l) ≡ true
 holders-from j [] h = refl
-holders-from j (i ∷ l) h = by_bool (λ b. all (λ h. id_ok h.holder) (if b then record { holder = j; entry = i.entry } ∷ reserved_from j l else reserved_from j l) ≡ true)
+holders-from j (i ∷ l) h = by_bool (λ b. all (λ h. id_ok h.holder) (whether b then record { holder = j; entry = i.entry } ∷ reserved_from j l else reserved_from j l) ≡ true)
     (and_both (id_ok j) _ h (holders-from j l h)) (holders-from j l h) i.tx
 
 -- the destination, before entries return
@@ -172,7 +172,7 @@ module _ (L U : ℕ) where
   tally-same : (l : List Inflight) → tally (λ i. i.freed) (map untx l) ≡ tally (λ i. i.freed) l
   unfolding untx
   tally-same [] = refl
-  tally-same (i ∷ l) = ap (λ x. (if i.freed then 1 else 0) + x) (tally-same l)
+  tally-same (i ∷ l) = ap (λ x. (whether i.freed then 1 else 0) + x) (tally-same l)
 
   no_tx-acked : (k : Kind) (s : Sub) → Fit k s → Acked k s (no_tx s)
   unfolding untx
@@ -181,13 +181,13 @@ module _ (L U : ℕ) where
       (f.counted ∙ sym (tally-same s.inflight))
       (ap (λ (l : List ℕ). ascending (l ++ s.next_dseq ∷ [])) (map_same (λ i. i.dseq) s.inflight (λ i. refl)) ∙ f.numbered)
 
-  unmark-eased : (k : Kind) (i : Id) (s : Sub) → Eased k 1 s (if is_id i s then no_tx s else s)
+  unmark-eased : (k : Kind) (i : Id) (s : Sub) → Eased k 1 s (whether is_id i s then no_tx s else s)
   unmark-eased k i s = by-if (λ (v : Sub). Eased k 1 s v) (is_id i s) (no_tx s) s
       (λ c. acked-eased k s (no_tx s) refl (no_tx-acked k s))
       (λ c. record { id = refl; sane = λ N h. sane-more k N (N + 1) s (omega arith) h; rows = λ f w N h. omega arith; taken = λ q f w N h. omega arith })
 
   unmark-each : (k : Kind) (N : ℕ) (i : Id) (t : Dest) → Fine L U k N t → Each k 1 N t.subs (unmarked i t).subs
-  unmark-each k N i t g = each_map k 1 N (λ s. if is_id i s then no_tx s else s) t.subs (unmark-eased k i) g.subs
+  unmark-each k N i t g = each_map k 1 N (λ s. whether is_id i s then no_tx s else s) t.subs (unmark-eased k i) g.subs
 
   release-before : (N : ℕ) (i : Id) (t : Dest) → Fine L U queue N t → Before L U N N t (with_reserved (keep (λ h. not (held_by i h)) t.reserved) t) (map redelivered (reserved_of i t))
   release-before N i t g = record {

@@ -8,7 +8,7 @@ use lib.ListN.{length, set, drop, take, get_or}
 use native.Mathlib.Omega.{arith}
 use lib.Seq.{take-suc, append_snoc, set_at, length-take-le, drop-drop}
 use lib.Dec.{eqb, eqb-suc-zero}
-use Rattle.definition.specs.Base.{keep, all, find, put, nth, empty, if◌then◌else◌, tally}
+use Rattle.definition.specs.Base.{keep, all, find, put, nth, empty, whether◌then◌else◌, tally}
 use Rattle.definition.proofs.Tests.{by-test, if-true, if-false, and_left, and_right, and_both, by-if}
 
 module _ {ℓ} {A : Type ℓ} where
@@ -144,7 +144,7 @@ module _ {A : Type 0} where
 
   pub tally-keep : (p q : A → Bool) (l : List A) → tally q (keep p l) ≡ tally (λ a. p a && q a) l
   tally-keep p q [] = refl
-  tally-keep p q (a ∷ l) = by-test (p a) (λ c. rw c (ap (λ (n : ℕ). (if q a then 1 else 0) + n) (tally-keep p q l))) (λ c. rw c (omega (arith, tally-keep p q l)))
+  tally-keep p q (a ∷ l) = by-test (p a) (λ c. rw c (ap (λ (n : ℕ). (whether q a then 1 else 0) + n) (tally-keep p q l))) (λ c. rw c (omega (arith, tally-keep p q l)))
 
   pub empty-nil : (l : List A) → empty l ≡ true → l ≡ []
   empty-nil [] h = refl

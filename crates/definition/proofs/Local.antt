@@ -7,7 +7,7 @@ use mathlib.Core.List.{List, [], ◌∷◌, append-nil}
 use mathlib.Core.Option.{Option, none, some}
 use lib.ListN.{set}
 use lib.IntN.{pos}
-use Rattle.definition.specs.Base.{if◌then◌else◌, find, put, nth}
+use Rattle.definition.specs.Base.{whether◌then◌else◌, find, put, nth}
 use Rattle.definition.specs.Types.{Kind, queue, topic, Id, Entry, Sub, Stats, Dest, with_pending, with_subs, with_stats}
 use Rattle.definition.specs.Consumer.{expired, zero_stats, ◌⊕◌, Step, is_browser, snapshot, has_credit, meet_topic, drain_topic, at_rest, serve_topic, Browse, meet_browser, close_browser, drain_browser, dispatch_browser}
 use Rattle.definition.specs.Destination.{visit_at, look, Turn, given, visit, scan, turns, rounds, browsers, dispatch_queue, serve_all, dispatch_topic, dispatch_by, due, dispatch, is_id}
@@ -110,7 +110,7 @@ alone p s = record { sub = s; pending = p; counts = zero_stats; events = [] }
 
 -- a browser served, anyone else as it is
 abbrev pub browsed : ℕ → List Entry → Sub → Browse
-browsed now p s = if is_browser s then dispatch_browser now p s else alone p s
+browsed now p s = whether is_browser s then dispatch_browser now p s else alone p s
 
 abbrev pub Rests : Kind → Sub → Type 0
 Rests topic s = RestsTopic s
@@ -120,7 +120,7 @@ Rests queue s = RestsQueue s
 abbrev pub serve : Kind → ℕ → Sub → Step
 serve topic now s = serve_topic now s
 serve queue now s =
-    if is_browser s then record { sub = (dispatch_browser now [] s).sub; counts = (dispatch_browser now [] s).counts; events = (dispatch_browser now [] s).events }
+    whether is_browser s then record { sub = (dispatch_browser now [] s).sub; counts = (dispatch_browser now [] s).counts; events = (dispatch_browser now [] s).events }
     else at_rest s
 
 pub serve-rests : (k : Kind) (now : ℕ) (s : Sub) → Rests k (serve k now s).sub

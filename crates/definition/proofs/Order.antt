@@ -9,7 +9,7 @@ use lib.Dec.{eqb}
 use lib.ListN.{length}
 use borrow.Author.Tests.{ne_eqb, leb-true, le-leb}
 use Rattle.model.proofs.Ids.{same_id_lem, same-id-refl}
-use Rattle.definition.specs.Base.{if◌then◌else◌, find, put, empty, is_some}
+use Rattle.definition.specs.Base.{whether◌then◌else◌, find, put, empty, is_some}
 use Rattle.definition.specs.Types.{Kind, Id, Sub, Stats, Dest, with_subs, with_stats, with_calls_used}
 use Rattle.definition.specs.Consumer.{same_id, ◌⊕◌}
 use Rattle.definition.specs.Destination.{is_id, sub_of}
@@ -41,7 +41,7 @@ request c = request_of c.code c.words
 
 -- a call's refusal, where the state is sound and a call is left
 abbrev verdict : Lent → ℕ
-verdict c = if short c.lengths then 1 else if is_some (request c) then 0 else 3
+verdict c = whether short c.lengths then 1 else whether is_some (request c) then 0 else 3
 
 abbrev Coded : Lent → Type 0
 Coded c = (4 ≤ c.code) × (c.code ≤ 7)
@@ -54,7 +54,7 @@ record Ready (k : ℕ) (t : Dest) : Type 0 where
 Here : Lent → Dest → Type 0
 Here c t = (s : Sub) × (sub_of (caller c) t ≡ some s) × Coded c
 
-refusal-own : (k : ℕ) (lent : Lengths) (i : Id) (q : Request) (t : Dest) → Ready (suc k) t → arguments_ok (asking i q) ≡ true → refusal lent (asking i q) t ≡ if short lent then 1 else 0
+refusal-own : (k : ℕ) (lent : Lengths) (i : Id) (q : Request) (t : Dest) → Ready (suc k) t → arguments_ok (asking i q) ≡ true → refusal lent (asking i q) t ≡ whether short lent then 1 else 0
 unfolding refusal own_refusal
 refusal-own k lent i q t r a =
     let n : eqb t.calls_used t.call_limit ≡ false = ne_eqb t.calls_used t.call_limit (λ e. omega (arith, r.calls)) in
@@ -81,14 +81,14 @@ own_of-rests k w s (some q) h = own-rests k (lessened w q) s h
 
 -- the step, by what is asked
 asked-own : (k : ℕ) (lent : Lengths) (i : Id) (s : Sub) (t : Dest) (o : Option Request) → ((q : Request) → o ≡ some q → arguments_ok (asking i q) ≡ true) → Ready (suc k) t → sub_of i t ≡ some s →
-    call_step lent t (asks i o) ≡ (let m = own_of t.kind t.allowance s o in let v = if short lent then 1 else if is_some o then 0 else 3 in
-    if eqb v 0 then record { refusal = 0; answer = m.answer; events = m.events; dest = used (changed i m.sub m.counts t) } else refused v t)
+    call_step lent t (asks i o) ≡ (let m = own_of t.kind t.allowance s o in let v = whether short lent then 1 else whether is_some o then 0 else 3 in
+    whether eqb v 0 then record { refusal = 0; answer = m.answer; events = m.events; dest = used (changed i m.sub m.counts t) } else refused v t)
 unfolding call_step call perform
 asked-own k lent i s t none a r f = by-test (short lent) (λ e. rw e) (λ e. rw (e, r.is-sound))
 asked-own k lent i s t (some q) a r f = rw (refusal-own k lent i q t r (a q refl), ask-own i q s t r.resting f)
 
 call-own : (k : ℕ) (c : Lent) (s : Sub) (t : Dest) → Ready (suc k) t → Coded c → sub_of (caller c) t ≡ some s →
-    result c t ≡ if eqb (verdict c) 0 then record { refusal = 0; answer = (mine c s t).answer; events = (mine c s t).events; dest = moved c s t } else refused (verdict c) t
+    result c t ≡ whether eqb (verdict c) 0 then record { refusal = 0; answer = (mine c s t).answer; events = (mine c s t).events; dest = moved c s t } else refused (verdict c) t
 call-own k c s t r d f =
     step_call c.lengths c.code c.words t (omega (arith, d.0))
     ∙ ap (call_step c.lengths t) (decode-asks c.code c.words d.0 d.1)

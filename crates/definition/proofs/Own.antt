@@ -7,7 +7,7 @@ use mathlib.Core.Option.{Option, none, some}
 use lib.Dec.{ltb, eqb}
 use lib.IntN.{ℤ, pos}
 use lib.Signed.{lt_z}
-use Rattle.definition.specs.Base.{if◌then◌else◌, put, empty}
+use Rattle.definition.specs.Base.{whether◌then◌else◌, put, empty}
 use Rattle.definition.specs.Types.{Kind, queue, topic, Id, Sub, Stats, Dest, Event, null, with_prefetch, with_pull, with_generation, with_subs, with_stats, with_idle}
 use Rattle.definition.specs.Consumer.{ack_transacted, ack_plain, ack_type, Delivered, Poison, Standard, Redelivered, Individual, Unmatched, Expired, Other, same_id, zero_stats, ◌⊕◌, Step, is_browser, has_credit, send_null, Ack, AckType, ack_sub}
 use Rattle.definition.specs.Destination.{ack_at, pull_at, timeout_at, Answer, dispatch, touch_idle, is_id, sub_of, put_sub, room, set_prefetch, ack, pulled, pull, pull_timeout, fired, resumed, due}
@@ -32,13 +32,13 @@ after r = record { answer = 0; events = r.events; sub = r.sub; counts = r.counts
 unfoldable pub own_pulled : ℤ → Step → Option ℕ → Own
 own_pulled timeout r none = after r
 own_pulled timeout r (some g) =
-    if lt_z timeout (pos 0) then record { answer = 0; events = r.events ++ null r.sub.id ∷ []; sub = send_null r.sub; counts = r.counts }
-    else if lt_z (pos 0) timeout then record { answer = g; events = r.events; sub = r.sub; counts = r.counts }
+    whether lt_z timeout (pos 0) then record { answer = 0; events = r.events ++ null r.sub.id ∷ []; sub = send_null r.sub; counts = r.counts }
+    else whether lt_z (pos 0) timeout then record { answer = g; events = r.events; sub = r.sub; counts = r.counts }
     else after r
 
 unfoldable pub own_fired : ℕ → Sub → Option ℕ → Own
 own_fired generation s none = same s
-own_fired generation s (some g) = if eqb g generation then record { answer = 0; events = null s.id ∷ []; sub = send_null s; counts = zero_stats } else same s
+own_fired generation s (some g) = whether eqb g generation then record { answer = 0; events = null s.id ∷ []; sub = send_null s; counts = zero_stats } else same s
 
 abbrev pub pulling-sub : Sub → Sub
 pulling-sub s = with_pull (some (s.generation + 1)) (with_generation (s.generation + 1) s)
@@ -50,7 +50,7 @@ own k (acknowledge a now) s =
     record { answer = 0; events = p.events ++ r.events; sub = r.sub; counts = p.counts ⊕ r.counts }
 own k (pulling timeout now) s =
     let r = serve k now (pulling-sub s) in
-    if ltb 0 s.prefetch then same s else own_pulled timeout r r.sub.pull
+    whether ltb 0 s.prefetch then same s else own_pulled timeout r r.sub.pull
 own k (timed_out generation) s = own_fired generation s s.pull
 own k (prefetching p now) s = after (serve k now (with_prefetch (room p) s))
 

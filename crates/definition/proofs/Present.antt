@@ -12,7 +12,7 @@ use lib.ListN.{length, set}
 use borrow.Author.Tests.{eqb-true, not-true}
 use Rattle.audit.specs.Audit.{seen}
 use Rattle.model.proofs.Ids.{same_id_lem}
-use Rattle.definition.specs.Base.{if◌then◌else◌, keep, find, put, nth, empty, all, is_some}
+use Rattle.definition.specs.Base.{whether◌then◌else◌, keep, find, put, nth, empty, all, is_some}
 use Rattle.definition.specs.Types.{Kind, queue, topic, Id, Entry, Sub, Audit, Dest, with_prefetch, with_pull, with_generation, with_cursor, with_pending, with_subs, with_reserved}
 use Rattle.definition.specs.Consumer.{same_id, zero_stats, add_expired, expired, Browse, dispatch_browser, is_browser, has_credit, accepts, send, send_null, snapshot, redelivered, Ack, ack_sub, at_rest}
 use Rattle.definition.specs.Destination.{Out, Answer, Spec, Look, look, given, Turn, visit_at, visit, scan, turns, rounds, browsers, dispatch_queue, serve_all, dispatch_topic, dispatch_by, dispatch, due, touch_idle, count, is_id, sub_of, put_sub, hold_back, hold_back_all, fan_out, fan_out_all, stored, fanned_out, enqueue_by, room, new_sub, joined, add_sub, prefetch_at, set_prefetch, reinsert, held_by, reserved_of, ack_reserved, ack_at, ack, pulled, resumed, pull_at, pull, fired, timeout_at, pull_timeout, returned_from, reserved_from, without, returning, drop_sub, remove_at, remove_sub, no_tx, return_reserved, sweep_list, sweep_subs, sweep_expired, cleared, clear, audit_of, test_at, is_duplicate}
@@ -37,7 +37,7 @@ abbrev ids : Dest → List Id
 ids t = ids_of t.subs
 
 -- where both sides have it, the choice has it
-either : {A B : Type 0} (f : A → B) (b : Bool) (x y : A) (n : B) → f x ≡ n → f y ≡ n → f (if b then x else y) ≡ n
+either : {A B : Type 0} (f : A → B) (b : Bool) (x y : A) (n : B) → f x ≡ n → f y ≡ n → f (whether b then x else y) ≡ n
 either f true x y n p q = p
 either f false x y n p q = q
 
@@ -282,7 +282,7 @@ perform-ids t (joining p now) d = dispatch-ids now (joined now p t) ∙ joined-i
 perform-ids t (leaving i last now) d = remove-ids now i last t (sub_of i t) refl d
 perform-ids t (enqueuing e now) d = enqueue-ids now e t t.kind
 perform-ids t (asking i q) d = ask-ids i t q
-perform-ids t (unmarking i) d = ids-map (λ s. if is_id i s then no_tx s else s) t.subs (λ s. either (λ (v : Sub). v.id) (is_id i s) (no_tx s) s s.id refl refl)
+perform-ids t (unmarking i) d = ids-map (λ s. whether is_id i s then no_tx s else s) t.subs (λ s. either (λ (v : Sub). v.id) (is_id i s) (no_tx s) s s.id refl refl)
 perform-ids t (releasing i now) d = release-ids now i t
 perform-ids t (sweeping now most) d = sweep-ids now most t
 perform-ids t clearing d = ids-map cleared t.subs (λ s. refl)

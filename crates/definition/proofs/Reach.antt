@@ -9,7 +9,7 @@ use lib.Dec.{leb, ltb, eqb}
 use lib.IntN.{pos}
 use lib.ListN.{length, length-map}
 use borrow.Author.Tests.{ltb-true, lt-ltb, eqb-true}
-use Rattle.definition.specs.Base.{if◌then◌else◌, keep, tally}
+use Rattle.definition.specs.Base.{whether◌then◌else◌, keep, tally}
 use Rattle.definition.specs.Types.{Kind, queue, topic, Entry, Sub, Stats, Dest, with_cursor, with_tpending, with_pending}
 use Rattle.definition.specs.Consumer.{expired, accepts, ◌⊕◌, add_enqueued, is_browser, snapshot}
 use Rattle.definition.specs.Destination.{insert, hold_back, hold_back_all, stored, Trimmed, trim, fan_out, fan_out_all, fanned_out, enqueue_by, dispatch_by, due}
@@ -108,7 +108,7 @@ module _ (L U : ℕ) where
   record FannedOne (N : ℕ) (e : Entry) (s : Sub) (a : Bool) (v : Sub) (c : Stats) : Type 0 where
     id : v.id ≡ s.id
     sane : Sane topic N v
-    rows : (f : Entry → ℕ) → Tame f → f e ≤ 1 → rows_m f v ≤ rows_m f s + (if a then 1 else 0)
+    rows : (f : Entry → ℕ) → Tame f → f e ≤ 1 → rows_m f v ≤ rows_m f s + (whether a then 1 else 0)
     more : (f : Entry → ℕ) → Tame f → f e ≤ 0 → rows_m f v ≤ rows_m f s
     counts : total c ≤ rows_m one s + 1
 

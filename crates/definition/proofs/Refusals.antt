@@ -9,7 +9,7 @@ use lib.Dec.{leb, ltb, eqb}
 use lib.ListN.{drop}
 use borrow.Author.Tests.{leb-true, eqb-true}
 use Rattle.words.proofs.Places.{first_of, exact}
-use Rattle.definition.specs.Base.{if◌then◌else◌, all, is_some}
+use Rattle.definition.specs.Base.{whether◌then◌else◌, all, is_some}
 use Rattle.definition.specs.Types.{Dest}
 use Rattle.definition.specs.Consumer.{zero_stats}
 use Rattle.definition.specs.Calls.{Lengths, state_short, short, sound, Call, discarding, missing, arguments_ok, own_refusal, Result, refused, refusal, call}
@@ -65,7 +65,7 @@ unfolding call
 call-refusal lent c t = by-if (λ (r : Result). r.refusal ≡ refusal lent c t) (eqb (refusal lent c t) 0) _ _ (λ e. sym (eqb-true (refusal lent c t) 0 e)) (λ e. refl)
 
 coded-first : (lent : Lengths) (t : Dest) (o : Option Call) (rest : ℕ) → ((c : Call) → o ≡ some c → arguments_ok c ≡ true) → ((c : Call) → o ≡ some c → own_refusal t c ≡ rest) →
-    (call_step lent t o).refusal ≡ if short lent then 1 else if not (sound t) then 2 else if not (is_some o) then 3 else if eqb t.calls_used t.call_limit then 9 else rest
+    (call_step lent t o).refusal ≡ whether short lent then 1 else whether not (sound t) then 2 else whether not (is_some o) then 3 else whether eqb t.calls_used t.call_limit then 9 else rest
 unfolding call_step refusal
 coded-first lent t none rest a h = by-test (short lent) (λ c. rw c) (λ c. by-test (sound t) (λ d. rw (c, d)) (λ d. rw (c, d)))
 coded-first lent t (some c) rest a h = call-refusal lent c t ∙ rw (a c refl, h c refl)
@@ -148,7 +148,7 @@ query-first is_short true t = refl
 query-first is_short false t = refl
 
 -- what an answer is beside a refusal
-beside {ℓ} : {A : Type ℓ} (r : ℕ) (x y : A) → (r ≡ 0 → ⊥) → (if leb r 0 then x else y) ≡ y
+beside {ℓ} : {A : Type ℓ} (r : ℕ) (x y : A) → (r ≡ 0 → ⊥) → (whether leb r 0 then x else y) ≡ y
 beside r x y n = if-false x y (by-test (leb r 0) (λ c. absurd (n (omega (arith, leb-true r 0 c)))) (λ c. c))
 
 pub query-refuses : QueryRefuses
@@ -174,7 +174,7 @@ page-refuses lent lines offset limit t = (
 
 -- counts that do not fit the tables are refused in the second place, too
 formed-first : {A : Type 0} (of : A → ℕ) (rest : List CheckPlace) (s f z : Bool) (x y : A) → of x ≡ 2 → of y ≡ first_of (1 when s ∷ 2 when not z ∷ rest)
-    → of (if not s && not f then x else y) ≡ first_of (1 when s ∷ 2 when not (f && z) ∷ rest)
+    → of (whether not s && not f then x else y) ≡ first_of (1 when s ∷ 2 when not (f && z) ∷ rest)
 formed-first of rest true f z x y p q = q
 formed-first of rest false true z x y p q = q
 formed-first of rest false false z x y p q = p

@@ -8,7 +8,7 @@ use mathlib.Core.Option.{none, some}
 use lib.Dec.{ltb, eqb}
 use lib.IntN.{pos}
 use lib.ListN.{length, length-append}
-use Rattle.definition.specs.Base.{if◌then◌else◌, keep, tally, member}
+use Rattle.definition.specs.Base.{whether◌then◌else◌, keep, tally, member}
 use Rattle.definition.specs.Types.{Entry, Sub, Dest, with_tpending}
 use Rattle.definition.specs.Consumer.{expired, accepts, selects, snapshot, is_browser}
 use Rattle.definition.specs.Destination.{due, insert, hold_back, fan_out, fan_out_all, new_sub, add_sub}
@@ -66,7 +66,7 @@ held_back q (s ∷ l) = ap (λ m. rows_of s ++ m) (held_back q l)
 rows-parts : (s : Sub) → length (rows_of s) ≡ length (flying s) + (length s.tpending + length (snapshot s))
 rows-parts s = omega (arith, length-append (flying s) (s.tpending ++ snapshot s), length-append s.tpending (snapshot s))
 
-copied-rows : (e : Entry) (s : Sub) → member e.seq (seqs (rows_of s)) ≡ false → length (rows_of (with_copy e s)) ≡ length (rows_of s) + (if accepts s e then 1 else 0)
+copied-rows : (e : Entry) (s : Sub) → member e.seq (seqs (rows_of s)) ≡ false → length (rows_of (with_copy e s)) ≡ length (rows_of s) + (whether accepts s e then 1 else 0)
 copied-rows e s h = by-test (accepts s e)
     (λ c. rw c (omega (arith, rows-parts s, rows-parts (with_tpending (insert e s.tpending) s), insert-more e s.tpending (member-left e.seq s.tpending (snapshot s) (member_right e.seq (flying s) (s.tpending ++ snapshot s) h)))))
     (λ c. rw c (omega arith))

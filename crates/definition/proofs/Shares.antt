@@ -9,7 +9,7 @@ use mathlib.Core.Option.{none}
 use lib.Dec.{ltb, eqb}
 use lib.ListN.{length}
 use borrow.Author.Tests.{eqb-true, eq-eqb, leb-true, ltb-true}
-use Rattle.definition.specs.Base.{if◌then◌else◌, tally, all, empty, member}
+use Rattle.definition.specs.Base.{whether◌then◌else◌, tally, all, empty, member}
 use Rattle.definition.specs.Types.{Kind, queue, topic, Entry, Sub, Dest}
 use Rattle.definition.specs.Consumer.{is_browser}
 use Rattle.definition.specs.Calls.{Lengths, short, seqs, rows_of, all_rows, own_rows, rows_from, within_share, rows_for, over_share, free_rows, sound, Call, enqueuing, arguments_ok, own_refusal, refusal, refused, Result, call}
@@ -128,15 +128,15 @@ own-all L U topic N t g h = omega arith
 
 -- ---- a refusal with 5
 
-not-this : (b : Bool) (n m k : ℕ) → (n ≡ k → ⊥) → (if b then n else m) ≡ k → m ≡ k
+not-this : (b : Bool) (n m k : ℕ) → (n ≡ k → ⊥) → (whether b then n else m) ≡ k → m ≡ k
 not-this true n m k x h = absurd (x h)
 not-this false n m k x h = h
 
-was-not : (b : Bool) (n m k : ℕ) → (n ≡ k → ⊥) → (if b then n else m) ≡ k → b ≡ false
+was-not : (b : Bool) (n m k : ℕ) → (n ≡ k → ⊥) → (whether b then n else m) ≡ k → b ≡ false
 was-not true n m k x h = absurd (x h)
 was-not false n m k x h = refl
 
-last_one : (b : Bool) (n : ℕ) → (if b then suc n else 0) ≡ suc n → b ≡ true
+last_one : (b : Bool) (n : ℕ) → (whether b then suc n else 0) ≡ suc n → b ≡ true
 last_one true n h = refl
 last_one false n h = absurd (omega (arith, h))
 

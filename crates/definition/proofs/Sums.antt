@@ -7,7 +7,7 @@ use mathlib.Core.List.{List, [], ◌∷◌, ◌++◌, map}
 use lib.Dec.{leb, ltb, eqb}
 use lib.ListN.{length, drop}
 use borrow.Author.Tests.{eqb-true, eqb-false, eq-eqb, leb-true, le-leb, ltb-true, ltb-false, lt-ltb, not-true}
-use Rattle.definition.specs.Base.{if◌then◌else◌, keep, tally, all, member, distinct, rising, ascending}
+use Rattle.definition.specs.Base.{whether◌then◌else◌, keep, tally, all, member, distinct, rising, ascending}
 use Rattle.definition.specs.Types.{Entry, Held}
 use Rattle.definition.specs.Consumer.{redelivered}
 use Rattle.definition.specs.Destination.{insert, insert_all}
@@ -28,10 +28,10 @@ abbrev pub one : Entry → ℕ
 one e = 1
 
 unfoldable pub occ : ℕ → Entry → ℕ
-occ x e = if eqb x e.seq then 1 else 0
+occ x e = whether eqb x e.seq then 1 else 0
 
 unfoldable pub bad : Entry → ℕ
-bad e = if entry_ok e then 0 else 1
+bad e = whether entry_ok e then 0 else 1
 
 pub one-tame : Tame one
 one-tame e g a = omega arith
@@ -127,7 +127,7 @@ sum-once (e ∷ l) h =
 
 -- those with the number x that have another size than z
 unfoldable pub odd : ℕ → ℕ → Entry → ℕ
-odd x z e = if eqb x e.seq then (if eqb z e.size then 0 else 1) else 0
+odd x z e = whether eqb x e.seq then (whether eqb z e.size then 0 else 1) else 0
 
 pub odd-tame : (x z : ℕ) → Tame (odd x z)
 unfolding odd
@@ -192,7 +192,7 @@ sum-agree (e ∷ l) h =
 
 -- those of the connection c
 unfoldable pub from : ℕ → Entry → ℕ
-from c e = if eqb c e.producer then 1 else 0
+from c e = whether eqb c e.producer then 1 else 0
 
 pub from-tame : (c : ℕ) → Tame (from c)
 unfolding from
@@ -213,7 +213,7 @@ from-other c e h = rw h
 pub sum-from : (c : ℕ) (l : List Entry) → sum (from c) l ≡ rows_from c l
 unfolding from
 sum-from c [] = refl
-sum-from c (e ∷ l) = ap (λ n. (if eqb c e.producer then 1 else 0) + n) (sum-from c l)
+sum-from c (e ∷ l) = ap (λ n. (whether eqb c e.producer then 1 else 0) + n) (sum-from c l)
 
 pub from-length : (c : ℕ) (l : List Entry) → sum (from c) l ≤ length l
 from-length c [] = omega arith

@@ -1,28 +1,28 @@
 -- Tests and lists, as the definitions need them. Assumes nothing.
 use Rattle.std.specs.Prelude.{ℕ, zero, suc, ◌+◌, Bool, true, false, not, ◌&&◌, ◌||◌, List, [], ◌∷◌, ltb, eqb}
 use Rattle.std.proofs.Math.Option.{Option, none, some}
-pub use Rattle.words.specs.Pick.{if◌then◌else◌, all, every}
+pub use Rattle.words.specs.Pick.{whether◌then◌else◌, all, every}
 
 module _ {ℓ} {A : Type ℓ} where
   -- the elements that pass a test (`retain`, `filter`)
   abbrev pub keep : (A → Bool) → List A → List A
   keep p [] = []
-  keep p (x ∷ xs) = if p x then x ∷ keep p xs else keep p xs
+  keep p (x ∷ xs) = whether p x then x ∷ keep p xs else keep p xs
 
   -- how many pass it
   abbrev pub tally : (A → Bool) → List A → ℕ
   tally p [] = 0
-  tally p (x ∷ xs) = (if p x then 1 else 0) + tally p xs
+  tally p (x ∷ xs) = (whether p x then 1 else 0) + tally p xs
 
   -- the first that passes it (`position`, `find`)
   abbrev pub find : (A → Bool) → List A → Option A
   find p [] = none
-  find p (x ∷ xs) = if p x then some x else find p xs
+  find p (x ∷ xs) = whether p x then some x else find p xs
 
   -- the list with v for the first that passes it
   abbrev pub put : (A → Bool) → A → List A → List A
   put p v [] = []
-  put p v (x ∷ xs) = if p x then v ∷ xs else x ∷ put p v xs
+  put p v (x ∷ xs) = whether p x then v ∷ xs else x ∷ put p v xs
 
   abbrev pub nth : ℕ → List A → Option A
   nth n [] = none

@@ -2,7 +2,7 @@
 use Rattle.std.specs.Prelude.{ℕ, ◌+◌, ◌-◌, ◌*◌, ◌^◌, Bool, true, not, ◌&&◌, ◌||◌, List, [], ◌∷◌, ◌++◌, map, leb, ltb, eqb, length, ℤ, pos, negsuc}
 use Rattle.std.proofs.Math.Option.{Option, none, some}
 use Rattle.audit.specs.Audit.{audit_window}
-use Rattle.definition.specs.Base.{if◌then◌else◌, find, tally, all, every, empty, member, distinct, ascending, is_some}
+use Rattle.definition.specs.Base.{whether◌then◌else◌, find, tally, all, every, empty, member, distinct, ascending, is_some}
 use Rattle.definition.specs.Types.{Kind, queue, topic, Id, Entry, Sub, Stats, Audit, Dest, Event, with_calls_used}
 use Rattle.definition.specs.Consumer.{same_id, zero_stats, add_discarded, add_expired, expired, accepts, selects, Ack, is_browser, snapshot}
 use Rattle.definition.specs.Destination.{Answer, Spec, sub_of, count, due, enqueue, add_sub, set_prefetch, ack, pull, pull_timeout, remove_sub, unmarked, return_reserved, sweep_expired, clear, is_producer, add_producer, remove_producer, audit_of, is_duplicate, release_audits}
@@ -94,7 +94,7 @@ consumer_rows (s ∷ ss) = rows_of s ++ consumer_rows ss
 -- a queue's entries in flight, browsers' copies apart
 abbrev pub taken : List Sub → List Entry
 taken [] = []
-taken (s ∷ ss) = (if is_browser s then [] else flying s) ++ taken ss
+taken (s ∷ ss) = (whether is_browser s then [] else flying s) ++ taken ss
 
 abbrev pub held : Dest → List Entry
 held t = map (λ h. h.entry) t.reserved
@@ -258,7 +258,7 @@ rows_for e t queue = 1
 rows_for e t topic = tally (λ s. accepts s e) t.subs
 
 abbrev pub snapshot_rows : ℕ → Spec → Dest → ℕ
-snapshot_rows now p t = if p.browser then tally (λ e. not (expired (pos (due now t)) e) && selects e.match_word p.selector) t.pending else 0
+snapshot_rows now p t = whether p.browser then tally (λ e. not (expired (pos (due now t)) e) && selects e.match_word p.selector) t.pending else 0
 
 -- with an enqueue's rows its connection holds more than a share below 512
 abbrev pub over_share : Entry → Dest → Bool
@@ -267,14 +267,14 @@ over_share e t = ltb t.share 512 && ltb t.share (rows_from e.producer (own_rows 
 -- the refusals that are one call's own; 0 for none
 unfoldable pub own_refusal : Dest → Call → ℕ
 own_refusal t (enqueuing e now) =
-    if member e.seq (seqs (all_rows t)) then 4
-    else if over_share e t then 14
-    else if ltb (free_rows t) (rows_for e t t.kind) then 5
+    whether member e.seq (seqs (all_rows t)) then 4
+    else whether over_share e t then 14
+    else whether ltb (free_rows t) (rows_for e t t.kind) then 5
     else 0
 own_refusal t (joining p now) =
-    if is_some (sub_of p.id t) then 6
-    else if leb 32 (length t.subs) then 7
-    else if ltb (free_rows t) (snapshot_rows now p t) then 5
+    whether is_some (sub_of p.id t) then 6
+    else whether leb 32 (length t.subs) then 7
+    else whether ltb (free_rows t) (snapshot_rows now p t) then 5
     else 0
 own_refusal t (leaving i last now) = 0
 own_refusal t (asking i q) = 0
@@ -282,9 +282,9 @@ own_refusal t (unmarking i) = 0
 own_refusal t (releasing i now) = 0
 own_refusal t (sweeping now most) = 0
 own_refusal t clearing = 0
-own_refusal t (adding i) = if not (is_producer i t.producers) && leb 32 (length t.producers) then 8 else 0
+own_refusal t (adding i) = whether not (is_producer i t.producers) && leb 32 (length t.producers) then 8 else 0
 own_refusal t (removing i now) = 0
-own_refusal t (testing i q) = if not (eqb i.conn 0) && (not (is_some (find (audit_of i) t.audits)) && leb 8 (length t.audits)) then 8 else 0
+own_refusal t (testing i q) = whether not (eqb i.conn 0) && (not (is_some (find (audit_of i) t.audits)) && leb 8 (length t.audits)) then 8 else 0
 own_refusal t (forgetting conn) = 0
 own_refusal t discarding = 0
 own_refusal t missing = 0
@@ -306,7 +306,7 @@ perform t (sweeping now most) = sweep_expired now most t
 perform t clearing = clear t
 perform t (adding i) = record { answer = 0; dest = add_producer i t; events = [] }
 perform t (removing i now) = record { answer = 0; dest = remove_producer now i t; events = [] }
-perform t (testing i q) = let r = is_duplicate i q t in if eqb i.conn 0 then record { answer = 0; dest = t; events = [] } else r
+perform t (testing i q) = let r = is_duplicate i q t in whether eqb i.conn 0 then record { answer = 0; dest = t; events = [] } else r
 perform t (forgetting conn) = record { answer = 0; dest = release_audits conn t; events = [] }
 perform t discarding = record { answer = 0; dest = count (add_discarded 1) t; events = [] }
 perform t missing = record { answer = 0; dest = count (add_expired 1) t; events = [] }
@@ -314,17 +314,17 @@ perform t missing = record { answer = 0; dest = count (add_expired 1) t; events 
 -- the refusal of a call that is on lent buffers of these lengths
 unfoldable pub refusal : Lengths → Call → Dest → ℕ
 refusal lent c t =
-    if short lent then 1
-    else if not (sound t) then 2
-    else if not (arguments_ok c) then 3
-    else if eqb t.calls_used t.call_limit then 9
+    whether short lent then 1
+    else whether not (sound t) then 2
+    else whether not (arguments_ok c) then 3
+    else whether eqb t.calls_used t.call_limit then 9
     else own_refusal t c
 
 unfoldable pub call : Lengths → Call → Dest → Result
 call lent c t =
     let r = perform t c in
     let done : Result = record { refusal = 0; answer = r.answer; events = r.events; dest = used r.dest } in
-    if eqb (refusal lent c t) 0 then done else refused (refusal lent c t) t
+    whether eqb (refusal lent c t) 0 then done else refused (refusal lent c t) t
 
 -- ---- open
 

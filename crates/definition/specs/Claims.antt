@@ -2,7 +2,7 @@
 use Rattle.std.specs.Prelude.{ℕ, ◌+◌, ◌-◌, ◌*◌, ◌≤◌, ◌<◌, min, ◌≡◌, Bool, true, false, not, ◌||◌, ◌↔◌, List, [], ◌∷◌, ◌++◌, map, leb, ltb, pos, length, drop}
 use Rattle.definition.specs.Types.{Kind, queue, topic, Id, Entry, Sub, Dest, with_tpending, with_calls_used}
 use Rattle.definition.specs.Consumer.{zero_stats, add_discarded, expired, is_browser, snapshot, accepts}
-use Rattle.definition.specs.Base.{if◌then◌else◌, keep, tally, all, empty, member, ascending}
+use Rattle.definition.specs.Base.{whether◌then◌else◌, keep, tally, all, empty, member, ascending}
 use Rattle.definition.specs.Destination.{due, dispatch, insert, Trimmed, trim, stored, fanned_out, Spec, joined, add_sub, release_reserved}
 use Rattle.definition.specs.Calls.{Lengths, Call, seqs, rows_of, consumer_rows, all_rows, sizes_agree, own_rows, rows_from, within_share, rows_for, snapshot_rows, over_share, sound, Result, call}
 use Rattle.definition.specs.Words.{at, id_in, entry_in, step}
@@ -86,7 +86,7 @@ BytesAnyOrder = (l m : List Entry) → sizes_agree (l ++ m) ≡ true → bytes_o
 -- document 02 §11: how many connections these are
 abbrev pub connections : List ℕ → ℕ
 connections [] = 0
-connections (c ∷ cs) = (if member c cs then 0 else 1) + connections cs
+connections (c ∷ cs) = (whether member c cs then 0 else 1) + connections cs
 
 -- those that hold rows
 abbrev pub holders : Dest → List ℕ
@@ -139,11 +139,11 @@ JoinRows = (now : ℕ) (p : Spec) (t : Dest) → JoinMakes now p t
 
 -- a consumer of a topic with its copy of e, if it accepts e
 abbrev pub with_copy : Entry → Sub → Sub
-with_copy e s = if accepts s e then with_tpending (insert e s.tpending) s else s
+with_copy e s = whether accepts s e then with_tpending (insert e s.tpending) s else s
 
 -- and what the limit leaves of its list then
 abbrev pub trimmed_for : ℕ → ℕ → Entry → Sub → Sub
-trimmed_for by limit e s = if accepts s e then with_tpending (trim by limit s.tpending).list s else s
+trimmed_for by limit e s = whether accepts s e then with_tpending (trim by limit s.tpending).list s else s
 
 -- an enqueue of a number that no row has: on a queue one row more, on a topic as many copies more as are asked for, and each list that got one is trimmed
 -- only then

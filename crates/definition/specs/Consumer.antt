@@ -10,7 +10,7 @@ unfoldable pub use Rattle.model.specs.Model.{ack_type}
 pub use Rattle.model.specs.Model.{same_id}
 pub use Rattle.model.specs.declared.AckType.{AckType}
 pub use Rattle.model.specs.declared.AckType.TheVariants.{Delivered, Poison, Standard, Redelivered, Individual, Unmatched, Expired, Other}
-use Rattle.definition.specs.Base.{if◌then◌else◌, keep, tally, find, is_some}
+use Rattle.definition.specs.Base.{whether◌then◌else◌, keep, tally, find, is_some}
 use Rattle.definition.specs.Types.{Entry, Inflight, Sub, Stats, Event, letter, message, null, with_finished, with_inflight, with_freed, with_next_dseq, with_pull, with_tpending, with_browser}
 
 -- ---- counters, as what a step adds
@@ -66,12 +66,12 @@ is_browser s = is_some s.browser
 
 -- Sub::has_credit
 unfoldable pub has_credit : Sub → Bool
-has_credit s = if eqb s.prefetch 0 then is_some s.pull else ltb (window s) s.prefetch
+has_credit s = whether eqb s.prefetch 0 then is_some s.pull else ltb (window s) s.prefetch
 
 -- Sub::accepts
 unfoldable pub accepts : Sub → Entry → Bool
 accepts s e =
-    if s.no_local && (not (eqb e.producer 0) && eqb e.producer s.id.conn) then false
+    whether s.no_local && (not (eqb e.producer 0) && eqb e.producer s.id.conn) then false
     else selects e.match_word s.selector
 
 -- as it goes out
@@ -119,7 +119,7 @@ ranged first i none = false
 ranged first i (some last) = leb (min (or0 first) last) i.dseq && leb i.dseq last
 
 unfoldable pub ack_range : Sub → Ack → Bool → Inflight → Bool
-ack_range s a cumulative i = ranged (if cumulative then none else by_seq s a.first) i (by_seq s a.last)
+ack_range s a cumulative i = ranged (whether cumulative then none else by_seq s a.first) i (by_seq s a.last)
 
 -- INDIVIDUAL: the last one alone
 abbrev pub is_dseq : Inflight → Option ℕ → Bool
@@ -131,7 +131,7 @@ ack_last s a i = is_dseq i (by_seq s a.last)
 
 -- what passes the test is freed, and with tx marked as acknowledged in a transaction
 abbrev pub freed_as : (Inflight → Bool) → Bool → Inflight → Inflight
-freed_as hit tx i = if hit i then record { dseq = i.dseq; entry = i.entry; freed = true; tx = tx || i.tx } else i
+freed_as hit tx i = whether hit i then record { dseq = i.dseq; entry = i.entry; freed = true; tx = tx || i.tx } else i
 
 -- `inf.freed = true`, counted
 abbrev pub free : (Inflight → Bool) → Bool → Sub → Sub
@@ -143,7 +143,7 @@ remove_inflight hit s = with_inflight (keep (λ i. not (hit i)) s.inflight) (wit
 
 -- REDELIVERED: the counter of what passes the test rises
 abbrev pub bumped : (Inflight → Bool) → Inflight → Inflight
-bumped hit i = if hit i then record { dseq = i.dseq; entry = redelivered i.entry; freed = i.freed; tx = i.tx } else i
+bumped hit i = whether hit i then record { dseq = i.dseq; entry = redelivered i.entry; freed = i.freed; tx = i.tx } else i
 
 -- REDELIVERED of Dest::ack
 abbrev pub redeliver : (Inflight → Bool) → Sub → Sub
@@ -153,12 +153,12 @@ redeliver hit s = with_inflight (map (bumped hit) s.inflight) s
 abbrev pub dead_letters : Bool → List Inflight → List Event
 dead_letters cause [] = []
 dead_letters cause (i ∷ is) =
-    if i.entry.persistent then letter i.entry.seq i.entry.redelivery cause ∷ dead_letters cause is
+    whether i.entry.persistent then letter i.entry.seq i.entry.redelivery cause ∷ dead_letters cause is
     else dead_letters cause is
 
 -- a count that a browser's acknowledgement does not make
 abbrev pub unless_browser : Sub → Stats → Stats
-unless_browser s c = if is_browser s then zero_stats else c
+unless_browser s c = whether is_browser s then zero_stats else c
 
 -- the transacted branch of Dest::ack (DELIVERED is never transacted in effect); INDIVIDUAL marks the last one alone, as document 02 §2 has it
 unfoldable pub ack_transacted : Ack → Sub → AckType → Sub
@@ -184,7 +184,7 @@ ack_plain a s Individual = took (ack_last s a) add_dequeued s
 ack_plain a s Poison = record {
   sub = remove_inflight (ack_range s a false) s;
   counts = unless_browser s (add_discarded (tally (λ i. ack_range s a false i && not i.entry.persistent) s.inflight));
-  events = if is_browser s then [] else dead_letters a.cause (keep (ack_range s a false) s.inflight);
+  events = whether is_browser s then [] else dead_letters a.cause (keep (ack_range s a false) s.inflight);
 }
 ack_plain a s Redelivered = record { sub = redeliver (ack_range s a false) s; counts = zero_stats; events = [] }
 ack_plain a s Expired = took (ack_range s a false) add_expired s
@@ -193,7 +193,7 @@ ack_plain a s Other = record { sub = s; counts = zero_stats; events = [] }
 -- Dest::ack, of the consumer at its position
 unfoldable pub ack_sub : Ack → Sub → Step
 ack_sub a s =
-    if a.transacted then record { sub = ack_transacted a s (ack_type a.type); counts = zero_stats; events = [] }
+    whether a.transacted then record { sub = ack_transacted a s (ack_type a.type); counts = zero_stats; events = [] }
     else ack_plain a s (ack_type a.type)
 
 -- ---- dispatch to one consumer
@@ -201,13 +201,13 @@ ack_sub a s =
 -- one entry that was popped from a topic consumer's list: expired, or sent
 unfoldable pub meet_topic : ℕ → Entry → List Entry → Step → Step
 meet_topic by e es t =
-    if expired (pos by) e then record { sub = with_tpending es t.sub; counts = t.counts ⊕ add_expired 1; events = t.events }
+    whether expired (pos by) e then record { sub = with_tpending es t.sub; counts = t.counts ⊕ add_expired 1; events = t.events }
     else record { sub = send e (with_tpending es t.sub); counts = t.counts ⊕ add_dispatched 1; events = t.events ++ sent t.sub e ∷ [] }
 
 -- while sub.has_credit() { pop_first .. }
 unfoldable pub drain_topic : ℕ → List Entry → Step → Step
 drain_topic by [] t = t
-drain_topic by (e ∷ es) t = if has_credit t.sub then drain_topic by es (meet_topic by e es t) else t
+drain_topic by (e ∷ es) t = whether has_credit t.sub then drain_topic by es (meet_topic by e es t) else t
 
 -- nothing done yet
 abbrev pub at_rest : Sub → Step
@@ -230,7 +230,7 @@ same_seq e f = eqb e.seq f.seq
 -- one entry that was popped from the snapshot: expired, and deleted if it still waits on the queue; or sent
 unfoldable pub meet_browser : ℕ → Entry → List Entry → Browse → Browse
 meet_browser by e es b =
-    if expired (pos by) e then record {
+    whether expired (pos by) e then record {
       sub = with_snapshot es b.sub;
       pending = keep (λ f. not (same_seq e f)) b.pending;
       counts = b.counts ⊕ add_expired (tally (same_seq e) b.pending);
@@ -246,13 +246,13 @@ meet_browser by e es b =
 -- the snapshot is empty: the closing null, once
 unfoldable pub close_browser : Browse → Browse
 close_browser b =
-    if b.sub.finished then b
+    whether b.sub.finished then b
     else record { sub = send_null (with_finished true b.sub); pending = b.pending; counts = b.counts; events = b.events ++ null b.sub.id ∷ [] }
 
 -- Dest::dispatch_browser: the loop
 unfoldable pub drain_browser : ℕ → List Entry → Browse → Browse
-drain_browser by [] b = if has_credit b.sub then close_browser b else b
-drain_browser by (e ∷ es) b = if has_credit b.sub then drain_browser by es (meet_browser by e es b) else b
+drain_browser by [] b = whether has_credit b.sub then close_browser b else b
+drain_browser by (e ∷ es) b = whether has_credit b.sub then drain_browser by es (meet_browser by e es b) else b
 
 -- Dest::dispatch_browser
 abbrev pub dispatch_browser : ℕ → List Entry → Sub → Browse

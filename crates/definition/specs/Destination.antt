@@ -2,7 +2,7 @@
 use Rattle.std.specs.Prelude.{ℕ, zero, suc, ◌+◌, ◌-◌, ◌%◌, min, Bool, true, false, not, ◌&&◌, ◌||◌, List, [], ◌∷◌, ◌++◌, map, leb, ltb, eqb, length, set, drop, ℤ, pos, negsuc}
 use Rattle.std.proofs.Math.Option.{Option, none, some}
 use Rattle.std.specs.Int.Signed.{lt_z, le_z}
-use Rattle.definition.specs.Base.{if◌then◌else◌, keep, tally, find, put, nth, empty, up_from}
+use Rattle.definition.specs.Base.{whether◌then◌else◌, keep, tally, find, put, nth, empty, up_from}
 use Rattle.audit.specs.Audit.{seen, recorded}
 use Rattle.definition.specs.Types.{Kind, queue, topic, Id, Entry, Inflight, Sub, Stats, Held, Audit, Dest, Event, letter, null, with_prefetch, with_inflight, with_freed, with_cursor, with_pull, with_generation, with_browser, with_tpending, with_pending, with_subs, with_rr, with_producers, with_audits, with_stats, with_idle, with_reserved}
 use Rattle.definition.specs.Consumer.{same_id, expired, zero_stats, ◌⊕◌, add_enqueued, add_dequeued, add_expired, add_discarded, add_dispatched, Step, is_browser, has_credit, accepts, selects, send, sent, send_null, redelivered, AckType, Delivered, Poison, Standard, Redelivered, Individual, Unmatched, Expired, Other, ack_type, Ack, ack_sub, serve_topic, Browse, dispatch_browser}
@@ -31,8 +31,8 @@ put_sub i s t = with_subs (put (is_id i) s t.subs) t
 abbrev pub insert : Entry → List Entry → List Entry
 insert e [] = e ∷ []
 insert e (f ∷ fs) =
-    if ltb e.seq f.seq then e ∷ f ∷ fs
-    else if eqb e.seq f.seq then e ∷ fs
+    whether ltb e.seq f.seq then e ∷ f ∷ fs
+    else whether eqb e.seq f.seq then e ∷ fs
     else f ∷ insert e fs
 
 -- ---- dispatch
@@ -59,9 +59,9 @@ look by s c (e ∷ es) =
     let before = passing e (look by s c es) in
     let late = losing (look by s c es) in
     let refused = passing e (look by s e.seq es) in
-    if leb e.seq s.cursor then before
-    else if expired (pos by) e then late
-    else if accepts s e then record { pending = es; chosen = some e; cursor = e.seq; gone = 0 }
+    whether leb e.seq s.cursor then before
+    else whether expired (pos by) e then late
+    else whether accepts s e then record { pending = es; chosen = some e; cursor = e.seq; gone = 0 }
     else refused
 
 -- a consumer's turn in the scan: whether it took an entry, and what that leaves
@@ -88,7 +88,7 @@ unfoldable pub visit_at : ℕ → ℕ → Dest → Option Sub → Turn
 visit_at by i t none = record { took = false; dest = t; events = [] }
 visit_at by i t (some s) =
     let l = look by s s.cursor t.pending in
-    if is_browser s || not (has_credit s) then record { took = false; dest = t; events = [] } else given i s l t l.chosen
+    whether is_browser s || not (has_credit s) then record { took = false; dest = t; events = [] } else given i s l t l.chosen
 
 unfoldable pub visit : ℕ → ℕ → Dest → Turn
 visit by i t = visit_at by i t (nth i t.subs)
@@ -99,7 +99,7 @@ scan by [] t = record { took = false; dest = t; events = [] }
 scan by (i ∷ is) t =
     let here = visit by i t in
     let later = scan by is here.dest in
-    if here.took then here else later
+    whether here.took then here else later
 
 -- for k in 0..n: (rr + k) % n
 abbrev pub turns : Dest → List ℕ
@@ -111,7 +111,7 @@ rounds zero by t = record { dest = t; events = [] }
 rounds (suc fuel) by t =
     let here = scan by (turns t) t in
     let later = rounds fuel by here.dest in
-    if not here.took || empty here.dest.pending then record { dest = here.dest; events = here.events }
+    whether not here.took || empty here.dest.pending then record { dest = here.dest; events = here.events }
     else record { dest = later.dest; events = here.events ++ later.events }
 
 -- browsers are served from their own snapshot
@@ -125,14 +125,14 @@ pub record Browsed : Type 0 where
 unfoldable pub browsers : ℕ → List Sub → List Entry → Browsed
 browsers by [] pending = record { subs = []; pending = pending; counts = zero_stats; events = [] }
 browsers by (s ∷ ss) pending =
-    let b : Browse = if is_browser s then dispatch_browser by pending s else record { sub = s; pending = pending; counts = zero_stats; events = [] } in
+    let b : Browse = whether is_browser s then dispatch_browser by pending s else record { sub = s; pending = pending; counts = zero_stats; events = [] } in
     let r = browsers by ss b.pending in
     record { subs = b.sub ∷ r.subs; pending = r.pending; counts = b.counts ⊕ r.counts; events = b.events ++ r.events }
 
 -- Dest::dispatch_queue
 unfoldable pub dispatch_queue : ℕ → Dest → Out
 dispatch_queue by t =
-    if empty t.subs then record { dest = t; events = [] }
+    whether empty t.subs then record { dest = t; events = [] }
     else
     let b = browsers by t.subs t.pending in
     let r = rounds (suc (length b.pending)) by (count b.counts (with_pending b.pending (with_subs b.subs t))) in
@@ -177,7 +177,7 @@ idle_mark now (some k) = some k
 -- Dest::touch_idle
 unfoldable pub touch_idle : ℕ → Dest → Dest
 touch_idle now t =
-    if empty t.pending && (empty t.subs && empty t.producers) then with_idle (idle_mark now t.idle) t
+    whether empty t.pending && (empty t.subs && empty t.producers) then with_idle (idle_mark now t.idle) t
     else with_idle none t
 
 -- ---- enqueue
@@ -196,14 +196,14 @@ unfoldable pub trim : ℕ → ℕ → List Entry → Trimmed
 trim by limit l =
     let live = keep (λ e. not (expired (pos by) e)) l in
     let over = length live - limit in
-    if eqb limit 0 || leb (length l) limit then record { list = l; counts = zero_stats }
+    whether eqb limit 0 || leb (length l) limit then record { list = l; counts = zero_stats }
     else record { list = drop over live; counts = add_expired (tally (expired (pos by)) l) ⊕ add_discarded over }
 
 -- the copy for one consumer of a topic, and what is surplus gone
 unfoldable pub fan_out : ℕ → ℕ → Entry → Sub → Step
 fan_out by limit e s =
     let r = trim by limit (insert e s.tpending) in
-    if accepts s e then record { sub = with_tpending r.list s; counts = r.counts; events = [] }
+    whether accepts s e then record { sub = with_tpending r.list s; counts = r.counts; events = [] }
     else record { sub = s; counts = zero_stats; events = [] }
 
 -- Dest::enqueue on a topic: `for sub in st.subs.iter_mut()`
@@ -270,7 +270,7 @@ joined now p t =
     let live = keep (λ e. not (expired (pos (due now t)) e)) t.pending in
     let chosen = keep (λ e. selects e.match_word p.selector) live in
     let browsed = count (add_expired (tally (expired (pos (due now t))) t.pending)) (with_pending live t) in
-    with_idle none (if p.browser then with_subs (t.subs ++ new_sub p (some chosen) ∷ []) browsed else with_subs (t.subs ++ new_sub p none ∷ []) t)
+    with_idle none (whether p.browser then with_subs (t.subs ++ new_sub p (some chosen) ∷ []) browsed else with_subs (t.subs ++ new_sub p none ∷ []) t)
 
 -- Dest::add_sub
 unfoldable pub add_sub : ℕ → Spec → Dest → Out
@@ -331,7 +331,7 @@ reserved_hit first last e Other = false
 -- the dead letters of persistent entries, with the default cause
 abbrev pub letters : List Entry → List Event
 letters [] = []
-letters (e ∷ es) = if e.persistent then letter e.seq e.redelivery false ∷ letters es else letters es
+letters (e ∷ es) = whether e.persistent then letter e.seq e.redelivery false ∷ letters es else letters es
 
 -- Dest::ack_reserved: what the taken add to the counters, by type
 unfoldable pub reserved_counts : List Entry → AckType → Stats
@@ -372,7 +372,7 @@ unfoldable pub ack_at : ℕ → Id → Ack → Dest → Option Sub → Out
 ack_at now i a t none =
     let k = ack_reserved i a t a.last in
     let r = dispatch now (touch_idle now k.dest) in
-    if a.transacted || empty (reserved_of i t) then record { dest = t; events = [] }
+    whether a.transacted || empty (reserved_of i t) then record { dest = t; events = [] }
     else record { dest = r.dest; events = k.events ++ r.events }
 ack_at now i a t (some s) =
     let k = ack_sub a s in
@@ -394,8 +394,8 @@ pub record Answer : Type 0 where
 unfoldable pub pulled : Id → ℤ → Sub → Out → Option ℕ → Answer
 pulled i timeout s r none = record { answer = 0; dest = r.dest; events = r.events }
 pulled i timeout s r (some g) =
-    if lt_z timeout (pos 0) then record { answer = 0; dest = put_sub i (send_null s) r.dest; events = r.events ++ null s.id ∷ [] }
-    else if lt_z (pos 0) timeout then record { answer = g; dest = r.dest; events = r.events }
+    whether lt_z timeout (pos 0) then record { answer = 0; dest = put_sub i (send_null s) r.dest; events = r.events ++ null s.id ∷ [] }
+    else whether lt_z (pos 0) timeout then record { answer = g; dest = r.dest; events = r.events }
     else record { answer = 0; dest = r.dest; events = r.events }
 
 -- let sub = &mut st.subs[pos], once more
@@ -408,7 +408,7 @@ unfoldable pub pull_at : ℕ → Id → ℤ → Dest → Option Sub → Answer
 pull_at now i timeout t none = record { answer = 0; dest = t; events = [] }
 pull_at now i timeout t (some s) =
     let r = dispatch now (put_sub i (with_pull (some (s.generation + 1)) (with_generation (s.generation + 1) s)) t) in
-    if ltb 0 s.prefetch then record { answer = 0; dest = t; events = [] } else resumed i timeout r (sub_of i r.dest)
+    whether ltb 0 s.prefetch then record { answer = 0; dest = t; events = [] } else resumed i timeout r (sub_of i r.dest)
 
 -- Dest::pull
 unfoldable pub pull : ℕ → Id → ℤ → Dest → Answer
@@ -417,7 +417,7 @@ pull now i timeout t = pull_at now i timeout t (sub_of i t)
 -- if sub.pull == Some(generation)
 unfoldable pub fired : Id → ℕ → Sub → Dest → Option ℕ → Out
 fired i generation s t none = record { dest = t; events = [] }
-fired i generation s t (some g) = if eqb g generation then record { dest = put_sub i (send_null s) t; events = null s.id ∷ [] } else record { dest = t; events = [] }
+fired i generation s t (some g) = whether eqb g generation then record { dest = put_sub i (send_null s) t; events = null s.id ∷ [] } else record { dest = t; events = [] }
 
 -- Dest::pull_timeout: the consumer, if it is there
 unfoldable pub timeout_at : Id → ℕ → Dest → Option Sub → Out
@@ -439,31 +439,31 @@ was_delivered (pos k) e = leb e.seq k
 abbrev pub returned_from : ℤ → List Inflight → List Entry
 returned_from last [] = []
 returned_from last (i ∷ is) =
-    if i.tx then returned_from last is
-    else (if was_delivered last i.entry then redelivered i.entry else i.entry) ∷ returned_from last is
+    whether i.tx then returned_from last is
+    else (whether was_delivered last i.entry then redelivered i.entry else i.entry) ∷ returned_from last is
 
 -- Dest::remove_sub: what stays reserved
 abbrev pub reserved_from : Id → List Inflight → List Held
 reserved_from j [] = []
-reserved_from j (i ∷ is) = if i.tx then record { holder = j; entry = i.entry } ∷ reserved_from j is else reserved_from j is
+reserved_from j (i ∷ is) = whether i.tx then record { holder = j; entry = i.entry } ∷ reserved_from j is else reserved_from j is
 
 -- the list without the first that passes
 abbrev pub without : (Sub → Bool) → List Sub → List Sub
 without p [] = []
-without p (s ∷ ss) = if p s then ss else s ∷ without p ss
+without p (s ∷ ss) = whether p s then ss else s ∷ without p ss
 
 -- Dest::remove_sub: a queue's consumer that is no browser returns its entries
 unfoldable pub returning : ℕ → Sub → ℤ → Dest → Kind → Dest
 returning now s last t topic = t
 returning now s last t queue =
-    if is_browser s then t
+    whether is_browser s then t
     else reinsert now (returned_from last s.inflight) (with_reserved (t.reserved ++ reserved_from s.id s.inflight) t)
 
 -- Dest::remove_sub: the consumer is gone, and the turn is below the rest or 0
 abbrev pub drop_sub : Id → Dest → Dest
 drop_sub i t =
     let l = without (is_id i) t.subs in
-    with_rr (if leb (length l) t.rr then 0 else t.rr) (with_subs l t)
+    with_rr (whether leb (length l) t.rr then 0 else t.rr) (with_subs l t)
 
 -- Dest::remove_sub: the consumer, if it is there
 unfoldable pub remove_at : ℕ → Id → ℤ → Dest → Option Sub → Answer
@@ -483,20 +483,20 @@ abbrev pub no_tx : Sub → Sub
 no_tx s = with_inflight (map (λ i. record { dseq = i.dseq; entry = i.entry; freed = i.freed; tx = false }) s.inflight) s
 
 abbrev pub unmarked : Id → Dest → Dest
-unmarked i t = with_subs (map (λ s. if is_id i s then no_tx s else s) t.subs) t
+unmarked i t = with_subs (map (λ s. whether is_id i s then no_tx s else s) t.subs) t
 
 -- Dest::release_reserved, its second half (document 02 §10): what was reserved returns, and if there was any, a dispatch
 unfoldable pub return_reserved : ℕ → Id → Dest → Out
 return_reserved now i t =
     let r = dispatch now (reinsert now (map redelivered (reserved_of i t)) (with_reserved (keep (λ h. not (held_by i h)) t.reserved) t)) in
-    if empty (reserved_of i t) then record { dest = t; events = [] } else r
+    whether empty (reserved_of i t) then record { dest = t; events = [] } else r
 
 -- Dest::release_reserved, whole: no call does this any more; `Claims` sets the two halves equal to it
 unfoldable pub release_reserved : ℕ → Id → Dest → Out
 release_reserved now i t =
     let u = unmarked i t in
     let r = dispatch now (reinsert now (map redelivered (reserved_of i t)) (with_reserved (keep (λ h. not (held_by i h)) t.reserved) (unmarked i t))) in
-    if empty (reserved_of i t) then record { dest = u; events = [] } else r
+    whether empty (reserved_of i t) then record { dest = u; events = [] } else r
 
 -- ---- expiry
 
@@ -507,11 +507,11 @@ is_sooner e f = lt_z e.expiration f.expiration || (le_z e.expiration f.expiratio
 -- the first in that order among the expired
 abbrev pub sooner : Entry → Option Entry → Option Entry
 sooner e none = some e
-sooner e (some f) = if is_sooner e f then some e else some f
+sooner e (some f) = whether is_sooner e f then some e else some f
 
 abbrev pub soonest : ℕ → List Entry → Option Entry
 soonest by [] = none
-soonest by (e ∷ es) = if expired (pos by) e then sooner e (soonest by es) else soonest by es
+soonest by (e ∷ es) = whether expired (pos by) e then sooner e (soonest by es) else soonest by es
 
 pub record Swept : Type 0 where
   pub list : List Entry
@@ -548,7 +548,7 @@ sweep_expired now most t =
     let w = sweep_list most (due now t) t.pending in
     let r = sweep_subs (most - w.gone) (due now t) t.subs in
     let swept = count (add_expired (w.gone + r.gone)) (with_pending w.list (with_subs r.subs t)) in
-    if ltb 0 (w.gone + r.gone) then record { answer = w.gone + r.gone; dest = touch_idle now swept; events = [] }
+    whether ltb 0 (w.gone + r.gone) then record { answer = w.gone + r.gone; dest = touch_idle now swept; events = [] }
     else record { answer = 0; dest = swept; events = [] }
 
 -- ---- clear
@@ -582,7 +582,7 @@ is_producer i (j ∷ js) = same_id j i || is_producer i js
 
 -- Dest::add_producer
 abbrev pub add_producer : Id → Dest → Dest
-add_producer i t = with_idle none (with_producers (if is_producer i t.producers then t.producers else t.producers ++ i ∷ []) t)
+add_producer i t = with_idle none (with_producers (whether is_producer i t.producers then t.producers else t.producers ++ i ∷ []) t)
 
 abbrev pub audit_of : Id → Audit → Bool
 audit_of i a = same_id a.producer i
@@ -595,7 +595,7 @@ remove_producer now i t = touch_idle now (with_audits (keep (λ a. not (audit_of
 unfoldable pub test_at : Id → ℕ → Dest → Option Audit → Answer
 test_at i q t none = record { answer = 0; dest = with_audits (t.audits ++ record { producer = i; order = q ∷ [] } ∷ []) t; events = [] }
 test_at i q t (some a) =
-    if seen q a.order then record { answer = 1; dest = t; events = [] }
+    whether seen q a.order then record { answer = 1; dest = t; events = [] }
     else record { answer = 0; dest = with_audits (put (audit_of i) (record { producer = i; order = recorded q a.order }) t.audits) t; events = [] }
 
 -- Dest::is_duplicate

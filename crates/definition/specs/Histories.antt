@@ -1,7 +1,7 @@
 -- What accepted calls say of who is present, without a look at the state, what begins to wait and goes on waiting, and what comes in flight. Assumes nothing.
 use Rattle.std.specs.Prelude.{ℕ, ◌≡◌, Bool, true, false, not, ◌&&◌, ◌||◌, List, [], ◌∷◌, ◌++◌, map, eqb, pos}
 use Rattle.std.proofs.Math.Option.{Option, none, some}
-use Rattle.definition.specs.Base.{if◌then◌else◌, keep, all, member, is_some}
+use Rattle.definition.specs.Base.{whether◌then◌else◌, keep, all, member, is_some}
 use Rattle.definition.specs.Types.{Id, Entry, Sub, Dest, Event, letter, message, null}
 use Rattle.definition.specs.Consumer.{same_id, expired, snapshot}
 use Rattle.definition.specs.Destination.{due, is_id, sub_of, reserved_of}
@@ -16,8 +16,8 @@ among i (j ∷ js) = same_id j i || among i js
 -- a join (code 2) comes last, a leave (code 3) is gone, and no other call brings or takes one
 abbrev pub present_after : ℕ → List ℕ → List Id → List Id
 present_after code words ids =
-    if eqb code 2 then ids ++ id_in words ∷ []
-    else if eqb code 3 then keep (λ j. not (same_id j (id_in words))) ids
+    whether eqb code 2 then ids ++ id_in words ∷ []
+    else whether eqb code 3 then keep (λ j. not (same_id j (id_in words))) ids
     else ids
 
 -- "joined among these and not left since": an open brings none

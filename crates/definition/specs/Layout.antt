@@ -9,7 +9,7 @@ use Rattle.audit.specs.Audit as Ring
 use Rattle.audit.specs.declared.Audit as RingState
 use Rattle.entry.specs.Entry.{entry_of}
 use Rattle.model.specs.Model.{id_of}
-use Rattle.definition.specs.Base.{if◌then◌else◌, all, every}
+use Rattle.definition.specs.Base.{whether◌then◌else◌, all, every}
 use Rattle.definition.specs.Types.{Kind, queue, topic, Id, Entry, Inflight, Sub, Stats, Held, Audit, Dest, Event, letter, message, null}
 use Rattle.definition.specs.Consumer.{zero_stats}
 use Rattle.definition.specs.Calls.{Lengths, short, state_short, sound, Call, Result, refused, call}
@@ -77,7 +77,7 @@ sub_at k w flying held = record {
   freed = at 13 w;
   next_dseq = at 8 w;
   cursor = at 9 w;
-  pull = if flag (at 10 w) then some (at 11 w) else none;
+  pull = whether flag (at 10 w) then some (at 11 w) else none;
   generation = at 12 w;
   tpending = tpending_at k (flag (at 6 w)) (map entry_of held);
 }
@@ -137,7 +137,7 @@ view b = let h = b.head in record {
   producers = ids_at (at 13 h) (drop 17 h);
   audits = audits_at (at 14 h) (drop 113 h);
   stats = stats_at h;
-  idle = if flag (at 5 h) then some (at 6 h) else none;
+  idle = whether flag (at 5 h) then some (at 6 h) else none;
   reserved = map held_at (take (at 15 h) (other_rows b));
 }
 
@@ -218,30 +218,30 @@ lengths_of b events = record { head = length b.head; subs = length b.subs; rows 
 -- what a call of the call file gets, and the state that it leaves
 unfoldable pub buffer_step : Buffers → ℕ → ℕ → List ℕ → Result
 buffer_step b events code ws =
-    if not (short (lengths_of b events)) && (not (eqb code 0) && not (formed b)) then refused 2 (view b)
+    whether not (short (lengths_of b events)) && (not (eqb code 0) && not (formed b)) then refused 2 (view b)
     else step (lengths_of b events) code ws (view b)
 
 -- what one of the two calls without a code gets
 unfoldable pub buffer_call : Buffers → ℕ → Call → Result
 buffer_call b events c =
-    if not (short (lengths_of b events)) && not (formed b) then refused 2 (view b)
+    whether not (short (lengths_of b events)) && not (formed b) then refused 2 (view b)
     else call (lengths_of b events) c (view b)
 
 -- what a query gets: it is lent no event list
 unfoldable pub buffer_query : Buffers → Query → Asked
 buffer_query b q =
-    if not (state_short (lengths_of b 0)) && not (formed b) then asked 2 0
+    whether not (state_short (lengths_of b 0)) && not (formed b) then asked 2 0
     else query (lengths_of b 0) q (view b)
 
 unfoldable pub buffer_counters : Buffers → Counted
 buffer_counters b =
-    if not (state_short (lengths_of b 0)) && not (formed b) then record { refusal = 2; stats = zero_stats }
+    whether not (state_short (lengths_of b 0)) && not (formed b) then record { refusal = 2; stats = zero_stats }
     else counters (lengths_of b 0) (view b)
 
 -- a page, into a lent list of so many lines
 unfoldable pub buffer_page : Buffers → ℕ → ℕ → ℕ → Page
 buffer_page b lines offset limit =
-    if not (state_short (lengths_of b 0) || ltb lines page_max) && not (formed b) then record { refusal = 2; total = 0; lines = [] }
+    whether not (state_short (lengths_of b 0) || ltb lines page_max) && not (formed b) then record { refusal = 2; total = 0; lines = [] }
     else page (lengths_of b 0) lines offset limit (view b)
 
 -- ---- before any open

@@ -2,7 +2,7 @@
 use Rattle.std.specs.Prelude.{ℕ, ◌+◌, ◌-◌, ◌/◌, min, Bool, true, false, not, ◌&&◌, ◌||◌, List, [], ◌∷◌, map, leb, ltb, length, take, drop, ℤ, pos}
 use Rattle.std.proofs.Math.Option.{Option, none, some}
 use Rattle.std.specs.Int.Signed.{lt_z}
-use Rattle.definition.specs.Base.{if◌then◌else◌, all, empty, nth, member, is_some}
+use Rattle.definition.specs.Base.{whether◌then◌else◌, all, empty, nth, member, is_some}
 use Rattle.definition.specs.Types.{Kind, queue, topic, Entry, Sub, Stats, Dest}
 use Rattle.definition.specs.Consumer.{zero_stats}
 use Rattle.definition.specs.Destination.{held_rows}
@@ -42,7 +42,7 @@ message_count t = length t.pending + held_rows t.subs
 -- document 02 §3: the bytes of these rows, each sequence number once, with its last copy's size; sound rows agree on it
 abbrev pub bytes_of : List Entry → ℕ
 bytes_of [] = 0
-bytes_of (e ∷ es) = (if member e.seq (seqs es) then 0 else e.size) + bytes_of es
+bytes_of (e ∷ es) = (whether member e.seq (seqs es) then 0 else e.size) + bytes_of es
 
 -- the bytes that a destination holds
 abbrev pub bytes_held : Dest → ℕ
@@ -82,14 +82,14 @@ pub record Asked : Type 0 where
 
 -- 1, 2 and 3, in the order of their places: whether a lent buffer is short, and whether the arguments are in their ranges
 unfoldable pub query_refusal : Bool → Bool → Dest → ℕ
-query_refusal short in_range t = if short then 1 else if not (sound t) then 2 else if in_range then 0 else 3
+query_refusal short in_range t = whether short then 1 else whether not (sound t) then 2 else whether in_range then 0 else 3
 
 -- beside a refusal the answer is 0
 abbrev pub asked : ℕ → ℕ → Asked
-asked refusal answer = record { refusal = refusal; answer = if leb refusal 0 then answer else 0 }
+asked refusal answer = record { refusal = refusal; answer = whether leb refusal 0 then answer else 0 }
 
 abbrev pub number : Bool → ℕ
-number b = if b then 1 else 0
+number b = whether b then 1 else 0
 
 pub data Query : Type 0 where
   of_kind consumers expirations messages bytes : Query
@@ -126,7 +126,7 @@ pub record Counted : Type 0 where
 unfoldable pub counters : Lengths → Dest → Counted
 counters lent t =
     let r = query_refusal (state_short lent) true t in
-    record { refusal = r; stats = if leb r 0 then t.stats else zero_stats }
+    record { refusal = r; stats = whether leb r 0 then t.stats else zero_stats }
 
 -- a page, into a lent list of so many lines: how many wait, and the lines written
 pub record Page : Type 0 where
@@ -137,7 +137,7 @@ pub record Page : Type 0 where
 unfoldable pub page : Lengths → ℕ → ℕ → ℕ → Dest → Page
 page lent lines offset limit t =
     let r = query_refusal (state_short lent || ltb lines page_max) true t in
-    if leb r 0 then record { refusal = 0; total = length t.pending; lines = map line_of (page_entries offset limit t) }
+    whether leb r 0 then record { refusal = 0; total = length t.pending; lines = map line_of (page_entries offset limit t) }
     else record { refusal = r; total = 0; lines = [] }
 
 -- opens the definitions of this file

@@ -1,7 +1,7 @@
 -- Document 01's table "Refused, by place of checking" as a list of places, and that a refusal's number comes exactly from it (`Exact` of crate `words`). Assumes nothing.
 use Rattle.std.specs.Prelude.{ℕ, ◌≡◌, Bool, true, not, ◌&&◌, ◌||◌, List, [], ◌∷◌, leb, ltb, eqb, length}
 pub use Rattle.words.specs.Places.{CheckPlace, ◌when◌, passes, Comes, Exact}
-use Rattle.definition.specs.Base.{if◌then◌else◌, find, member, is_some}
+use Rattle.definition.specs.Base.{whether◌then◌else◌, find, member, is_some}
 use Rattle.definition.specs.Types.{Dest}
 use Rattle.definition.specs.Consumer.{zero_stats}
 use Rattle.definition.specs.Destination.{sub_of, is_producer, audit_of}
@@ -12,7 +12,7 @@ use Rattle.definition.specs.Layout.{Buffers, view, sound_buffers, lengths_of, bu
 
 -- an open's words are an open's; any other call's code is known, its numbers are in their ranges and its unused words 0
 abbrev pub arguments_right : ℕ → List ℕ → Bool
-arguments_right code ws = if eqb code 0 then open_words ws else is_some (decode code ws)
+arguments_right code ws = whether eqb code 0 then open_words ws else is_some (decode code ws)
 
 -- the table, for a call of the call file: whether a lent buffer is short, whether the state is sound, the code, its words, the state
 abbrev pub table : Bool → Bool → ℕ → List ℕ → Dest → List CheckPlace

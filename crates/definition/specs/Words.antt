@@ -3,7 +3,7 @@ use Rattle.std.specs.Prelude.{ℕ, ◌%◌, Bool, true, false, ◌&&◌, ◌||�
 use Rattle.std.proofs.Math.Option.{Option, none, some}
 use Rattle.words.specs.Words.{signed}
 use Rattle.model.specs.Model as Model
-use Rattle.definition.specs.Base.{if◌then◌else◌, all}
+use Rattle.definition.specs.Base.{whether◌then◌else◌, all}
 use Rattle.definition.specs.Types.{Kind, queue, topic, Id, Entry, Dest}
 use Rattle.definition.specs.Consumer.{bit, Ack}
 use Rattle.definition.specs.Destination.{Spec}
@@ -23,7 +23,7 @@ unused_from k ws = all (eqb 0) (drop k ws)
 
 -- a word that is present or else unused
 abbrev pub present : Bool → ℕ → Option ℕ
-present b w = if b then some w else none
+present b w = whether b then some w else none
 
 abbrev pub ack_in : List ℕ → Ack
 ack_in ws = record { type = at 3 ws % 256; transacted = bit (at 3 ws) 8; first = present (bit (at 3 ws) 9) (at 4 ws); last = present (bit (at 3 ws) 10) (at 5 ws); cause = bit (at 3 ws) 11 }
@@ -39,25 +39,25 @@ spec_in ws = record { id = id_in ws; prefetch = signed (at 3 ws); selector = at 
 
 -- what the words say, and whether their flags are known and the unused ones 0
 unfoldable pub provided : Bool → Call → Option Call
-provided b c = if b then some c else none
+provided b c = whether b then some c else none
 
 unfoldable pub read : ℕ → List ℕ → Option Call
 read code ws =
-    if eqb code 1 then provided (leb (at 2 ws) 1 && unused_from 8 ws) (enqueuing (entry_in ws) (at 6 ws))
-    else if eqb code 2 then provided (leb (at 5 ws) 3 && unused_from 7 ws) (joining (spec_in ws) (at 6 ws))
-    else if eqb code 3 then provided (unused_from 5 ws) (leaving (id_in ws) (signed (at 3 ws)) (at 4 ws))
-    else if eqb code 4 then provided (ack_words ws) (asking (id_in ws) (acknowledge (ack_in ws) (at 6 ws)))
-    else if eqb code 5 then provided (unused_from 5 ws) (asking (id_in ws) (pulling (signed (at 3 ws)) (at 4 ws)))
-    else if eqb code 6 then provided (unused_from 4 ws) (asking (id_in ws) (timed_out (at 3 ws)))
-    else if eqb code 7 then provided (unused_from 5 ws) (asking (id_in ws) (prefetching (signed (at 3 ws)) (at 4 ws)))
-    else if eqb code 8 then provided (unused_from 3 ws) (unmarking (id_in ws))
-    else if eqb code 9 then provided (unused_from 2 ws) (sweeping (at 0 ws) (at 1 ws))
-    else if eqb code 10 then provided (unused_from 0 ws) clearing
-    else if eqb code 11 then provided (unused_from 3 ws) (adding (id_in ws))
-    else if eqb code 12 then provided (unused_from 4 ws) (removing (id_in ws) (at 3 ws))
-    else if eqb code 13 then provided (unused_from 4 ws) (testing (id_in ws) (at 3 ws))
-    else if eqb code 14 then provided (unused_from 1 ws) (forgetting (at 0 ws))
-    else if eqb code 15 then provided (unused_from 4 ws) (releasing (id_in ws) (at 3 ws))
+    whether eqb code 1 then provided (leb (at 2 ws) 1 && unused_from 8 ws) (enqueuing (entry_in ws) (at 6 ws))
+    else whether eqb code 2 then provided (leb (at 5 ws) 3 && unused_from 7 ws) (joining (spec_in ws) (at 6 ws))
+    else whether eqb code 3 then provided (unused_from 5 ws) (leaving (id_in ws) (signed (at 3 ws)) (at 4 ws))
+    else whether eqb code 4 then provided (ack_words ws) (asking (id_in ws) (acknowledge (ack_in ws) (at 6 ws)))
+    else whether eqb code 5 then provided (unused_from 5 ws) (asking (id_in ws) (pulling (signed (at 3 ws)) (at 4 ws)))
+    else whether eqb code 6 then provided (unused_from 4 ws) (asking (id_in ws) (timed_out (at 3 ws)))
+    else whether eqb code 7 then provided (unused_from 5 ws) (asking (id_in ws) (prefetching (signed (at 3 ws)) (at 4 ws)))
+    else whether eqb code 8 then provided (unused_from 3 ws) (unmarking (id_in ws))
+    else whether eqb code 9 then provided (unused_from 2 ws) (sweeping (at 0 ws) (at 1 ws))
+    else whether eqb code 10 then provided (unused_from 0 ws) clearing
+    else whether eqb code 11 then provided (unused_from 3 ws) (adding (id_in ws))
+    else whether eqb code 12 then provided (unused_from 4 ws) (removing (id_in ws) (at 3 ws))
+    else whether eqb code 13 then provided (unused_from 4 ws) (testing (id_in ws) (at 3 ws))
+    else whether eqb code 14 then provided (unused_from 1 ws) (forgetting (at 0 ws))
+    else whether eqb code 15 then provided (unused_from 4 ws) (releasing (id_in ws) (at 3 ws))
     else none
 
 -- in range, too
@@ -78,7 +78,7 @@ kind_of w = kind_by (eqb w 0)
 
 -- 0 stands for 512
 abbrev pub share_of : ℕ → ℕ
-share_of w = if eqb w 0 then 512 else w
+share_of w = whether eqb w 0 then 512 else w
 
 abbrev pub open_words : List ℕ → Bool
 open_words ws = leb (at 0 ws) 1 && (open_ok (kind_of (at 0 ws)) (at 1 ws) (at 2 ws) (at 3 ws) (at 4 ws) (share_of (at 5 ws)) && unused_from 6 ws)
@@ -88,17 +88,17 @@ opened_by ws = opened (kind_of (at 0 ws)) (at 1 ws) (at 2 ws) (at 3 ws) (at 4 ws
 
 unfoldable pub open_step : Lengths → List ℕ → Dest → Result
 open_step lent ws t =
-    if short lent then refused 1 t
-    else if open_words ws then record { refusal = 0; answer = 0; events = []; dest = opened_by ws }
+    whether short lent then refused 1 t
+    else whether open_words ws then record { refusal = 0; answer = 0; events = []; dest = opened_by ws }
     else refused 3 t
 
 unfoldable pub call_step : Lengths → Dest → Option Call → Result
-call_step lent t none = refused (if short lent then 1 else if sound t then 3 else 2) t
+call_step lent t none = refused (whether short lent then 1 else whether sound t then 3 else 2) t
 call_step lent t (some c) = call lent c t
 
 -- a call of the call file, on lent buffers of these lengths
 unfoldable pub step : Lengths → ℕ → List ℕ → Dest → Result
-step lent code ws t = if eqb code 0 then open_step lent ws t else call_step lent t (decode code ws)
+step lent code ws t = whether eqb code 0 then open_step lent ws t else call_step lent t (decode code ws)
 
 -- opens the definitions of this file
 unfoldable pub words_open : Unit {0}

@@ -9,7 +9,7 @@ use lib.Dec.{ltb, eqb}
 use lib.IntN.{ℤ}
 use lib.ListN.{drop}
 use borrow.Author.Tests.{eqb-true, eqb-false, ne_eqb, le-ltb}
-use Rattle.definition.specs.Base.{if◌then◌else◌, all, is_some}
+use Rattle.definition.specs.Base.{whether◌then◌else◌, all, is_some}
 use Rattle.definition.specs.Types.{Entry, Dest, Event, letter, message, null}
 use Rattle.definition.specs.Calls.{Lengths, state_short, short, Call, Result, refused, refusal, call}
 use Rattle.definition.specs.Words.{at, decode, call_step, step}
@@ -31,7 +31,7 @@ abbrev too_short : Lengths
 too_short = record { head = 0; subs = 0; rows = 0; events = 0 }
 
 abbrev pub down : StationCall → Lent
-down c = record { code = c.code; words = c.words; lengths = if station_short c.lengths then too_short else whole }
+down c = record { code = c.code; words = c.words; lengths = whether station_short c.lengths then too_short else whole }
 
 abbrev pub lifted : ℕ → Reply → StationReply
 lifted j r = record { refusal = r.refusal; answer = r.answer; events = sent_at j r.events }
@@ -98,7 +98,7 @@ module _ (c : StationCall) (s : Station) (x : StationSlot) (y : station_sound s 
   abbrev done : List ℕ → StationResult
   done ws =
       let r = step whole c.code ws x.dest in
-      if eqb r.refusal 0 then accepted_at c.place c.code x r (rejected x.dest (decode c.code ws)) (clock_of (decode c.code ws)) s else station_refused r.refusal s
+      whether eqb r.refusal 0 then accepted_at c.place c.code x r (rejected x.dest (decode c.code ws)) (clock_of (decode c.code ws)) s else station_refused r.refusal s
 
   on : call_on c.place c.code c.words s x ≡ done c.words
   unfolding call_on

@@ -9,7 +9,7 @@ use lib.Dec.{leb, ltb, eqb}
 use lib.ListN.{length, get_or}
 use lib.Seq.{slice, length-slice}
 use borrow.Author.Tests.{ltb-false, ltb-true}
-use Rattle.definition.specs.Base.{if◌then◌else◌, all, up_from}
+use Rattle.definition.specs.Base.{whether◌then◌else◌, all, up_from}
 use Rattle.definition.specs.Types.{Dest}
 use Rattle.definition.specs.Calls.{Lengths, sound, state_short, short, Call, discarding, missing, arguments_ok, own_refusal}
 use Rattle.definition.specs.Words.{at, step}
@@ -31,10 +31,10 @@ use Rattle.definition_station.proofs.Uncoded as Uncoded
 -- ---- refusals
 
 abbrev tested : Bool → Bool → Bool → Bool → ℕ → ℕ
-tested s t z y rest = if s then 1 else if t then 10 else if not z && not y then 2 else rest
+tested s t z y rest = whether s then 1 else whether t then 10 else whether not z && not y then 2 else rest
 
 -- 2 in the place of what comes after 10, where l fails
-pub wrapped-first : (s t z y l : Bool) (n rest : ℕ) → n ≡ tested s t z y rest → (if not s && (not t && (not z && not l)) then 2 else n) ≡ tested s t z (l && y) rest
+pub wrapped-first : (s t z y l : Bool) (n rest : ℕ) → n ≡ tested s t z y rest → (whether not s && (not t && (not z && not l)) then 2 else n) ≡ tested s t z (l && y) rest
 wrapped-first true t z y l n rest e = e
 wrapped-first false true z y l n rest e = e
 wrapped-first false false true y l n rest e = e
@@ -49,11 +49,11 @@ refuses r ps s n f e = record {
   station = λ h. ap (λ (x : StationResult). x.station) (e h);
 }
 
-refusal-if : (w : Bool) (s : Station) (r : StationResult) → (if w then station_refused 2 s else r).refusal ≡ (if w then 2 else r.refusal)
+refusal-if : (w : Bool) (s : Station) (r : StationResult) → (whether w then station_refused 2 s else r).refusal ≡ (whether w then 2 else r.refusal)
 refusal-if true s r = refl
 refusal-if false s r = refl
 
-kept_if : (w : Bool) (s : Station) (r : StationResult) → ((r.refusal ≡ 0 → ⊥) → r ≡ station_refused r.refusal s) → let q = (if w then station_refused 2 s else r) in (q.refusal ≡ 0 → ⊥) → q ≡ station_refused q.refusal s
+kept_if : (w : Bool) (s : Station) (r : StationResult) → ((r.refusal ≡ 0 → ⊥) → r ≡ station_refused r.refusal s) → let q = (whether w then station_refused 2 s else r) in (q.refusal ≡ 0 → ⊥) → q ≡ station_refused q.refusal s
 kept_if true s r h n = refl
 kept_if false s r h n = h n
 

@@ -5,7 +5,7 @@ use mathlib.Core.Bool.{Bool, true, false}
 use mathlib.Core.List.{List, [], ◌∷◌, ◌++◌}
 use mathlib.Core.Option.{Option, none, some}
 use lib.Dec.{ltb, eqb}
-use Rattle.definition.specs.Base.{if◌then◌else◌}
+use Rattle.definition.specs.Base.{whether◌then◌else◌}
 use Rattle.definition.specs.Types.{Entry, Dest}
 use Rattle.definition.specs.Calls.{enqueuing, call}
 use Rattle.definition.proofs.Tests.{by-if, by-test, if-true, if-false}
@@ -19,7 +19,7 @@ module _ (f : Station → Station) (same : (k : ℕ) (s : Station) → slot_of k
   abbrev lift : RanLetters → RanLetters
   lift r = record { station = f r.station; events = r.events }
 
-  if-lift : (b : Bool) (p q u v : RanLetters) → u ≡ lift p → v ≡ lift q → (if b then u else v) ≡ lift (if b then p else q)
+  if-lift : (b : Bool) (p q u v : RanLetters) → u ≡ lift p → v ≡ lift q → (whether b then u else v) ≡ lift (whether b then p else q)
   if-lift true p q u v g h = g
   if-lift false p q u v g h = h
 

@@ -11,7 +11,7 @@ use lib.Dec.{leb, ltb}
 use lib.ListN.{length, get_or, set, length-set}
 use lib.Seq.{get_or-set_same, get_or-set_other}
 use borrow.Author.Tests.{leb-true, le-leb, ltb-true, lt-ltb, eqb-true, eq-eqb}
-use Rattle.definition.specs.Base.{if◌then◌else◌, all}
+use Rattle.definition.specs.Base.{whether◌then◌else◌, all}
 use Rattle.definition.specs.Calls.{sound}
 use Rattle.definition.specs.Types.{Dest}
 use Rattle.definition.proofs.Tests.{by-test, and_left, and_right, and_both}
@@ -96,7 +96,7 @@ dest-facts k x t s f e h = put-facts k (some (with_dest t x)) s f (and_both (sou
 pub took-facts : (s : Station) → Facts s → s.next < 2 ^ 63 → Facts (took_number s)
 took-facts s f h = record { eight = f.eight; slots = f.slots; low = omega (arith, f.low); high = omega (arith, h); few = f.few }
 
-lost-few : (n : ℕ) → n < 2 ^ 63 → (if ltb (n + 1) (2 ^ 63) then n + 1 else n) < 2 ^ 63
+lost-few : (n : ℕ) → n < 2 ^ 63 → (whether ltb (n + 1) (2 ^ 63) then n + 1 else n) < 2 ^ 63
 lost-few n h = by-test (ltb (n + 1) (2 ^ 63)) (λ c. rw c (ltb-true (n + 1) (2 ^ 63) c)) (λ c. rw c h)
 
 pub losing-facts : (s : Station) → Facts s → Facts (losing_letter s)

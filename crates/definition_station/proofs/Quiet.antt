@@ -8,7 +8,7 @@ use lib.Dec.{ltb, eqb}
 use lib.IntN.{ℤ, pos}
 use lib.Signed.{lt_z}
 use Rattle.audit.specs.Audit.{seen}
-use Rattle.definition.specs.Base.{if◌then◌else◌, keep, nth, empty}
+use Rattle.definition.specs.Base.{whether◌then◌else◌, keep, nth, empty}
 use Rattle.definition.specs.Types.{Kind, queue, topic, Id, Entry, Inflight, Sub, Audit, Dest, Event, letter, message, null}
 use Rattle.definition.specs.Consumer.{zero_stats, expired, is_browser, snapshot, has_credit, dead_letters, Ack, AckType, Delivered, Poison, Standard, Redelivered, Individual, Unmatched, Expired, Other, ack_type, ack_range, ack_plain, ack_sub, Step, meet_topic, drain_topic, at_rest, serve_topic, Browse, meet_browser, close_browser, drain_browser, dispatch_browser}
 use Rattle.definition.specs.Destination.{due, Out, Answer, Look, look, given, visit_at, visit, scan, turns, rounds, browsers, dispatch_queue, serve_all, dispatch_topic, dispatch_by, count, stored, fanned_out, enqueue_by, sub_of, put_sub, touch_idle, add_sub, set_prefetch, reserved_of, reserved_hit, letters, reserved_events, ack_reserved, ack_at, ack, pulled, resumed, pull_at, pull, fired, timeout_at, pull_timeout, remove_at, remove_sub, return_reserved, sweep_list, sweep_subs, sweep_expired, clear, test_at, is_duplicate}
@@ -99,7 +99,7 @@ dispatch-quiet queue now t = by-test (empty t.subs) (λ c. rw c (still refl)) (�
 abbrev shown : List Entry → List (ℕ × ℤ)
 shown es = map (λ e. (e.seq, e.redelivery)) es
 
-if-shown : (b : Bool) (x y : List Event) (u v : List Entry) → letters_in x ≡ shown u → letters_in y ≡ shown v → letters_in (if b then x else y) ≡ shown (if b then u else v)
+if-shown : (b : Bool) (x y : List Event) (u v : List Entry) → letters_in x ≡ shown u → letters_in y ≡ shown v → letters_in (whether b then x else y) ≡ shown (whether b then u else v)
 if-shown true x y u v p q = p
 if-shown false x y u v p q = q
 
@@ -114,9 +114,9 @@ letters-shown (e ∷ l) = if-shown e.persistent (letter e.seq e.redelivery false
 
 -- of a present consumer
 abbrev rejected_from : Ack → Sub → List Entry
-rejected_from a s = if is_browser s then [] else lasting (map (λ f. f.entry) (keep (ack_range s a false) s.inflight))
+rejected_from a s = whether is_browser s then [] else lasting (map (λ f. f.entry) (keep (ack_range s a false) s.inflight))
 
-plain-shown : (y : AckType) (a : Ack) (s : Sub) → letters_in (ack_plain a s y).events ≡ shown (if is_poison y then rejected_from a s else [])
+plain-shown : (y : AckType) (a : Ack) (s : Sub) → letters_in (ack_plain a s y).events ≡ shown (whether is_poison y then rejected_from a s else [])
 unfolding ack_plain
 plain-shown Poison a s = if-shown (is_browser s) [] (dead_letters a.cause (keep (ack_range s a false) s.inflight)) [] (lasting (map (λ f. f.entry) (keep (ack_range s a false) s.inflight))) refl (dead-shown a.cause (keep (ack_range s a false) s.inflight))
 plain-shown Delivered a s = refl
@@ -127,16 +127,16 @@ plain-shown Unmatched a s = refl
 plain-shown Expired a s = refl
 plain-shown Other a s = refl
 
-unless : (tx p : Bool) (x y : Step) (u : List Entry) → letters_in x.events ≡ [] → letters_in y.events ≡ shown (if p then u else []) → letters_in (if tx then x else y).events ≡ shown (if not tx && p then u else [])
+unless : (tx p : Bool) (x y : Step) (u : List Entry) → letters_in x.events ≡ [] → letters_in y.events ≡ shown (whether p then u else []) → letters_in (whether tx then x else y).events ≡ shown (whether not tx && p then u else [])
 unless true p x y u q h = q
 unless false p x y u q h = h
 
-present-shown : (a : Ack) (s : Sub) → letters_in (ack_sub a s).events ≡ shown (if not a.transacted && is_poison (ack_type a.type) then rejected_from a s else [])
+present-shown : (a : Ack) (s : Sub) → letters_in (ack_sub a s).events ≡ shown (whether not a.transacted && is_poison (ack_type a.type) then rejected_from a s else [])
 unfolding ack_sub
 present-shown a s = unless a.transacted (is_poison (ack_type a.type)) _ _ (rejected_from a s) refl (plain-shown (ack_type a.type) a s)
 
 -- of an absent one
-reserved-shown : (y : AckType) (l : List Entry) → letters_in (reserved_events l y) ≡ shown (if is_poison y then lasting l else [])
+reserved-shown : (y : AckType) (l : List Entry) → letters_in (reserved_events l y) ≡ shown (whether is_poison y then lasting l else [])
 unfolding reserved_events
 reserved-shown Poison l = letters-shown l
 reserved-shown Delivered l = refl
@@ -147,11 +147,11 @@ reserved-shown Unmatched l = refl
 reserved-shown Expired l = refl
 reserved-shown Other l = refl
 
-if_none : (b : Bool) → ◌≡◌ {A = List (ℕ × ℤ)} [] (shown (if b then [] else []))
+if_none : (b : Bool) → ◌≡◌ {A = List (ℕ × ℤ)} [] (shown (whether b then [] else []))
 if_none true = refl
 if_none false = refl
 
-taken-shown : (i : Id) (a : Ack) (t : Dest) (o : Option ℕ) → letters_in (ack_reserved i a t o).events ≡ shown (if is_poison (ack_type a.type) then lasting (taken_reserved i a t o) else [])
+taken-shown : (i : Id) (a : Ack) (t : Dest) (o : Option ℕ) → letters_in (ack_reserved i a t o).events ≡ shown (whether is_poison (ack_type a.type) then lasting (taken_reserved i a t o) else [])
 unfolding ack_reserved
 taken-shown i a t none = if_none (is_poison (ack_type a.type))
 taken-shown i a t (some last) = reserved-shown (ack_type a.type) (keep (λ e. reserved_hit a.first last e (ack_type a.type)) (reserved_of i t))
@@ -161,12 +161,12 @@ none-taken : (i : Id) (a : Ack) (t : Dest) (o : Option ℕ) → empty (reserved_
 none-taken i a t none h = refl
 none-taken i a t (some last) h = ap (λ (l : List Entry). lasting (keep (λ e. reserved_hit a.first last e (ack_type a.type)) l)) (empty-nil (reserved_of i t) h)
 
-absent-cases : (tx e p : Bool) (x y : Out) (u : List Entry) → letters_in x.events ≡ [] → (e ≡ true → u ≡ []) → letters_in y.events ≡ shown (if p then u else []) → letters_in (if tx || e then x else y).events ≡ shown (if not tx && p then u else [])
+absent-cases : (tx e p : Bool) (x y : Out) (u : List Entry) → letters_in x.events ≡ [] → (e ≡ true → u ≡ []) → letters_in y.events ≡ shown (whether p then u else []) → letters_in (whether tx || e then x else y).events ≡ shown (whether not tx && p then u else [])
 absent-cases true e p x y u q n h = q
-absent-cases false true p x y u q n h = q ∙ if_none p ∙ ap (λ (l : List Entry). shown (if p then l else [])) (sym (n refl))
+absent-cases false true p x y u q n h = q ∙ if_none p ∙ ap (λ (l : List Entry). shown (whether p then l else [])) (sym (n refl))
 absent-cases false false p x y u q n h = h
 
-ack-shown : (now : ℕ) (i : Id) (a : Ack) (t : Dest) (o : Option Sub) → letters_in (ack_at now i a t o).events ≡ shown (if not a.transacted && is_poison (ack_type a.type) then rejected_of i a t o else [])
+ack-shown : (now : ℕ) (i : Id) (a : Ack) (t : Dest) (o : Option Sub) → letters_in (ack_at now i a t o).events ≡ shown (whether not a.transacted && is_poison (ack_type a.type) then rejected_of i a t o else [])
 unfolding ack_at rejected_of
 ack-shown now i a t none = absent-cases a.transacted (empty (reserved_of i t)) (is_poison (ack_type a.type)) _ _ (lasting (taken_reserved i a t a.last)) refl (none-taken i a t a.last)
     (letters-append (ack_reserved i a t a.last).events _ ∙ rw ((dispatch-quiet (touch_idle now (ack_reserved i a t a.last).dest).kind (due now (touch_idle now (ack_reserved i a t a.last).dest)) (touch_idle now (ack_reserved i a t a.last).dest)).none, append-nil (letters_in (ack_reserved i a t a.last).events)) (taken-shown i a t a.last))

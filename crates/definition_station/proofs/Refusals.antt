@@ -6,7 +6,7 @@ use mathlib.Core.List.{List, [], ◌∷◌}
 use mathlib.Core.Option.{Option, none, some}
 use lib.Dec.{leb, ltb, eqb}
 use borrow.Author.Tests.{eqb-true}
-use Rattle.definition.specs.Base.{if◌then◌else◌, all, is_some}
+use Rattle.definition.specs.Base.{whether◌then◌else◌, all, is_some}
 use Rattle.definition.specs.Calls.{short, state_short, sound}
 use Rattle.definition.specs.Words.{step}
 use Rattle.definition.specs.Refusals.{◌when◌, arguments_right}
@@ -31,19 +31,19 @@ unfolding open_at
 open-first k ws s o = by-test (opens_right ws) (λ c. rw c (sym (open_own ws o))) (λ c. rw c)
 
 -- the destination's own refusal, on its buffers lent whole
-own_first : (code : ℕ) (ws : List ℕ) (x : StationSlot) → sound x.dest ≡ true → eqb code 0 ≡ false → (step whole code ws x.dest).refusal ≡ (if not (arguments_right code ws) then 3 else first_of (own_places code ws (some x)))
+own_first : (code : ℕ) (ws : List ℕ) (x : StationSlot) → sound x.dest ≡ true → eqb code 0 ≡ false → (step whole code ws x.dest).refusal ≡ (whether not (arguments_right code ws) then 3 else first_of (own_places code ws (some x)))
 unfolding short state_short
 own_first code ws x y z = step-first whole code ws x.dest ∙ rw (y, z)
 
 -- 3 of the station's own, and then the destination's
-both_first : (c a : Bool) (r rest : ℕ) (s : Station) (done : StationResult) → done.refusal ≡ 0 → r ≡ (if not a then 3 else rest) → (if c then station_refused 3 s else if eqb r 0 then done else station_refused r s).refusal ≡ (if not (not c && a) then 3 else rest)
+both_first : (c a : Bool) (r rest : ℕ) (s : Station) (done : StationResult) → done.refusal ≡ 0 → r ≡ (whether not a then 3 else rest) → (whether c then station_refused 3 s else whether eqb r 0 then done else station_refused r s).refusal ≡ (whether not (not c && a) then 3 else rest)
 both_first true a r rest s done d e = refl
-both_first false a r rest s done d e = by-if (λ (q : StationResult). q.refusal ≡ (if not a then 3 else rest)) (eqb r 0) done (station_refused r s) (λ c. d ∙ sym (eqb-true r 0 c) ∙ e) (λ c. e)
+both_first false a r rest s done d e = by-if (λ (q : StationResult). q.refusal ≡ (whether not a then 3 else rest)) (eqb r 0) done (station_refused r s) (λ c. d ∙ sym (eqb-true r 0 c) ∙ e) (λ c. e)
 
 on-first : (k code : ℕ) (ws : List ℕ) (s : Station) (x : StationSlot) → sound x.dest ≡ true → eqb code 0 ≡ false → (call_on k code ws s x).refusal ≡ first_of (3 when not (station_arguments code ws s) ∷ own_places code (carried code ws s) (some x))
 unfolding call_on accepted_at
 on-first k code ws s x y z = both_first (carries_number code ws) (arguments_right code (carried code ws s)) (step whole code (carried code ws s) x.dest).refusal (first_of (own_places code (carried code ws s) (some x))) s _ refl (own_first code (carried code ws s) x y z)
-    ∙ ap (λ (b : Bool). if not b then 3 else first_of (own_places code (carried code ws s) (some x))) (sym (if-false (opens_right ws) (not (carries_number code ws) && arguments_right code (carried code ws s)) z))
+    ∙ ap (λ (b : Bool). whether not b then 3 else first_of (own_places code (carried code ws s) (some x))) (sym (if-false (opens_right ws) (not (carries_number code ws) && arguments_right code (carried code ws s)) z))
 
 at_first : (k code : ℕ) (ws : List ℕ) (s : Station) (o : Option StationSlot) → slot_of k s ≡ o → not_there k code s ≡ false → station_sound s ≡ true → eqb code 0 ≡ false → (station_call_at k code ws s o).refusal ≡ first_of (3 when not (station_arguments code ws s) ∷ own_places code (carried code ws s) o)
 unfolding station_call_at
@@ -59,7 +59,7 @@ station-first lent k code ws s = ifs (station_short lent) 1 s _ _ (λ a. ifs (no
     rest : ℕ
     rest = first_of (3 when not (station_arguments code ws s) ∷ own_places code (carried code ws s) (slot_of k s))
 
-    ifs : (b : Bool) (n : ℕ) (s : Station) (r : StationResult) (m : ℕ) → (b ≡ false → r.refusal ≡ m) → (if b then station_refused n s else r).refusal ≡ (if b then n else m)
+    ifs : (b : Bool) (n : ℕ) (s : Station) (r : StationResult) (m : ℕ) → (b ≡ false → r.refusal ≡ m) → (whether b then station_refused n s else r).refusal ≡ (whether b then n else m)
     ifs true n s r m h = refl
     ifs false n s r m h = h refl
 

@@ -7,7 +7,7 @@ use mathlib.Core.List.{List, [], ◌∷◌, map}
 use mathlib.Core.Option.{Option, none, some}
 use lib.Dec.{eqb}
 use lib.ListN.{length, length-map}
-use Rattle.definition.specs.Base.{if◌then◌else◌, keep}
+use Rattle.definition.specs.Base.{whether◌then◌else◌, keep}
 use Rattle.definition.specs.Types.{Id, Entry, Sub, Dest}
 use Rattle.definition.specs.Consumer.{is_browser, ack_type, Ack, ack_range}
 use Rattle.definition.specs.Destination.{is_id, held_by, sub_of, reserved_of, reserved_hit}
@@ -57,7 +57,7 @@ silent-given t b c h = by-if (Silent t) b (some c) none (λ _. by-if (λ (o : Op
 pub other-silent : (code : ℕ) (ws : List ℕ) (t : Dest) → eqb code 4 ≡ false → Silent t (read code ws)
 unfolding read rejected
 other-silent code ws t n =
-    let next : (k : ℕ) (b : Bool) (c : Call) (o : Option Call) → rejected t (some c) ≡ [] → Silent t o → Silent t (if eqb code k then provided b c else o) =
+    let next : (k : ℕ) (b : Bool) (c : Call) (o : Option Call) → rejected t (some c) ≡ [] → Silent t o → Silent t (whether eqb code k then provided b c else o) =
     λ k b c o h r. by-if (Silent t) (eqb code k) (provided b c) o (λ _. silent-given t b c h) (λ _. r) in
     next 1 _ _ _ refl (next 2 _ _ _ refl (next 3 _ _ _ refl (rw n (
     next 5 _ _ _ refl (next 6 _ _ _ refl (next 7 _ _ _ refl (next 8 _ _ _ refl (next 9 _ _ _ refl (next 10 _ _ _ refl

@@ -9,7 +9,7 @@ use lib.Dec.{leb, eqb}
 use lib.ListN.{get_or, drop, replicate}
 use lib.Seq.{set-set}
 use borrow.Author.Tests.{eqb-true, ltb-true, ne_eqb}
-use Rattle.definition.specs.Base.{if◌then◌else◌}
+use Rattle.definition.specs.Base.{whether◌then◌else◌}
 use Rattle.definition.specs.Types.{Entry, Dest}
 use Rattle.definition.specs.Calls.{Lengths, state_short, short, sound, enqueuing, arguments_ok, entry_ok, Result, call}
 use Rattle.definition.specs.Words.{at, open_words, opened_by, provided, ranged_call, read, decode, entry_in, open_step, call_step, step}
@@ -36,7 +36,7 @@ pub record Passed (lent : StationLengths) (k code : ℕ) (ws : List ℕ) (s : St
   pub result : station_step lent k code ws s ≡ accepted_at k code slot (step whole code (carried code ws s) slot.dest) (rejected slot.dest (decode code (carried code ws s))) (clock_of (decode code (carried code ws s))) s
 
 -- by its two cases, an if that is accepted was not the refusal
-pub past : (b : Bool) (n : ℕ) (s : Station) (r : StationResult) → (if b then station_refused n s else r).refusal ≡ 0 → 1 ≤ n → (b ≡ false) × ((if b then station_refused n s else r) ≡ r) × (r.refusal ≡ 0)
+pub past : (b : Bool) (n : ℕ) (s : Station) (r : StationResult) → (whether b then station_refused n s else r).refusal ≡ 0 → 1 ≤ n → (b ≡ false) × ((whether b then station_refused n s else r) ≡ r) × (r.refusal ≡ 0)
 past true n s r h m = absurd (omega (arith, h, m))
 past false n s r h m = (refl, refl, h)
 

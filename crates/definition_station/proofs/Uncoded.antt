@@ -7,7 +7,7 @@ use mathlib.Core.Option.{Option, none, some}
 use lib.Dec.{leb, ltb, eqb}
 use lib.ListN.{length, length-map}
 use borrow.Author.Tests.{eqb-true}
-use Rattle.definition.specs.Base.{if◌then◌else◌, all, is_some}
+use Rattle.definition.specs.Base.{whether◌then◌else◌, all, is_some}
 use Rattle.definition.specs.Types.{Dest}
 use Rattle.definition.specs.Calls.{short, state_short, sound, Call, discarding, missing, arguments_ok, own_refusal, refusal, call}
 use Rattle.definition.proofs.Tests.{by-if, by-test, or-no-right}
@@ -33,8 +33,8 @@ at-counted : (lent : StationLengths) (k : ℕ) (c : Call) (s : Station) (o : Opt
 unfolding uncoded_at
 at-counted lent k c s none y q e = λ h. absurd (omega (arith, h))
 at-counted lent k c s (some x) y q e = by-test (eqb (call whole c x.dest).refusal 0)
-    (λ d h. record { is-sound = y; slot = x; there = q; own = eqb-true _ 0 d; left = ap (λ (r : StationResult). r.station) e ∙ ap (λ (b : Bool). (if b then record { refusal = 0; answer = (call whole c x.dest).answer; events = sent_at k (call whole c x.dest).events; station = put_dest k x (call whole c x.dest).dest s } else station_refused (call whole c x.dest).refusal s).station) d })
-    (λ d h. absurd (true≢false (sym (ap (λ (n : ℕ). eqb n 0) (sym (ap (λ (b : Bool). (if b then record { refusal = 0; answer = (call whole c x.dest).answer; events = sent_at k (call whole c x.dest).events; station = put_dest k x (call whole c x.dest).dest s } else station_refused (call whole c x.dest).refusal s).refusal) d) ∙ h)) ∙ d)))
+    (λ d h. record { is-sound = y; slot = x; there = q; own = eqb-true _ 0 d; left = ap (λ (r : StationResult). r.station) e ∙ ap (λ (b : Bool). (whether b then record { refusal = 0; answer = (call whole c x.dest).answer; events = sent_at k (call whole c x.dest).events; station = put_dest k x (call whole c x.dest).dest s } else station_refused (call whole c x.dest).refusal s).station) d })
+    (λ d h. absurd (true≢false (sym (ap (λ (n : ℕ). eqb n 0) (sym (ap (λ (b : Bool). (whether b then record { refusal = 0; answer = (call whole c x.dest).answer; events = sent_at k (call whole c x.dest).events; station = put_dest k x (call whole c x.dest).dest s } else station_refused (call whole c x.dest).refusal s).refusal) d) ∙ h)) ∙ d)))
 
 pub counted : (lent : StationLengths) (k : ℕ) (c : Call) (s : Station) → (station_uncoded lent k c s).refusal ≡ 0 → Counted lent k c s
 unfolding station_uncoded
@@ -65,7 +65,7 @@ uncoded-sends lent k c s = by-if (λ (r : StationResult). length r.events ≤ 48
 
 -- ---- refusals
 
-own_first : (c : Call) (t : Dest) → arguments_ok c ≡ true → own_refusal t c ≡ 0 → sound t ≡ true → (call whole c t).refusal ≡ (if eqb t.calls_used t.call_limit then 9 else 0)
+own_first : (c : Call) (t : Dest) → arguments_ok c ≡ true → own_refusal t c ≡ 0 → sound t ≡ true → (call whole c t).refusal ≡ (whether eqb t.calls_used t.call_limit then 9 else 0)
 unfolding call refusal short state_short
 own_first c t a o y = by-test (eqb t.calls_used t.call_limit) (λ e. rw (y, a, e)) (λ e. rw (y, a, e, o))
 
@@ -80,7 +80,7 @@ pub uncoded-first : (lent : StationLengths) (k : ℕ) (c : Call) (s : Station) �
 unfolding station_uncoded
 uncoded-first lent k c s a = ifs (station_short lent) 1 s _ _ (λ p. ifs (not_there k 1 s) 10 s _ _ (λ b. ifs (not (station_sound s)) 2 s _ _ (λ d. at_first k c s (slot_of k s) refl b (holds (station_sound s) d) a)))
   where
-    ifs : (b : Bool) (n : ℕ) (s : Station) (r : StationResult) (m : ℕ) → (b ≡ false → r.refusal ≡ m) → (if b then station_refused n s else r).refusal ≡ (if b then n else m)
+    ifs : (b : Bool) (n : ℕ) (s : Station) (r : StationResult) (m : ℕ) → (b ≡ false → r.refusal ≡ m) → (whether b then station_refused n s else r).refusal ≡ (whether b then n else m)
     ifs true n s r m h = refl
     ifs false n s r m h = h refl
 

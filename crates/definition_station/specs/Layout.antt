@@ -4,7 +4,7 @@
 use Rattle.std.specs.Prelude.{ℕ, ◌+◌, ◌*◌, Bool, not, ◌&&◌, ◌||◌, List, ◌∷◌, map, eqb, length, drop}
 use Rattle.std.proofs.Math.Option.{Option, none, some}
 use Rattle.std.proofs.Math.Seq.{slice}
-use Rattle.definition.specs.Base.{if◌then◌else◌, all, up_from}
+use Rattle.definition.specs.Base.{whether◌then◌else◌, all, up_from}
 use Rattle.definition.specs.Calls.{Call}
 use Rattle.definition.specs.Words.{at}
 use Rattle.definition.specs.Layout.{Row, Buffers, flag, is_mark, view, formed, event_words}
@@ -42,7 +42,7 @@ is_open k b = flag (at k b.own)
 -- ---- what they hold
 
 unfoldable pub slot_at : StationBuffers → ℕ → Option StationSlot
-slot_at b k = if is_open k b then some (record { dest = view (part k b); name = at (name_word k) b.own }) else none
+slot_at b k = whether is_open k b then some (record { dest = view (part k b); name = at (name_word k) b.own }) else none
 
 unfoldable pub station_view : StationBuffers → Station
 station_view b = record { slots = map (slot_at b) (up_from 0 8); next = at next_word b.own; lost = at lost_word b.own }
@@ -78,13 +78,13 @@ unformed b events k code = not (station_short (station_lengths_of b events)) && 
 -- what a station call gets, with an event list of so many events, and the station that it leaves
 unfoldable pub buffer_station_step : StationBuffers → ℕ → ℕ → ℕ → List ℕ → StationResult
 buffer_station_step b events k code ws =
-    if unformed b events k code then station_refused 2 (station_view b)
+    whether unformed b events k code then station_refused 2 (station_view b)
     else station_step (station_lengths_of b events) k code ws (station_view b)
 
 -- what one of the two calls without a code gets
 unfoldable pub buffer_station_uncoded : StationBuffers → ℕ → ℕ → Call → StationResult
 buffer_station_uncoded b events k c =
-    if unformed b events k 1 then station_refused 2 (station_view b)
+    whether unformed b events k 1 then station_refused 2 (station_view b)
     else station_uncoded (station_lengths_of b events) k c (station_view b)
 
 -- opens the definitions of this file

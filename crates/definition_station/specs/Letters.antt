@@ -1,7 +1,7 @@
 -- Dead letters (document 02, §1): `run_effects` and `to_dlq` of src/broker/mod.rs, which call each other. Assumes nothing.
 use Rattle.std.specs.Prelude.{ℕ, zero, suc, Bool, true, false, not, ◌&&◌, List, [], ◌∷◌, ◌++◌, map, ltb, eqb}
 use Rattle.std.proofs.Math.Option.{Option, none, some}
-use Rattle.definition.specs.Base.{if◌then◌else◌, keep}
+use Rattle.definition.specs.Base.{whether◌then◌else◌, keep}
 use Rattle.definition.specs.Types.{Id, Entry, Sub, Dest}
 use Rattle.definition.specs.Consumer.{is_browser, AckType, Delivered, Poison, Standard, Redelivered, Individual, Unmatched, Expired, Other, ack_type, Ack, ack_range}
 use Rattle.definition.specs.Destination.{sub_of, reserved_of, reserved_hit}
@@ -31,10 +31,10 @@ taken_reserved i a t (some last) = keep (λ e. reserved_hit a.first last e (ack_
 -- "a persistent entry rejected by POISON": of an absent consumer's reserved rows, or of a present one that is no browser; in the order of the `x` events
 unfoldable pub rejected_of : Id → Ack → Dest → Option Sub → List Entry
 rejected_of i a t none = lasting (taken_reserved i a t a.last)
-rejected_of i a t (some s) = if is_browser s then [] else lasting (map (λ f. f.entry) (keep (ack_range s a false) s.inflight))
+rejected_of i a t (some s) = whether is_browser s then [] else lasting (map (λ f. f.entry) (keep (ack_range s a false) s.inflight))
 
 unfoldable pub rejected_by : Id → Ack → Dest → List Entry
-rejected_by i a t = if not a.transacted && is_poison (ack_type a.type) then rejected_of i a t (sub_of i t) else []
+rejected_by i a t = whether not a.transacted && is_poison (ack_type a.type) then rejected_of i a t (sub_of i t) else []
 
 -- the dead letters that a call makes where it is accepted
 unfoldable pub rejected : Dest → Option Call → List Entry
@@ -90,7 +90,7 @@ number_letters [] s = record { letters = []; station = s }
 number_letters (e ∷ es) s =
     let given = number_letters es (took_number s) in
     let left = number_letters es (losing_letter s) in
-    if ltb s.next numbers_end then record { letters = with_seq s.next e ∷ given.letters; station = given.station }
+    whether ltb s.next numbers_end then record { letters = with_seq s.next e ∷ given.letters; station = given.station }
     else left
 
 -- ---- storing one, and running some
@@ -118,7 +118,7 @@ stored_at on now k e s (some x) =
     let r = call whole (enqueuing e now) x.dest in
     let stored : RanLetters = record { station = put_dest k x r.dest s; events = sent_at k r.events } in
     let passed : RanLetters = on x.name s in
-    if eqb r.refusal 0 then stored else passed
+    whether eqb r.refusal 0 then stored else passed
 
 -- `to_dlq`: hops left, clock, the name, the letter. "eight hops at most, and is then counted as lost"; 8 is no place, so "where none is named the
 -- letter is lost"
@@ -142,7 +142,7 @@ one_by_one now k (e ∷ es) s =
     let later = one_by_one now k es here.station in
     let done : RanLetters = record { station = later.station; events = here.events ++ later.events } in
     let without = one_by_one now k es (losing_letter s) in
-    if ltb s.next numbers_end then done else without
+    whether ltb s.next numbers_end then done else without
 
 -- opens the definitions of this file
 unfoldable pub letters_open : Unit {0}

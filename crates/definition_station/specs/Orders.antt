@@ -1,7 +1,7 @@
 -- Calls that change places, on a station: what document 02, §1 asks of a list of codes 4 to 7 that makes no dead letter. Assumes nothing.
 use Rattle.std.specs.Prelude.{ℕ, ◌-◌, ◌≤◌, ◌≡◌, Bool, true, false, not, ◌&&◌, ◌||◌, List, [], ◌∷◌, eqb, length}
 use Rattle.std.proofs.Math.Option.{some}
-use Rattle.definition.specs.Base.{if◌then◌else◌, keep, all, is_some}
+use Rattle.definition.specs.Base.{whether◌then◌else◌, keep, all, is_some}
 use Rattle.definition.specs.Types.{Id, Event, letter, message, null}
 use Rattle.definition.specs.Consumer.{same_id}
 use Rattle.definition.specs.Destination.{sub_of}
@@ -14,7 +14,7 @@ use Rattle.definition_station.specs.Station.{StationLengths, StationResult, stat
 
 -- whether a destination's calls since its latest open have a clear among them: an open of the place begins anew
 abbrev pub cleared_by : ℕ → ℕ → (ℕ → Bool) → ℕ → Bool
-cleared_by k code cleared j = if eqb j k then not (eqb code 0) && (eqb code 10 || cleared j) else cleared j
+cleared_by k code cleared j = whether eqb j k then not (eqb code 0) && (eqb code 10 || cleared j) else cleared j
 
 -- as accepted calls left it, from the station's start on; for each destination, whether a clear is among its calls since its latest open
 pub data ReachedStation : (ℕ → Bool) → Station → Type 0 where

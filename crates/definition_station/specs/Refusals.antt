@@ -2,7 +2,7 @@
 -- Assumes nothing.
 use Rattle.std.specs.Prelude.{ℕ, ◌≡◌, Bool, true, false, not, ◌&&◌, List, [], ◌∷◌, eqb, drop}
 use Rattle.std.proofs.Math.Option.{Option, none, some}
-use Rattle.definition.specs.Base.{if◌then◌else◌}
+use Rattle.definition.specs.Base.{whether◌then◌else◌}
 use Rattle.definition.specs.Calls.{discarding, missing}
 use Rattle.definition.specs.Refusals.{CheckPlace, ◌when◌, arguments_right, table, Exact}
 use Rattle.definition_station.specs.Types.{StationSlot, Station, slot_of}
@@ -11,7 +11,7 @@ use Rattle.definition_station.specs.Station.{StationLengths, station_short, stat
 
 -- an open's words are an open's, its dead-letter name 0 to 8; a direct enqueue carries no number, and one is left; the rest as of a destination
 abbrev pub station_arguments : ℕ → List ℕ → Station → Bool
-station_arguments code ws s = if eqb code 0 then opens_right ws else not (carries_number code ws) && arguments_right code (carried code ws s)
+station_arguments code ws s = whether eqb code 0 then opens_right ws else not (carries_number code ws) && arguments_right code (carried code ws s)
 
 -- the places after 3 (9, 4, 14, 5, 6, 7, 5, 8, 8) of the destination's own table
 abbrev pub own_places : ℕ → List ℕ → Option StationSlot → List CheckPlace

@@ -1,7 +1,7 @@
 -- Station calls (document 02, §1): what a sound station is, and what a call gets and leaves. Assumes nothing.
 use Rattle.std.specs.Prelude.{ℕ, ◌*◌, ◌^◌, Bool, true, not, ◌&&◌, ◌||◌, List, [], ◌∷◌, ◌++◌, leb, ltb, eqb, length, set, drop}
 use Rattle.std.proofs.Math.Option.{Option, none, some}
-use Rattle.definition.specs.Base.{if◌then◌else◌, all, every, is_some}
+use Rattle.definition.specs.Base.{whether◌then◌else◌, all, every, is_some}
 use Rattle.definition.specs.Types.{Entry, Dest}
 use Rattle.definition.specs.Calls.{Result, sound, Call, call}
 use Rattle.definition.specs.Words.{at, open_words, opened_by, decode, step}
@@ -63,7 +63,7 @@ station_refused n s = record { refusal = n; answer = 0; events = []; station = s
 
 -- "Starting a station needs no sound state and leaves none open"
 unfoldable pub station_start : StationLengths → Station → StationResult
-station_start lent s = if station_short lent then station_refused 1 s else record { refusal = 0; answer = 0; events = []; station = started }
+station_start lent s = whether station_short lent then station_refused 1 s else record { refusal = 0; answer = 0; events = []; station = started }
 
 -- an open's words, its dead-letter name (word 6, 0 to 8) apart
 abbrev pub opening_words : List ℕ → List ℕ
@@ -77,20 +77,20 @@ opened_slot ws = record { dest = opened_by (opening_words ws); name = at 6 ws }
 
 unfoldable pub open_at : ℕ → List ℕ → Station → StationResult
 open_at k ws s =
-    if opens_right ws then record { refusal = 0; answer = 0; events = []; station = put_slot k (some (opened_slot ws)) s }
+    whether opens_right ws then record { refusal = 0; answer = 0; events = []; station = put_slot k (some (opened_slot ws)) s }
     else station_refused 3 s
 
 -- "Direct enqueues take station numbers too, and carry none": their word 0 is 0, and the next number stands there for the destination.
 -- (2^63 is no sequence number: "with no number left they get 3".)
 abbrev pub carried : ℕ → List ℕ → Station → List ℕ
-carried code ws s = if eqb code 1 then s.next ∷ drop 1 ws else ws
+carried code ws s = whether eqb code 1 then s.next ∷ drop 1 ws else ws
 
 abbrev pub carries_number : ℕ → List ℕ → Bool
 carries_number code ws = eqb code 1 && not (eqb (at 0 ws) 0)
 
 -- what the destination's own call leaves of the station, before its dead letters are run; an accepted enqueue has taken its number
 abbrev pub called : ℕ → ℕ → StationSlot → Dest → Station → Station
-called k code x t s = if eqb code 1 then took_number (put_dest k x t s) else put_dest k x t s
+called k code x t s = whether eqb code 1 then took_number (put_dest k x t s) else put_dest k x t s
 
 -- the call is accepted: its dead letters are numbered and run, from the name of its destination
 unfoldable pub accepted_at : ℕ → ℕ → StationSlot → Result → List Entry → ℕ → Station → StationResult
@@ -104,8 +104,8 @@ unfoldable pub call_on : ℕ → ℕ → List ℕ → Station → StationSlot �
 call_on k code ws s x =
     let r = step whole code (carried code ws s) x.dest in
     let done = accepted_at k code x r (rejected x.dest (decode code (carried code ws s))) (clock_of (decode code (carried code ws s))) s in
-    if carries_number code ws then station_refused 3 s
-    else if eqb r.refusal 0 then done
+    whether carries_number code ws then station_refused 3 s
+    else whether eqb r.refusal 0 then done
     else station_refused r.refusal s
 
 unfoldable pub station_call_at : ℕ → ℕ → List ℕ → Station → Option StationSlot → StationResult
@@ -119,10 +119,10 @@ not_there k code s = ltb 7 k || (not (eqb code 0) && not (is_some (slot_of k s))
 -- a station call: the lent buffers' lengths, the destination's number, the code and the eight words
 unfoldable pub station_step : StationLengths → ℕ → ℕ → List ℕ → Station → StationResult
 station_step lent k code ws s =
-    if station_short lent then station_refused 1 s
-    else if not_there k code s then station_refused 10 s
-    else if not (eqb code 0) && not (station_sound s) then station_refused 2 s
-    else if eqb code 0 then open_at k ws s
+    whether station_short lent then station_refused 1 s
+    else whether not_there k code s then station_refused 10 s
+    else whether not (eqb code 0) && not (station_sound s) then station_refused 2 s
+    else whether eqb code 0 then open_at k ws s
     else station_call_at k code ws s (slot_of k s)
 
 -- one of the two calls that have no code, on the open destination x at the place k
@@ -131,14 +131,14 @@ uncoded_at k c s none = station_refused 10 s
 uncoded_at k c s (some x) =
     let r = call whole c x.dest in
     let done : StationResult = record { refusal = 0; answer = r.answer; events = sent_at k r.events; station = put_dest k x r.dest s } in
-    if eqb r.refusal 0 then done else station_refused r.refusal s
+    whether eqb r.refusal 0 then done else station_refused r.refusal s
 
 -- `add_discarded` and `expired_before_storing` of a destination (`discarding`, `missing`)
 unfoldable pub station_uncoded : StationLengths → ℕ → Call → Station → StationResult
 station_uncoded lent k c s =
-    if station_short lent then station_refused 1 s
-    else if not_there k 1 s then station_refused 10 s
-    else if not (station_sound s) then station_refused 2 s
+    whether station_short lent then station_refused 1 s
+    else whether not_there k 1 s then station_refused 10 s
+    else whether not (station_sound s) then station_refused 2 s
     else uncoded_at k c s (slot_of k s)
 
 -- opens the definitions of this file

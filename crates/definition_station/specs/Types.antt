@@ -1,7 +1,7 @@
 -- A station (document 02, §1): up to eight destinations, numbered 0 to 7, and the numbers that it gives. Assumes nothing.
 use Rattle.std.specs.Prelude.{ℕ, ◌+◌, ◌^◌, List, map, ltb, get_or, set, replicate}
 use Rattle.std.proofs.Math.Option.{Option, none, some}
-use Rattle.definition.specs.Base.{if◌then◌else◌}
+use Rattle.definition.specs.Base.{whether◌then◌else◌}
 use Rattle.definition.specs.Types.{Entry, Dest, Event}
 
 -- an open destination, with the dead-letter destination that it named at its open: 0 to 7, or 8 for none
@@ -46,7 +46,7 @@ took_number s = record { slots = s.slots; next = s.next + 1; lost = s.lost }
 
 -- "the lost count stops at 2^63−1"
 abbrev pub losing_letter : Station → Station
-losing_letter s = record { slots = s.slots; next = s.next; lost = if ltb (s.lost + 1) (2 ^ 63) then s.lost + 1 else s.lost }
+losing_letter s = record { slots = s.slots; next = s.next; lost = whether ltb (s.lost + 1) (2 ^ 63) then s.lost + 1 else s.lost }
 
 -- "each event names its destination"
 pub record StationEvent : Type 0 where

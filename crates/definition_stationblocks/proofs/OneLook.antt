@@ -7,7 +7,7 @@ use mathlib.Core.List.{List, [], ◌∷◌, ◌++◌, map, map-append, append-ni
 use mathlib.Core.Option.{Option, none, some}
 use lib.Dec.{leb, ltb, eqb}
 use borrow.Author.Tests.{ne_eqb, leb-true, leb-false, ltb-true}
-use Rattle.definition.specs.Base.{if◌then◌else◌, keep, all, empty, member}
+use Rattle.definition.specs.Base.{whether◌then◌else◌, keep, all, empty, member}
 use Rattle.definition.specs.Types.{Kind, queue, Id, Entry, Sub, Dest}
 use Rattle.definition.specs.Consumer.{ack_type, Ack, ack_sub}
 use Rattle.definition.specs.Destination.{Out, count, sub_of, put_sub, due, dispatch_queue, dispatch_by, dispatch, touch_idle, hold_back, stored, enqueue_by, reserved_of, reserved_hit, ack_reserved, ack_at, ack}
@@ -134,10 +134,10 @@ letters-left now low (e ∷ es) t u r w m =
     let y = after-ready now low e t m.0 r.kind w.0 r in
     let same : out v e ≡ out u e = ap not (sym (same-member e.seq v u (letters-hold now (e.seq + 1) es v u y w.1 m.1 e.seq (omega arith)))) in
     map-append left_block (departures (enqueuing e now) t v) (gone_along (storings now es) v)
-    ∙ ap₂ (λ (a b : List Block). a ++ b) (after-left now low e t m.0 r.kind w.0 r ∙ ap (λ (b : Bool). map (block_at 4) (if b then e ∷ [] else [])) same) (letters-left now (e.seq + 1) es v u y w.1 m.1)
+    ∙ ap₂ (λ (a b : List Block). a ++ b) (after-left now low e t m.0 r.kind w.0 r ∙ ap (λ (b : Bool). map (block_at 4) (whether b then e ∷ [] else [])) same) (letters-left now (e.seq + 1) es v u y w.1 m.1)
     ∙ joins (out u e)
   where
-    joins : (b : Bool) → map (block_at 4) (if b then e ∷ [] else []) ++ map (block_at 4) (keep (out u) es) ≡ map (block_at 4) (if b then e ∷ keep (out u) es else keep (out u) es)
+    joins : (b : Bool) → map (block_at 4) (whether b then e ∷ [] else []) ++ map (block_at 4) (keep (out u) es) ≡ map (block_at 4) (whether b then e ∷ keep (out u) es else keep (out u) es)
     joins true = refl
     joins false = refl
 
@@ -145,7 +145,7 @@ letters-left now low (e ∷ es) t u r w m =
 
 keep_same : (u v : Dest) (bs : List Block) → All (λ b. is_gone u b ≡ is_gone v b) bs → keep (is_gone u) bs ≡ keep (is_gone v) bs
 keep_same u v [] h = refl
-keep_same u v (b ∷ bs) h = ap₂ (λ (x : Bool) (l : List Block). if x then b ∷ l else l) h.0 (keep_same u v bs h.1)
+keep_same u v (b ∷ bs) h = ap₂ (λ (x : Bool) (l : List Block). whether x then b ∷ l else l) h.0 (keep_same u v bs h.1)
 
 keep-nothing : (u : Dest) (bs : List Block) → All (λ b. is_gone u b ≡ false) bs → keep (is_gone u) bs ≡ []
 keep-nothing u [] h = refl
@@ -256,7 +256,7 @@ module _ (ws : List ℕ) (now low : ℕ) (e : Entry) (t : Dest) (k : t.kind ≡ 
   unfolding went_as leaves_as
   went-same [] a = refl
   went-same (v ∷ bs) a = by-test (is_gone next v)
-      (λ c. rw c (ap₂ (λ (w : Bool) (l : List Block). (at 0 v ∷ (if eqb 4 4 && not w then acked_as (at 3 ws % 256) else 4) ∷ at 2 v ∷ []) ∷ l) (a.0 c) (went-same bs a.1)))
+      (λ c. rw c (ap₂ (λ (w : Bool) (l : List Block). (at 0 v ∷ (whether eqb 4 4 && not w then acked_as (at 3 ws % 256) else 4) ∷ at 2 v ∷ []) ∷ l) (a.0 c) (went-same bs a.1)))
       (λ c. rw c (went-same bs a.1))
 
   next-told : map (went_as 4 ws) (keep (is_gone next) (held_blocks t ++ block_at 0 e ∷ [])) ≡ map left_block (departures (enqueuing e now) t next)

@@ -11,7 +11,7 @@ use lib.Dec.{leb, eqb}
 use lib.ListN.{length, set, length-set}
 use lib.IntN.{pos}
 use borrow.Author.Tests.{leb-true, leb-false, le-leb, eq-eqb, eqb-true, eqb-false, ne_eqb}
-use Rattle.definition.specs.Base.{if◌then◌else◌, nth, empty, member, up_from}
+use Rattle.definition.specs.Base.{whether◌then◌else◌, nth, empty, member, up_from}
 use Rattle.definition.specs.Types.{Entry, Sub, Dest, with_cursor, with_pending, with_subs}
 use Rattle.definition.specs.Consumer.{expired, accepts, is_browser, snapshot, has_credit, send, Browse, drain_browser, close_browser, dispatch_browser}
 use Rattle.definition.specs.Destination.{count, stored, Look, look, given, Turn, visit_at, visit, scan, turns, Out, rounds, browsers, dispatch_queue, hold_back, insert}
@@ -33,7 +33,7 @@ yes false h = absurd (true≢false h)
 
 -- f of an entry that has expired and is after the cursor
 unfoldable pub late_for : ℕ → ℕ → (Entry → ℕ) → Entry → ℕ
-late_for now c f e = if leb e.seq c then 0 else if expired (pos now) e then f e else 0
+late_for now c f e = whether leb e.seq c then 0 else whether expired (pos now) e then f e else 0
 
 module _ (now : ℕ) where
   late-before : (c : ℕ) (f : Entry → ℕ) (e : Entry) → leb e.seq c ≡ true → late_for now c f e ≡ 0

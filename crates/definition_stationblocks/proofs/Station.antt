@@ -8,7 +8,7 @@ use mathlib.Core.Option.{Option, none, some}
 use lib.Dec.{ltb, eqb}
 use lib.ListN.{length, get_or, drop}
 use borrow.Author.Tests.{ne_eqb, eqb-true, eqb-false, lt-ltb}
-use Rattle.definition.specs.Base.{if◌then◌else◌, keep, all, up_from}
+use Rattle.definition.specs.Base.{whether◌then◌else◌, keep, all, up_from}
 use Rattle.definition.specs.Types.{queue, Id, Entry, Dest}
 use Rattle.definition.specs.Consumer.{Ack}
 use Rattle.definition.specs.Calls.{seqs, acknowledge, Call, enqueuing, asking, call}
@@ -91,11 +91,11 @@ rejects t code ws = by-test (eqb code 4)
 
 -- what a queue gets: the call itself, if it is its own, and the letters that are stored there
 abbrev gets : Bool → Call → List Entry → List Call
-gets own c es = (if own then c ∷ [] else []) ++ storings (clock_of (some c)) es
+gets own c es = (whether own then c ∷ [] else []) ++ storings (clock_of (some c)) es
 
 -- and what comes to it
 abbrev came : Bool → ℕ → List ℕ → List Entry → List Block
-came own code ws es = (if own then comes code ws else []) ++ map (block_at 0) es
+came own code ws es = (whether own then comes code ws else []) ++ map (block_at 0) es
 
 module _ (t u : Dest) (k : t.kind ≡ queue) where
   abbrev Told : Bool → ℕ → List ℕ → Call → List Entry → Type 0
@@ -154,8 +154,8 @@ module _ (lent : StationLengths) (k code : ℕ) (ws : List ℕ) (s : Station) (n
 
   -- the calls that j gets
   got : calls_got j (call_gets k code ws s) ≡ gets (eqb k j) said.0 letters
-  got = right.stores j low ∙ ap (λ (o : Option Call). (if eqb k j then own_calls o else []) ++ map (λ t. enqueuing (stored_as t) (clock_of o)) rows) said.1
-      ∙ ap (λ (l : List Call). (if eqb k j then said.0 ∷ [] else []) ++ l) (sym (map-map (λ e. enqueuing e (clock_of (some said.0))) stored_as rows))
+  got = right.stores j low ∙ ap (λ (o : Option Call). (whether eqb k j then own_calls o else []) ++ map (λ t. enqueuing (stored_as t) (clock_of o)) rows) said.1
+      ∙ ap (λ (l : List Call). (whether eqb k j then said.0 ∷ [] else []) ++ l) (sym (map-map (λ e. enqueuing e (clock_of (some said.0))) stored_as rows))
 
   makes : Makes (gets (eqb k j) said.0 letters) x.dest y.dest
   makes =
@@ -182,7 +182,7 @@ module _ (lent : StationLengths) (k code : ℕ) (ws : List ℕ) (s : Station) (n
   look-told : x.dest.kind ≡ queue → held_under s.next x.dest
       → blocks_gone code words y.dest (held_blocks x.dest) (blocks_came j k code ws s) ≡ map left_block (gone_along (calls_got j (call_gets k code ws s)) x.dest)
   look-told kind b =
-      ap (λ (l : List Block). blocks_gone code words y.dest (held_blocks x.dest) ((if eqb k j then comes code words else []) ++ l)) come-as
+      ap (λ (l : List Block). blocks_gone code words y.dest (held_blocks x.dest) ((whether eqb k j then comes code words else []) ++ l)) come-as
       ∙ told-by x.dest y.dest kind s.next b letters (rows-rise j s.next s.next (told_letters k code ws s) low (omega arith) right.numbers right.places) (eqb k j) code words said.0 own n said.1
       (λ d. ap (λ (v : StationSlot). v.dest) (some_inj (sym p.there ∙ ap (λ (i : ℕ). slot_of i s) (eqb-true k j d) ∙ q)))
       none-stored (subst (Rejects own code) said.1 (rejects own code words)) makes
@@ -222,7 +222,7 @@ open_told : (lent : StationLengths) (k : ℕ) (ws : List ℕ) (s : Station) (j :
     → map left_block (book_after j k 0 ws s b).gone ≡ map left_block b.gone ++ blocks_gone 0 ws y.dest (held_blocks x.dest) (blocks_came j k 0 ws s)
 open_told lent k ws s j b h d x y q z kind =
     let same : x ≡ y = some_inj (sym q ∙ sym (place_other k j s (some (opened_slot ws)) (λ e. d (sym e))) ∙ ap (λ (r : StationResult). slot_of j r.station) (sym (opened lent k ws s h).1) ∙ z) in
-    let came : blocks_came j k 0 ws s ≡ [] = ap₂ (λ (v : Bool) (l : List ToldLetter). (if v then [] else []) ++ map stored_block (keep (is_at j) l)) (ne_eqb k j d) (open-tells-none k ws s) in
+    let came : blocks_came j k 0 ws s ≡ [] = ap₂ (λ (v : Bool) (l : List ToldLetter). (whether v then [] else []) ++ map stored_block (keep (is_at j) l)) (ne_eqb k j d) (open-tells-none k ws s) in
     ap (λ (v : Book). map left_block v.gone) (open-gets j k ws s b (slot_of k s))
     ∙ sym (append-nil (map left_block b.gone))
     ∙ ap (λ (l : List Block). map left_block b.gone ++ l) (sym (ap₂ (λ (v : StationSlot) (l : List Block). blocks_gone 0 ws v.dest (held_blocks x.dest) l) (sym same) came ∙ rest-is-told 0 ws x.dest kind))

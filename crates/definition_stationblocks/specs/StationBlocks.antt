@@ -2,7 +2,7 @@
 -- at the call's clock. Assumes nothing.
 use Rattle.std.specs.Prelude.{ℕ, ◌+◌, ◌≤◌, ◌≡◌, true, List, [], ◌∷◌, ◌++◌, map, ltb, eqb, length}
 use Rattle.std.proofs.Math.Option.{some}
-use Rattle.definition.specs.Base.{if◌then◌else◌, keep, all}
+use Rattle.definition.specs.Base.{whether◌then◌else◌, keep, all}
 use Rattle.definition.specs.Types.{queue, Id, Entry, Dest}
 use Rattle.definition.specs.Consumer.{Ack}
 use Rattle.definition.specs.Calls.{seqs, acknowledge, Call, enqueuing, asking, call}
@@ -19,7 +19,7 @@ use Rattle.definition_stationfates.specs.Told.{ToldLetter, is_at, told_letters}
 
 -- of the blocks before an accepted call, and of those that came in it, those that u does not hold; a topic has no account
 unfoldable pub blocks_gone : ℕ → List ℕ → Dest → List Block → List Block → List Block
-blocks_gone code ws u bs came = if is_queue u.kind then map (went_as code ws) (keep (is_gone u) (bs ++ came)) else []
+blocks_gone code ws u bs came = whether is_queue u.kind then map (went_as code ws) (keep (is_gone u) (bs ++ came)) else []
 
 -- a dead letter's block where it is stored, with the number that it got: letters are persistent
 abbrev pub stored_block : ToldLetter → Block
@@ -27,7 +27,7 @@ stored_block t = block_of t.got 0 true
 
 -- what comes to the destination j in an accepted call on k: a direct enqueue's block, if it is k, and the letters that are stored there, in order
 abbrev pub blocks_came : ℕ → ℕ → ℕ → List ℕ → Station → List Block
-blocks_came j k code ws s = (if eqb k j then comes code (carried code ws s) else []) ++ map stored_block (keep (is_at j) (told_letters k code ws s))
+blocks_came j k code ws s = (whether eqb k j then comes code (carried code ws s) else []) ++ map stored_block (keep (is_at j) (told_letters k code ws s))
 
 -- ---- the calls of one queue in a call of a station
 

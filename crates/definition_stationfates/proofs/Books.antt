@@ -9,7 +9,7 @@ use lib.Dec.{leb, ltb, eqb}
 use lib.ListN.{drop}
 use lib.Seq.{get_or-set_same}
 use borrow.Author.Tests.{eqb-true, eqb-false, ne_eqb, leb-true, le-leb, ltb-true, ltb-false, lt-ltb}
-use Rattle.definition.specs.Base.{if◌then◌else◌, all, member}
+use Rattle.definition.specs.Base.{whether◌then◌else◌, all, member}
 use Rattle.definition.specs.Types.{queue, Entry, Dest}
 use Rattle.definition.specs.Calls.{seqs, Call, enqueuing, discarding, missing, brought, Result, call}
 use Rattle.definition.specs.Words.{at, kind_of, decode, open_words, opened_by, read, call_step, step}
@@ -71,7 +71,7 @@ all_new low high a (e ∷ l) h w =
     and_both (not (member e.seq (seqs a))) _ (ap not (under-new low e.seq (seqs a) h g)) (all_new low high a l h (and_right (leb low e.seq && ltb e.seq high) _ w))
 
 -- what a call brings, by its code
-brought-numbers : (code : ℕ) (ws : List ℕ) (c : Call) → decode code ws ≡ some c → seqs (brought c) ≡ (if eqb code 1 then at 0 ws ∷ [] else [])
+brought-numbers : (code : ℕ) (ws : List ℕ) (c : Call) → decode code ws ≡ some c → seqs (brought c) ≡ (whether eqb code 1 then at 0 ws ∷ [] else [])
 brought-numbers code ws c e = sym (block-numbers (brought c)) ∙ ap (map (at 0)) (sym (decode-says code ws c e).brings) ∙ by-test (eqb code 1) (λ d. rw d) (λ d. rw d)
   where
     block-numbers : (l : List Entry) → map (at 0) (map (block_at 0) l) ≡ seqs l
@@ -88,7 +88,7 @@ pub record At (H : Book → Dest → Type 0) (j : ℕ) (b : Book) (low : ℕ) (s
 
 pub notes-join : (j : ℕ) (g h : List Gets) (b : Book) → notes j (g ++ h) b ≡ notes j h (notes j g b)
 notes-join j [] h b = refl
-notes-join j (x ∷ g) h b = notes-join j g h (if eqb x.place j then note_one x b else b)
+notes-join j (x ∷ g) h b = notes-join j g h (whether eqb x.place j then note_one x b else b)
 
 -- an open gets no call
 pub open-gets : (j k : ℕ) (ws : List ℕ) (s : Station) (b : Book) (o : Option StationSlot) → notes j (gets_at k 0 ws s o) b ≡ b
@@ -180,7 +180,7 @@ module _ (H : Book → Dest → Type 0)
         put : Station
         put = put_dest k x (call whole c x.dest).dest s
 
-        numbers : seqs (brought c) ≡ (if eqb code 1 then at 0 (carried code ws s) ∷ [] else [])
+        numbers : seqs (brought c) ≡ (whether eqb code 1 then at 0 (carried code ws s) ∷ [] else [])
         numbers = brought-numbers code (carried code ws s) c e
 
         -- a direct enqueue brings the next number

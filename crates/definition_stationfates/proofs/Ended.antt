@@ -7,7 +7,7 @@ use mathlib.Core.Option.{Option, none, some}
 use lib.Dec.{eqb}
 use lib.IntN.{ℤ}
 use borrow.Author.Tests.{eqb-true}
-use Rattle.definition.specs.Base.{if◌then◌else◌, keep}
+use Rattle.definition.specs.Base.{whether◌then◌else◌, keep}
 use Rattle.definition.specs.Types.{queue, Entry, Event, letter, message, null, Dest}
 use Rattle.definition.specs.Calls.{Call, enqueuing, Result, call}
 use Rattle.definition.specs.Words.{decode, call_step, step}
@@ -37,15 +37,15 @@ dead-join l m =
 -- those of the calls that a destination gets
 pub dead_got : ℕ → List Gets → List (ℕ × ℤ)
 dead_got j [] = []
-dead_got j (g ∷ gs) = (if eqb g.place j then dead_in (departures g.call g.before g.after) else []) ++ dead_got j gs
+dead_got j (g ∷ gs) = (whether eqb g.place j then dead_in (departures g.call g.before g.after) else []) ++ dead_got j gs
 
 pub dead-notes : (j : ℕ) (gs : List Gets) (b : Book) → dead_in (notes j gs b).gone ≡ dead_in b.gone ++ dead_got j gs
 unfolding dead_got
 dead-notes j [] b = sym (append-nil (dead_in b.gone))
-dead-notes j (g ∷ gs) b = dead-notes j gs (if eqb g.place j then note_one g b else b) ∙ ap (λ (l : List (ℕ × ℤ)). l ++ dead_got j gs) one ∙ append_assoc (dead_in b.gone) (if eqb g.place j then dead_in (departures g.call g.before g.after) else []) (dead_got j gs)
+dead-notes j (g ∷ gs) b = dead-notes j gs (whether eqb g.place j then note_one g b else b) ∙ ap (λ (l : List (ℕ × ℤ)). l ++ dead_got j gs) one ∙ append_assoc (dead_in b.gone) (whether eqb g.place j then dead_in (departures g.call g.before g.after) else []) (dead_got j gs)
   where
-    one : dead_in (if eqb g.place j then note_one g b else b).gone ≡ dead_in b.gone ++ (if eqb g.place j then dead_in (departures g.call g.before g.after) else [])
-    one = by-if (λ (v : Book). dead_in v.gone ≡ dead_in b.gone ++ (if eqb g.place j then dead_in (departures g.call g.before g.after) else [])) (eqb g.place j) (note_one g b) b
+    one : dead_in (whether eqb g.place j then note_one g b else b).gone ≡ dead_in b.gone ++ (whether eqb g.place j then dead_in (departures g.call g.before g.after) else [])
+    one = by-if (λ (v : Book). dead_in v.gone ≡ dead_in b.gone ++ (whether eqb g.place j then dead_in (departures g.call g.before g.after) else [])) (eqb g.place j) (note_one g b) b
         (λ d. dead-join b.gone (departures g.call g.before g.after) ∙ ap (λ (l : List (ℕ × ℤ)). dead_in b.gone ++ l) (sym (if-true _ [] d)))
         (λ d. sym (append-nil (dead_in b.gone)) ∙ ap (λ (l : List (ℕ × ℤ)). dead_in b.gone ++ l) (sym (if-false _ [] d)))
 
@@ -53,7 +53,7 @@ pub dead-got-join : (j : ℕ) (g h : List Gets) → dead_got j (g ++ h) ≡ dead
 unfolding dead_got
 dead-got-join j [] h = refl
 dead-got-join j (x ∷ g) h =
-    let l : List (ℕ × ℤ) = if eqb x.place j then dead_in (departures x.call x.before x.after) else [] in
+    let l : List (ℕ × ℤ) = whether eqb x.place j then dead_in (departures x.call x.before x.after) else [] in
     ap (λ (m : List (ℕ × ℤ)). l ++ m) (dead-got-join j g h) ∙ sym (append_assoc l (dead_got j g) (dead_got j h))
 
 -- ---- letters that are stored
@@ -68,7 +68,7 @@ unfolding dead_got
 went-ends j now e s p g u lost = refl
 went-ends j now e s p g u (kept k x q h) =
     let u : Dest = (call whole (enqueuing e now) x.dest).dest in
-    append-nil (if eqb k j then dead_in (departures (enqueuing e now) x.dest u) else []) ∙ by-if (λ (l : List (ℕ × ℤ)). l ≡ []) (eqb k j) (dead_in (departures (enqueuing e now) x.dest u)) []
+    append-nil (whether eqb k j then dead_in (departures (enqueuing e now) x.dest u) else []) ∙ by-if (λ (l : List (ℕ × ℤ)). l ≡ []) (eqb k j) (dead_in (departures (enqueuing e now) x.dest u)) []
     (λ d. none-dead x.dest (leavers (e ∷ []) x.dest u))
     (λ d. refl)
 
@@ -102,11 +102,11 @@ rejects-end code ws c t y n e h =
     ∙ letters-sent code ws t n h
 
 pub own-ends : (j k code : ℕ) (ws : List ℕ) (t : Dest) (o : Option Call) → decode code ws ≡ o → 1 ≤ code → (step whole code ws t).refusal ≡ 0 → (k ≡ j → t.kind ≡ queue)
-    → dead_got j (own_gets k o t) ≡ (if eqb k j then map shown_letter (rejected t (decode code ws)) else [])
+    → dead_got j (own_gets k o t) ≡ (whether eqb k j then map shown_letter (rejected t (decode code ws)) else [])
 unfolding dead_got call_step
 own-ends j k code ws t none e n h y = absurd (none-refused whole t (ap (λ (v : Option Call). (call_step whole t v).refusal) (sym e) ∙ ap (λ (r : Result). r.refusal) (sym (step_call whole code ws t n)) ∙ h))
 own-ends j k code ws t (some c) e n h y =
     let same = ap (λ (r : Result). dead_in (departures c t r.dest)) (sym (called whole code ws c t n e)) in
-    append-nil (if eqb k j then dead_in (departures c t (call whole c t).dest) else []) ∙ by-test (eqb k j)
+    append-nil (whether eqb k j then dead_in (departures c t (call whole c t).dest) else []) ∙ by-test (eqb k j)
     (λ d. if-true _ [] d ∙ same ∙ rejects-end code ws c t (y (eqb-true k j d)) n e h ∙ sym (if-true _ [] d))
     (λ d. if-false (dead_in (departures c t (call whole c t).dest)) [] d ∙ sym (if-false (map shown_letter (rejected t (decode code ws))) [] d))

@@ -7,7 +7,7 @@ use mathlib.Core.List.{List, [], ◌∷◌, map}
 use lib.Dec.{ltb, eqb}
 use lib.ListN.{length, drop}
 use borrow.Author.Tests.{ne_eqb, ltb-true, ltb-false, lt-ltb}
-use Rattle.definition.specs.Base.{if◌then◌else◌, tally, up_from}
+use Rattle.definition.specs.Base.{whether◌then◌else◌, tally, up_from}
 use Rattle.definition.specs.Types.{Entry}
 use Rattle.definition.specs.Calls.{seqs}
 use Rattle.definition.proofs.Tests.{by-if, by-test, if-true, if-false}
@@ -81,7 +81,7 @@ rows-numbered (e ∷ es) (n ∷ ns) ps f = rw (ne_eqb n.seq 0 (λ q. omega (arit
 
 -- ---- the lost count
 
-up_one : (n m : ℕ) → n < 2 ^ 63 → lost_up_to ((if ltb (n + 1) (2 ^ 63) then n + 1 else n) + m) ≡ lost_up_to (n + (1 + m))
+up_one : (n m : ℕ) → n < 2 ^ 63 → lost_up_to ((whether ltb (n + 1) (2 ^ 63) then n + 1 else n) + m) ≡ lost_up_to (n + (1 + m))
 up_one n m h = by-test (ltb (n + 1) (2 ^ 63))
     (λ c. let q : n + 1 + m ≡ n + (1 + m) = omega arith in rw c (ap lost_up_to q))
     (λ c. let g = ltb-false (n + 1) (2 ^ 63) c in rw c (at-end n m g h))
@@ -105,11 +105,11 @@ abbrev lost_in : List ℕ → ℕ
 lost_in ps = tally (λ p. eqb p 8) ps
 
 -- one letter
-went-lost : (now : ℕ) (e : Entry) (s : Station) (p : ℕ) (g : List Gets) (u : Station) → Went now e s p g u → Facts s → (m : ℕ) → lost_up_to (u.lost + m) ≡ lost_up_to (s.lost + ((if eqb p 8 then 1 else 0) + m))
+went-lost : (now : ℕ) (e : Entry) (s : Station) (p : ℕ) (g : List Gets) (u : Station) → Went now e s p g u → Facts s → (m : ℕ) → lost_up_to (u.lost + m) ≡ lost_up_to (s.lost + ((whether eqb p 8 then 1 else 0) + m))
 went-lost now e s p g u lost f m = up_one s.lost m f.few
 went-lost now e s p g u (kept k x q h) f m =
-    let z : ◌≡◌ {A = ℕ} (if eqb k 8 then 1 else 0) 0 = if-false 1 0 (ne_eqb k 8 (λ d. omega (arith, kept_low k x s f q, d))) in
-    let y : (if eqb k 8 then 1 else 0) + m ≡ m = omega (arith, z) in
+    let z : ◌≡◌ {A = ℕ} (whether eqb k 8 then 1 else 0) 0 = if-false 1 0 (ne_eqb k 8 (λ d. omega (arith, kept_low k x s f q, d))) in
+    let y : (whether eqb k 8 then 1 else 0) + m ≡ m = omega (arith, z) in
     ap (λ (n : ℕ). lost_up_to (s.lost + n)) (sym y)
 
 run-lost : (hops now k : ℕ) (ns : List Entry) (s : Station) → Facts s → (running hops now k ns s).station.lost ≡ lost_up_to (s.lost + lost_in (letter_places hops now k ns s))

@@ -9,7 +9,7 @@ use lib.Dec.{leb, ltb, eqb}
 use lib.IntN.{ℤ}
 use lib.ListN.{length}
 use borrow.Author.Tests.{eqb-true, ne_eqb, lt-ltb}
-use Rattle.definition.specs.Base.{if◌then◌else◌, keep, tally, all, up_from}
+use Rattle.definition.specs.Base.{whether◌then◌else◌, keep, tally, all, up_from}
 use Rattle.definition.specs.Types.{queue, Entry, Event, letter, message, null, Dest}
 use Rattle.definition.specs.Calls.{seqs, Call, enqueuing, brought, arguments_ok, call}
 use Rattle.definition.specs.Words.{at, entry_in, unused_from, provided, ranged_call, read, decode, call_step, step}
@@ -98,7 +98,7 @@ module _ (hops now k : ℕ) where
 
 -- ---- what a destination gets
 
-own-got : (j k : ℕ) (t : Dest) (o : Option Call) → calls_got j (own_gets k o t) ≡ (if eqb k j then own_calls o else [])
+own-got : (j k : ℕ) (t : Dest) (o : Option Call) → calls_got j (own_gets k o t) ≡ (whether eqb k j then own_calls o else [])
 own-got j k t none = by-if (λ (l : List Call). [] ≡ l) (eqb k j) _ _ (λ d. refl) (λ d. refl)
 own-got j k t (some c) = by-test (eqb k j) (λ d. rw d) (λ d. rw d)
 
@@ -120,7 +120,7 @@ told-bring : (now : ℕ) (l : List ToldLetter) → all_brought (map (told now) l
 told-bring now [] = refl
 told-bring now (t ∷ l) = ap (λ (m : List Entry). stored_as t ∷ m) (told-bring now l)
 
-own-bring : (y : Bool) (o : Option Call) (cs : List Call) → all_brought ((if y then own_calls o else []) ++ cs) ≡ (if y then brought_by o else []) ++ all_brought cs
+own-bring : (y : Bool) (o : Option Call) (cs : List Call) → all_brought ((whether y then own_calls o else []) ++ cs) ≡ (whether y then brought_by o else []) ++ all_brought cs
 own-bring true none cs = refl
 own-bring true (some c) cs = refl
 own-bring false o cs = refl
@@ -138,7 +138,7 @@ module _ (k code : ℕ) (ws : List ℕ) (s : Station) (x : StationSlot) where
   abbrev after : Station
   after = Station.called k code x (step whole code (carried code ws s) x.dest).dest s
 
-  after_next : after.next ≡ s.next + (if eqb code 1 then 1 else 0)
+  after_next : after.next ≡ s.next + (whether eqb code 1 then 1 else 0)
   after_next = by-test (eqb code 1) (λ c. rw c) (λ c. rw c (omega arith))
 
   after-lost : after.lost ≡ s.lost
@@ -191,26 +191,26 @@ module _ (k code : ℕ) (ws : List ℕ) (s : Station) (x : StationSlot) (n : 1 �
       same_next : eqb code 1 ≡ false → u.next ≡ s.next
       same_next c = ap (λ (v : Station). v.next) (if-false _ _ c)
 
-  to-stores : (j : ℕ) → j < 8 → calls_got j (gets_at k code ws s (some x)) ≡ (if eqb k j then own_calls (call_said code ws s) else []) ++ map (told clock) (keep (is_at j) (told_at k code ws s (some x)))
+  to-stores : (j : ℕ) → j < 8 → calls_got j (gets_at k code ws s (some x)) ≡ (whether eqb k j then own_calls (call_said code ws s) else []) ++ map (told clock) (keep (is_at j) (told_at k code ws s (some x)))
   unfolding gets_at told_at
   to-stores j low =
       let own = own_gets k (call_said code ws s) x.dest in
       let g = letters_get hops_max clock x.name m.letters m.station in
       got-join j own g
       ∙ ap (λ (l : List Call). l ++ calls_got j g) (own-got j k x.dest (call_said code ws s))
-      ∙ ap (λ (l : List Call). (if eqb k j then own_calls (call_said code ws s) else []) ++ l) (calls-told hops_max clock x.name j es m.letters m.station low (number-follows es (after k code ws s x) fine.low))
+      ∙ ap (λ (l : List Call). (whether eqb k j then own_calls (call_said code ws s) else []) ++ l) (calls-told hops_max clock x.name j es m.letters m.station low (number-follows es (after k code ws s x) fine.low))
 
   to_books : (j : ℕ) (b : Book) → j < 8
-      → (notes j (gets_at k code ws s (some x)) b).accepted ≡ b.accepted ++ ((if eqb k j then brought_by (call_said code ws s) else []) ++ map stored_as (keep (is_at j) (told_at k code ws s (some x))))
+      → (notes j (gets_at k code ws s (some x)) b).accepted ≡ b.accepted ++ ((whether eqb k j then brought_by (call_said code ws s) else []) ++ map stored_as (keep (is_at j) (told_at k code ws s (some x))))
   to_books j b low =
       let l = keep (is_at j) (told_at k code ws s (some x)) in
       notes-accept j (gets_at k code ws s (some x)) b
       ∙ ap (λ (c : List Call). b.accepted ++ all_brought c) (to-stores j low)
       ∙ ap (λ (v : List Entry). b.accepted ++ v) (own-bring (eqb k j) (call_said code ws s) (map (told clock) l))
-      ∙ ap (λ (v : List Entry). b.accepted ++ ((if eqb k j then brought_by (call_said code ws s) else []) ++ v)) (told-bring clock l)
+      ∙ ap (λ (v : List Entry). b.accepted ++ ((whether eqb k j then brought_by (call_said code ws s) else []) ++ v)) (told-bring clock l)
 
   to-ended : (j : ℕ) (b : Book) (y : StationSlot) → slot_of j s ≡ some y → y.dest.kind ≡ queue
-      → dead_in (notes j (gets_at k code ws s (some x)) b).gone ≡ dead_in b.gone ++ (if eqb k j then map (λ t. shown_letter t.letter) (told_at k code ws s (some x)) else [])
+      → dead_in (notes j (gets_at k code ws s (some x)) b).gone ≡ dead_in b.gone ++ (whether eqb k j then map (λ t. shown_letter t.letter) (told_at k code ws s (some x)) else [])
   unfolding gets_at told_at
   to-ended j b y g kind =
       let own = own_gets k (call_said code ws s) x.dest in
@@ -220,7 +220,7 @@ module _ (k code : ℕ) (ws : List ℕ) (s : Station) (x : StationSlot) (n : 1 �
       ∙ ap (λ (l : List (ℕ × ℤ)). dead_got j own ++ l) (letters-end j hops_max clock x.name m.letters m.station)
       ∙ append-nil (dead_got j own)
       ∙ own-ends j k code (carried code ws s) x.dest (call_said code ws s) refl n h (λ d. ap (λ (v : StationSlot). v.dest.kind) (some_inj (sym q ∙ ap (λ (i : ℕ). slot_of i s) d ∙ g)) ∙ kind)
-      ∙ ap (λ (l : List (ℕ × ℤ)). if eqb k j then l else []) (sym (entries-told shown_letter es (seqs m.letters) (letter_places hops_max clock x.name m.letters m.station))))
+      ∙ ap (λ (l : List (ℕ × ℤ)). whether eqb k j then l else []) (sym (entries-told shown_letter es (seqs m.letters) (letter_places hops_max clock x.name m.letters m.station))))
 
   told-right : ToldRight k code ws s (result k code ws s x) (told_at k code ws s (some x))
   unfolding told_at Station.accepted_at

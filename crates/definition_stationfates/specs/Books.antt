@@ -1,7 +1,7 @@
 -- The account of a queue on a station (document 02 §7 with §1): that of the calls that the destination gets. A dead letter stored is an accepted enqueue there. Assumes nothing.
 use Rattle.std.specs.Prelude.{ℕ, zero, suc, ◌≤◌, ◌≡◌, Bool, true, not, ◌&&◌, ◌||◌, List, [], ◌∷◌, ◌++◌, map, eqb, length}
 use Rattle.std.proofs.Math.Option.{Option, none, some}
-use Rattle.definition.specs.Base.{if◌then◌else◌, keep, all}
+use Rattle.definition.specs.Base.{whether◌then◌else◌, keep, all}
 use Rattle.definition.specs.Types.{queue, Entry, Dest}
 use Rattle.definition.specs.Calls.{Call, enqueuing, discarding, missing, brought, call}
 use Rattle.definition.specs.Queries.{is_queue}
@@ -29,7 +29,7 @@ gets_call k c t = record { place = k; call = c; before = t; after = (call whole 
 -- where a dead letter is stored, if it is, as `storing` goes: hops left, clock, the name, the letter
 unfoldable pub stored_gets : (ℕ → List Gets) → ℕ → ℕ → Entry → Option StationSlot → List Gets
 stored_gets on now k e none = []
-stored_gets on now k e (some x) = if eqb (call whole (enqueuing e now) x.dest).refusal 0 then gets_call k (enqueuing e now) x.dest ∷ [] else on x.name
+stored_gets on now k e (some x) = whether eqb (call whole (enqueuing e now) x.dest).refusal 0 then gets_call k (enqueuing e now) x.dest ∷ [] else on x.name
 
 unfoldable pub letter_gets : ℕ → ℕ → ℕ → Entry → Station → List Gets
 letter_gets zero now k e s = []
@@ -85,7 +85,7 @@ note_one g b = record { accepted = b.accepted ++ brought g.call; gone = b.gone +
 -- those of the destination j
 abbrev pub notes : ℕ → List Gets → Book → Book
 notes j [] b = b
-notes j (g ∷ gs) b = notes j gs (if eqb g.place j then note_one g b else b)
+notes j (g ∷ gs) b = notes j gs (whether eqb g.place j then note_one g b else b)
 
 -- the book of j after an accepted call on k
 abbrev pub book_after : ℕ → ℕ → ℕ → List ℕ → Station → Book → Book
@@ -111,7 +111,7 @@ opens_place j c = eqb c.code 0 && eqb c.place j
 -- the book of j after any call: a refused one changes nothing, and an open of j begins anew
 abbrev pub book_next : ℕ → StationCall → Station → Book → Book
 book_next j c s b =
-    if eqb (station_result c s).refusal 0 then (if opens_place j c then empty_book else book_after j c.place c.code c.words s b)
+    whether eqb (station_result c s).refusal 0 then (whether opens_place j c then empty_book else book_after j c.place c.code c.words s b)
     else b
 
 abbrev pub book_along : ℕ → List StationCall → Station → Book → Book

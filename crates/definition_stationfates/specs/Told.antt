@@ -1,7 +1,7 @@
 -- Where the dead letters of a call went, for a report (document 02 §7 with §1): one row for each, and what is claimed of the rows. Assumes nothing.
 use Rattle.std.specs.Prelude.{ℕ, zero, suc, ◌+◌, ◌-◌, ◌≤◌, ◌<◌, ◌^◌, ◌≡◌, Bool, true, not, ◌&&◌, ◌||◌, List, [], ◌∷◌, ◌++◌, map, ltb, eqb, ℤ, length, get_or, drop}
 use Rattle.std.proofs.Math.Option.{Option, none, some}
-use Rattle.definition.specs.Base.{if◌then◌else◌, keep, tally, all, up_from}
+use Rattle.definition.specs.Base.{whether◌then◌else◌, keep, tally, all, up_from}
 use Rattle.definition.specs.Types.{queue, Entry}
 use Rattle.definition.specs.Calls.{seqs, Call, enqueuing, brought, call}
 use Rattle.definition.specs.Words.{at}
@@ -22,7 +22,7 @@ lost_place = 8
 -- the destination that stores a letter, as `storing` goes: hops left, clock, the name, the letter
 unfoldable pub place_stored : (ℕ → ℕ) → ℕ → ℕ → Entry → Option StationSlot → ℕ
 place_stored on now k e none = lost_place
-place_stored on now k e (some x) = if eqb (call whole (enqueuing e now) x.dest).refusal 0 then k else on x.name
+place_stored on now k e (some x) = whether eqb (call whole (enqueuing e now) x.dest).refusal 0 then k else on x.name
 
 unfoldable pub letter_place : ℕ → ℕ → ℕ → Entry → Station → ℕ
 letter_place zero now k e s = lost_place
@@ -70,7 +70,7 @@ letters_on (e ∷ es) = map (λ x. (e.place, x)) (letters_in (e.event ∷ [])) +
 
 -- the number that is given where n is the next: 0 where none is left
 abbrev pub given_number : ℕ → ℕ
-given_number n = if ltb n numbers_end then n else 0
+given_number n = whether ltb n numbers_end then n else 0
 
 abbrev pub has_number : ToldLetter → Bool
 has_number t = not (eqb t.got 0)
@@ -84,7 +84,7 @@ right_row t = ltb t.place 8 && has_number t || is_at lost_place t
 
 -- a lost count: it stops at 2^63 - 1
 abbrev pub lost_up_to : ℕ → ℕ
-lost_up_to n = if ltb n (2 ^ 63) then n else 2 ^ 63 - 1
+lost_up_to n = whether ltb n (2 ^ 63) then n else 2 ^ 63 - 1
 
 -- the letter with the number that it got
 abbrev pub stored_as : ToldLetter → Entry
@@ -113,19 +113,19 @@ pub record ToldRight (k code : ℕ) (ws : List ℕ) (s : Station) (r : StationRe
   -- the numbers that they got are the next ones in order, and 0 where none is left
   pub numbers : map (λ t. t.got) rows ≡ map given_number (up_from s.next (length rows))
   -- no other is taken, but that of a direct enqueue
-  pub next : r.station.next ≡ s.next + (if eqb code 1 then 1 else 0) + tally has_number rows
+  pub next : r.station.next ≡ s.next + (whether eqb code 1 then 1 else 0) + tally has_number rows
   -- the lost count grows by the rows that are lost
   pub lost : r.station.lost ≡ lost_up_to (s.lost + tally (is_at lost_place) rows)
   pub places : all right_row rows ≡ true
   -- a destination gets the call itself, if it is its own, and then an enqueue for each row that names it, in order, at the call's clock; and nothing else
   pub stores : (j : ℕ) → j < 8 → calls_got j (call_gets k code ws s)
-      ≡ (if eqb k j then own_calls (call_said code ws s) else []) ++ map (λ t. enqueuing (stored_as t) (clock_of (call_said code ws s))) (keep (is_at j) rows)
+      ≡ (whether eqb k j then own_calls (call_said code ws s) else []) ++ map (λ t. enqueuing (stored_as t) (clock_of (call_said code ws s))) (keep (is_at j) rows)
   -- so its book accepts what the call itself brings there, and these letters
   pub books : (j : ℕ) (b : Book) → j < 8 → (book_after j k code ws s b).accepted
-      ≡ b.accepted ++ ((if eqb k j then brought_by (call_said code ws s) else []) ++ map stored_as (keep (is_at j) rows))
+      ≡ b.accepted ++ ((whether eqb k j then brought_by (call_said code ws s) else []) ++ map stored_as (keep (is_at j) rows))
   -- and in the book of a queue the persistent entries that end as dead-lettered in the call are those of the rows, in order, if it is the call's own; else none
   pub ended : (j : ℕ) (b : Book) (x : StationSlot) → slot_of j s ≡ some x → x.dest.kind ≡ queue
-      → dead_in (book_after j k code ws s b).gone ≡ dead_in b.gone ++ (if eqb k j then map (λ t. shown_letter t.letter) rows else [])
+      → dead_in (book_after j k code ws s b).gone ≡ dead_in b.gone ++ (whether eqb k j then map (λ t. shown_letter t.letter) rows else [])
 
 -- of every accepted call but open, which tells none
 abbrev pub LettersTold : Type 0

@@ -8,7 +8,7 @@ use borrow.Author.Tests.{not-false, le-leb, lt-leb, leb-true}
 use lib.Dec.{leb}
 use lib.ListN.{length, take}
 use Rattle.words.proofs.Tests.{by-test}
-use Rattle.definition.specs.Base.{if◌then◌else◌, all}
+use Rattle.definition.specs.Base.{whether◌then◌else◌, all}
 use Rattle.definition.specs.Words.{at}
 use Rattle.definition.specs.Layout.{Row}
 use Rattle.definition.proofs.Tests.{if-true, if-false, and_left, and_right}
@@ -72,16 +72,16 @@ module _ (subs : List Row) (d : Head) (rows events : ℕ) where
 
     pub dispatches-late : 2 ^ 62 < clock → yes ≡ false
     unfolding dispatches
-    dispatches-late h = ap (λ (b : Bool). b && (if d.queue then queue_fits (due_by clock d) subs d rows events else fit)) (lt-leb clock (2 ^ 62) h)
+    dispatches-late h = ap (λ (b : Bool). b && (whether d.queue then queue_fits (due_by clock d) subs d rows events else fit)) (lt-leb clock (2 ^ 62) h)
 
     pub dispatches-soon : yes ≡ true → clock ≤ 2 ^ 62
     unfolding dispatches
     dispatches-soon t = leb-true clock (2 ^ 62) (and_left (leb clock (2 ^ 62)) _ t)
 
     module _ (late : clock ≤ 2 ^ 62) where
-      in-time : (if d.queue then queue_fits (due_by clock d) subs d rows events else fit) ≡ yes
+      in-time : (whether d.queue then queue_fits (due_by clock d) subs d rows events else fit) ≡ yes
       unfolding dispatches
-      in-time = sym (ap (λ (b : Bool). b && (if d.queue then queue_fits (due_by clock d) subs d rows events else fit)) (le-leb clock (2 ^ 62) late))
+      in-time = sym (ap (λ (b : Bool). b && (whether d.queue then queue_fits (due_by clock d) subs d rows events else fit)) (le-leb clock (2 ^ 62) late))
 
       -- due is what entries expire by at the clock
       pub dispatches-queue : (due : ℕ) → due ≡ due_by clock d → d.queue ≡ true → queue_fits due subs d rows events ≡ yes

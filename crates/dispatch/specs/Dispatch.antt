@@ -1,7 +1,7 @@
 -- What a dispatch promises besides the destination and the events that it leaves, when it does anything, and whether it can send anything.
 -- Assumes nothing.
 use Rattle.std.specs.Prelude.{◌≡◌, Bool, not, ◌&&◌, ◌||◌, List, ℕ, ◌+◌, ◌≤◌, ◌^◌, leb, ltb, eqb, length, take}
-use Rattle.definition.specs.Base.{if◌then◌else◌, all}
+use Rattle.definition.specs.Base.{whether◌then◌else◌, all}
 use Rattle.definition.specs.Layout.{Row}
 use Rattle.consumers.specs.Consumers.{row_sub, credit_of}
 use Rattle.state.specs.declared.Head.{Head}
@@ -17,7 +17,7 @@ Sent d r = (r.consumers ≡ d.consumers) × (r.events ≤ d.events + d.used + d.
 -- one that has credit
 unfoldable pub can_go : ℕ → Bool → Row → Bool
 can_go waiting queue w =
-    if queue then (row_sub w).browser || (not (eqb waiting 0) && credit_of (row_sub w)) else ltb 0 (row_sub w).held && credit_of (row_sub w)
+    whether queue then (row_sub w).browser || (not (eqb waiting 0) && credit_of (row_sub w)) else ltb 0 (row_sub w).held && credit_of (row_sub w)
 
 -- one of the first n rows is such a one; no, where the table is shorter
 abbrev pub one_of : (Row → Bool) → ℕ → List Row → Bool
@@ -33,9 +33,9 @@ browses n subs = one_of (λ w. (row_sub w).browser) n subs
 
 -- a queue's numbers fit the tables: with a browser all of them, without one those that the scan goes by
 unfoldable pub queue_fits : ℕ → List Row → Head → ℕ → ℕ → Bool
-queue_fits by subs d rows events = if browses d.consumers subs then fits subs d rows events else scans by subs d rows events
+queue_fits by subs d rows events = whether browses d.consumers subs then fits subs d rows events else scans by subs d rows events
 
 -- a dispatch does what it means, with such a clock, on a table of consumers, with so many rows and events; elsewhere nothing happens
 unfoldable pub dispatches : ℕ → List Row → Head → ℕ → ℕ → Bool
 dispatches clock subs d rows events =
-    leb clock (2 ^ 62) && (if d.queue then queue_fits (due_by clock d) subs d rows events else fits subs d rows events)
+    leb clock (2 ^ 62) && (whether d.queue then queue_fits (due_by clock d) subs d rows events else fits subs d rows events)

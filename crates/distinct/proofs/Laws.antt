@@ -11,7 +11,7 @@ use lib.Dec.{ltb, eqb}
 use lib.ListN.{length, take, drop, get_or, set, take-append-drop}
 use lib.Seq.{slice, slice_empty, slice-cons, take-suc, take-take, get_or-set_same}
 use mir.Val.{bool_byte}
-use Rattle.words.specs.Pick.{if◌then◌else◌}
+use Rattle.words.specs.Pick.{whether◌then◌else◌}
 use Rattle.words.proofs.Tests.{by-test}
 use Rattle.definition.specs.Base.{all, member, distinct, rising}
 use Rattle.definition.proofs.Tests.{and_left}
@@ -27,7 +27,7 @@ iff true b f g = sym (f refl)
 iff false true f g = g refl
 iff false false f g = refl
 
-pub one : (b : Bool) → bool_byte b ≡ (if b then 1 else 0)
+pub one : (b : Bool) → bool_byte b ≡ (whether b then 1 else 0)
 one true = refl
 one false = refl
 

@@ -11,7 +11,7 @@ use lib.Signed.{lt_z}
 use lib.ListN.{length}
 use borrow.Author.Tests.{leb-true, le-leb}
 use Rattle.audit.specs.Audit.{seen}
-use Rattle.definition.specs.Base.{if◌then◌else◌, keep, empty, nth, find}
+use Rattle.definition.specs.Base.{whether◌then◌else◌, keep, empty, nth, find}
 use Rattle.definition.specs.Types.{Kind, queue, topic, Id, Entry, Sub, Audit, Dest, Event, with_pull, with_generation, with_pending, with_subs, with_reserved, with_producers, with_audits, with_idle}
 use Rattle.definition.specs.Consumer.{add_expired, is_browser, has_credit, redelivered, same_id, Ack, ack_sub}
 use Rattle.definition.specs.Destination.{Out, Answer, Spec, Look, look, given, Turn, visit_at, visit, scan, turns, rounds, browsers, dispatch_queue, dispatch_topic, dispatch_by, dispatch, due, idle_mark, touch_idle, count, sub_of, put_sub, stored, fanned_out, enqueue_by, joined, add_sub, prefetch_at, set_prefetch, reinsert, held_by, reserved_of, ack_reserved, ack_at, ack, pulled, resumed, pull_at, pull, fired, timeout_at, pull_timeout, returned_from, reserved_from, returning, drop_sub, remove_at, remove_sub, return_reserved, sweep_list, sweep_subs, sweep_expired, clear, audit_of, test_at, is_duplicate}
@@ -31,7 +31,7 @@ abbrev moved_turn : Option ℕ → Turn → Turn
 moved_turn x r = record { took = r.took; dest = with_idle x r.dest; events = r.events }
 
 -- a choice that is made on both sides
-choice : {A B : Type 0} (f : A → B) (b : Bool) (x y : A) (v w : B) → v ≡ f x → w ≡ f y → (if b then v else w) ≡ f (if b then x else y)
+choice : {A B : Type 0} (f : A → B) (b : Bool) (x y : A) (v w : B) → v ≡ f x → w ≡ f y → (whether b then v else w) ≡ f (whether b then x else y)
 choice f true x y v w p q = p
 choice f false x y v w p q = q
 
@@ -52,7 +52,7 @@ unfolding scan visit
 scan-moved now [] x t = refl
 scan-moved now (i ∷ is) x t =
     let here = visit now i t in
-    ap (λ (h : Turn). if h.took then h else scan now is h.dest) (visit-moved now i x t (nth i t.subs))
+    ap (λ (h : Turn). whether h.took then h else scan now is h.dest) (visit-moved now i x t (nth i t.subs))
     ∙ choice (moved_turn x) here.took here (scan now is here.dest) _ _ refl (scan-moved now is x here.dest)
 
 rounds-moved : (fuel now : ℕ) (x : Option ℕ) (t : Dest) → rounds fuel now (with_idle x t) ≡ moved x (rounds fuel now t)
@@ -61,7 +61,7 @@ rounds-moved zero now x t = refl
 rounds-moved (suc fuel) now x t =
     let here = scan now (turns t) t in
     let later = rounds fuel now here.dest in
-    let of : Turn → Out → Out = λ h l. if not h.took || empty h.dest.pending then record { dest = h.dest; events = h.events } else record { dest = l.dest; events = h.events ++ l.events } in
+    let of : Turn → Out → Out = λ h l. whether not h.took || empty h.dest.pending then record { dest = h.dest; events = h.events } else record { dest = l.dest; events = h.events ++ l.events } in
     ap (λ (h : Turn). of h (rounds fuel now h.dest)) (scan-moved now (turns t) x t)
     ∙ ap (λ (l : Out). of (moved_turn x here) l) (rounds-moved fuel now x here.dest)
     ∙ choice (moved x) (not here.took || empty here.dest.pending) (record { dest = here.dest; events = here.events }) (record { dest = later.dest; events = here.events ++ later.events }) _ _ refl refl
@@ -117,7 +117,7 @@ same_none now m r p e h = record {
   idle = h ∙ mark-none now m ∙ ap (marked_by now m) (sym h ∙ ap (λ (a : Answer). a.dest.idle) e);
 }
 
-like-choice : (now : ℕ) (m : Option ℕ) (b : Bool) (r s p q : Answer) → Like now m r p → Like now m s q → Like now m (if b then r else s) (if b then p else q)
+like-choice : (now : ℕ) (m : Option ℕ) (b : Bool) (r s p q : Answer) → Like now m r p → Like now m s q → Like now m (whether b then r else s) (whether b then p else q)
 like-choice now m true r s p q f g = f
 like-choice now m false r s p q f g = g
 
@@ -131,7 +131,7 @@ touch-marked : (now n : ℕ) (u : Dest) → (touch_idle now u).idle ≡ marked_b
 unfolding touch_idle
 touch-marked now n u = go (empty u.pending && (empty u.subs && empty u.producers))
   where
-    go : (b : Bool) → (if b then with_idle (idle_mark now u.idle) u else with_idle none u).idle ≡ marked_by now u.idle (if b then with_idle (idle_mark n u.idle) u else with_idle none u).idle
+    go : (b : Bool) → (whether b then with_idle (idle_mark now u.idle) u else with_idle none u).idle ≡ marked_by now u.idle (whether b then with_idle (idle_mark n u.idle) u else with_idle none u).idle
     go true = mark-marked now n u.idle
     go false = mark-none now u.idle
 
@@ -139,7 +139,7 @@ touch-moved : (now n : ℕ) (u : Dest) → touch_idle now u ≡ with_idle (touch
 unfolding touch_idle
 touch-moved now n u = go (empty u.pending && (empty u.subs && empty u.producers))
   where
-    go : (b : Bool) → (if b then with_idle (idle_mark now u.idle) u else with_idle none u) ≡ with_idle (if b then with_idle (idle_mark now u.idle) u else with_idle none u).idle (if b then with_idle (idle_mark n u.idle) u else with_idle none u)
+    go : (b : Bool) → (whether b then with_idle (idle_mark now u.idle) u else with_idle none u) ≡ with_idle (whether b then with_idle (idle_mark now u.idle) u else with_idle none u).idle (whether b then with_idle (idle_mark n u.idle) u else with_idle none u)
     go true = refl
     go false = refl
 
@@ -204,7 +204,7 @@ unfolding returning reinsert
 returning-idle now s last t topic = refl
 returning-idle now s last t queue = go (is_browser s)
   where
-    go : (b : Bool) → (if b then t else reinsert now (returned_from last s.inflight) (with_reserved (t.reserved ++ reserved_from s.id s.inflight) t)).idle ≡ t.idle
+    go : (b : Bool) → (whether b then t else reinsert now (returned_from last s.inflight) (with_reserved (t.reserved ++ reserved_from s.id s.inflight) t)).idle ≡ t.idle
     go true = refl
     go false = refl
 
@@ -237,7 +237,7 @@ ack-like now i a t none = go (a.transacted || empty (reserved_of i t))
     p : Out
     p = plain_dispatch (due now t) (touch_idle (due now t) k.dest)
 
-    go : (b : Bool) → Like now t.idle (quietly (if b then record { dest = t; events = [] } else record { dest = r.dest; events = k.events ++ r.events })) (quietly (if b then record { dest = t; events = [] } else record { dest = p.dest; events = k.events ++ p.events }))
+    go : (b : Bool) → Like now t.idle (quietly (whether b then record { dest = t; events = [] } else record { dest = r.dest; events = k.events ++ r.events })) (quietly (whether b then record { dest = t; events = [] } else record { dest = p.dest; events = k.events ++ p.events }))
     go true = same_kept now t.idle _ _ refl refl
     go false = subst (λ m. Like now m (record { answer = 0; dest = r.dest; events = k.events ++ r.events }) (record { answer = 0; dest = p.dest; events = k.events ++ p.events })) (reserved-idle i a t a.last)
         (dispatch-like now (due now t) 0 k.events k.dest (due-same now k.dest t (reserved-stays i a t a.last)))
@@ -287,7 +287,7 @@ release-like now i t = go (empty (reserved_of i t))
     u : Dest
     u = reinsert now (map redelivered (reserved_of i t)) (with_reserved (keep (λ h. not (held_by i h)) t.reserved) t)
 
-    go : (b : Bool) → Like now t.idle (quietly (if b then record { dest = t; events = [] } else dispatch now u)) (quietly (if b then record { dest = t; events = [] } else plain_dispatch (due now t) u))
+    go : (b : Bool) → Like now t.idle (quietly (whether b then record { dest = t; events = [] } else dispatch now u)) (quietly (whether b then record { dest = t; events = [] } else plain_dispatch (due now t) u))
     go true = same_kept now t.idle _ _ refl refl
     go false = same_kept now t.idle _ _ refl (by-idle (due now t) u t.kind)
 
@@ -379,7 +379,7 @@ own_same t missing = refl
 refusal-same : (lent : Lengths) (c : Call) (t : Dest) → clock_ok (call_clock c) ≡ true → refusal lent c t ≡ plain_refusal lent (at_less t.allowance c) t
 unfolding refusal plain_refusal
 refusal-same lent c t h =
-    ap₂ (λ (b : Bool) (n : ℕ). if short lent then 1 else if not (sound t) then 2 else if not b then 3 else if eqb t.calls_used t.call_limit then 9 else n) (arguments-ok t.allowance c h) (own_same t c)
+    ap₂ (λ (b : Bool) (n : ℕ). whether short lent then 1 else whether not (sound t) then 2 else whether not b then 3 else whether eqb t.calls_used t.call_limit then 9 else n) (arguments-ok t.allowance c h) (own_same t c)
 
 abbrev answered : Answer → Result
 answered r = record { refusal = 0; answer = r.answer; events = r.events; dest = used r.dest }
@@ -387,7 +387,7 @@ answered r = record { refusal = 0; answer = r.answer; events = r.events; dest = 
 pub as-earlier : AsEarlier
 unfolding call plain_call
 as-earlier lent c t h =
-    subst (λ (n : ℕ). Beside now t (call lent c t) (if eqb n 0 then answered p else refused n t)) (refusal-same lent c t h) (go (eqb (refusal lent c t) 0))
+    subst (λ (n : ℕ). Beside now t (call lent c t) (whether eqb n 0 then answered p else refused n t)) (refusal-same lent c t h) (go (eqb (refusal lent c t) 0))
   where
     now : ℕ
     now = call_clock c
@@ -398,6 +398,6 @@ as-earlier lent c t h =
     l : Like now t.idle (perform t c) p
     l = perform-like t c
 
-    go : (b : Bool) → Beside now t (if b then answered (perform t c) else refused (refusal lent c t) t) (if b then answered p else refused (refusal lent c t) t)
+    go : (b : Bool) → Beside now t (whether b then answered (perform t c) else refused (refusal lent c t) t) (whether b then answered p else refused (refusal lent c t) t)
     go true = record { refusal = refl; answer = l.answer; events = l.events; dest = ap used l.dest; idle = l.idle }
     go false = record { refusal = refl; answer = refl; events = refl; dest = refl; idle = mark-same now t.idle }

@@ -7,7 +7,7 @@ use mathlib.Core.Option.{Option, none, some}
 use lib.Dec.{eqb, leb, ltb}
 use lib.IntN.{ℤ}
 use lib.ListN.{length}
-use Rattle.definition.specs.Base.{if◌then◌else◌, keep, empty, is_some}
+use Rattle.definition.specs.Base.{whether◌then◌else◌, keep, empty, is_some}
 use Rattle.definition.specs.Types.{Kind, queue, topic, Id, Entry, Sub, Dest, with_pull, with_generation, with_pending, with_subs, with_reserved}
 use Rattle.definition.specs.Consumer.{add_expired, is_browser, redelivered, Ack, ack_sub}
 use Rattle.definition.specs.Destination.{Out, Answer, Spec, count, sub_of, put_sub, dispatch_queue, dispatch_topic, dispatch_by, dispatch, touch_idle, stored, fanned_out, enqueue_by, joined, add_sub, prefetch_at, set_prefetch, reinsert, held_by, reserved_of, ack_reserved, ack_at, ack, resumed, pull_at, pull, returned_from, reserved_from, returning, drop_sub, remove_at, remove_sub, return_reserved, sweep_list, sweep_subs, sweep_expired}
@@ -39,7 +39,7 @@ sweep_by n now most t =
     let w = sweep_list most n t.pending in
     let r = sweep_subs (most - w.gone) n t.subs in
     let swept = count (add_expired (w.gone + r.gone)) (with_pending w.list (with_subs r.subs t)) in
-    if ltb 0 (w.gone + r.gone) then record { answer = w.gone + r.gone; dest = touch_idle now swept; events = [] }
+    whether ltb 0 (w.gone + r.gone) then record { answer = w.gone + r.gone; dest = touch_idle now swept; events = [] }
     else record { answer = 0; dest = swept; events = [] }
 
 plain-sweep : (now most : ℕ) (t : Dest) → t.allowance ≡ 0 → sweep_expired now most t ≡ plain_sweep_expired now most t
@@ -55,7 +55,7 @@ plain-ack : (now : ℕ) (i : Id) (a : Ack) (t : Dest) (o : Option Sub) → t.all
 unfolding ack_at plain_ack_at
 plain-ack now i a t none z =
     let k = ack_reserved i a t a.last in
-    ap (λ (r : Out). if a.transacted || empty (reserved_of i t) then record { dest = t; events = [] } else record { dest = r.dest; events = k.events ++ r.events })
+    ap (λ (r : Out). whether a.transacted || empty (reserved_of i t) then record { dest = t; events = [] } else record { dest = r.dest; events = k.events ++ r.events })
     (plain-dispatch now (touch_idle now k.dest) (touch-stays now k.dest ∙ reserved-stays i a t a.last ∙ z))
 plain-ack now i a t (some s) z =
     let k = ack_sub a s in
@@ -67,14 +67,14 @@ unfolding pull_at plain_pull_at
 plain-pull now i timeout t none z = refl
 plain-pull now i timeout t (some s) z =
     let u = put_sub i (with_pull (some (s.generation + 1)) (with_generation (s.generation + 1) s)) t in
-    ap (λ (r : Out). if ltb 0 s.prefetch then record { answer = 0; dest = t; events = [] } else resumed i timeout r (sub_of i r.dest)) (plain-dispatch now u z)
+    ap (λ (r : Out). whether ltb 0 s.prefetch then record { answer = 0; dest = t; events = [] } else resumed i timeout r (sub_of i r.dest)) (plain-dispatch now u z)
 
 plain-returning : (now : ℕ) (s : Sub) (last : ℤ) (t : Dest) (k : Kind) → t.allowance ≡ 0 → returning now s last t k ≡ plain_returning now s last t k
 unfolding returning plain_returning
 plain-returning now s last t topic z = refl
 plain-returning now s last t queue z =
     let u = with_reserved (t.reserved ++ reserved_from s.id s.inflight) t in
-    ap (λ (r : Dest). if is_browser s then t else r) (plain-reinsert now (returned_from last s.inflight) u z)
+    ap (λ (r : Dest). whether is_browser s then t else r) (plain-reinsert now (returned_from last s.inflight) u z)
 
 plain-remove : (now : ℕ) (i : Id) (last : ℤ) (t : Dest) (o : Option Sub) → t.allowance ≡ 0 → remove_at now i last t o ≡ plain_remove_at now i last t o
 unfolding remove_at plain_remove_at
@@ -90,7 +90,7 @@ unfolding return_reserved plain_return_reserved
 plain-release now i t z =
     let u = with_reserved (keep (λ h. not (held_by i h)) t.reserved) t in
     let es = map redelivered (reserved_of i t) in
-    let of : Out → Out = λ r. if empty (reserved_of i t) then record { dest = t; events = [] } else r in
+    let of : Out → Out = λ r. whether empty (reserved_of i t) then record { dest = t; events = [] } else r in
     ap of (plain-dispatch now (reinsert now es u) (reinsert-stays now es u ∙ z)) ∙ ap (λ (v : Dest). of (plain_dispatch now v)) (plain-reinsert now es u z)
 
 -- ---- the calls
@@ -125,7 +125,7 @@ plain-perform t missing z = refl
 plain-own : (t : Dest) (c : Call) → t.allowance ≡ 0 → own_refusal t c ≡ plain_own_refusal t c
 unfolding own_refusal plain_own_refusal
 plain-own t (joining p now) z =
-    ap (λ (n : ℕ). if is_some (sub_of p.id t) then 6 else if leb 32 (length t.subs) then 7 else if ltb (free_rows t) n then 5 else 0) (plain_rows now p t z)
+    ap (λ (n : ℕ). whether is_some (sub_of p.id t) then 6 else whether leb 32 (length t.subs) then 7 else whether ltb (free_rows t) n then 5 else 0) (plain_rows now p t z)
 plain-own t (enqueuing e now) z = refl
 plain-own t (leaving i last now) z = refl
 plain-own t (asking i q) z = refl
@@ -143,10 +143,10 @@ plain-own t missing z = refl
 plain-refusal : (lent : Lengths) (c : Call) (t : Dest) → t.allowance ≡ 0 → refusal lent c t ≡ plain_refusal lent c t
 unfolding refusal plain_refusal
 plain-refusal lent c t z =
-    ap (λ (n : ℕ). if short lent then 1 else if not (sound t) then 2 else if not (arguments_ok c) then 3 else if eqb t.calls_used t.call_limit then 9 else n) (plain-own t c z)
+    ap (λ (n : ℕ). whether short lent then 1 else whether not (sound t) then 2 else whether not (arguments_ok c) then 3 else whether eqb t.calls_used t.call_limit then 9 else n) (plain-own t c z)
 
 pub as-without : AsWithout
 unfolding call plain_call
 as-without lent c t z =
-    let of : ℕ → Answer → Result = λ n r. if eqb n 0 then record { refusal = 0; answer = r.answer; events = r.events; dest = used r.dest } else refused n t in
+    let of : ℕ → Answer → Result = λ n r. whether eqb n 0 then record { refusal = 0; answer = r.answer; events = r.events; dest = used r.dest } else refused n t in
     ap₂ of (plain-refusal lent c t z) (plain-perform t c z)

@@ -10,7 +10,7 @@ use lib.IntN.{ℤ, pos}
 use lib.Signed.{lt_z}
 use lib.ListN.{length}
 use Rattle.audit.specs.Audit.{seen}
-use Rattle.definition.specs.Base.{if◌then◌else◌, keep, empty, nth, find}
+use Rattle.definition.specs.Base.{whether◌then◌else◌, keep, empty, nth, find}
 use Rattle.definition.specs.Types.{Kind, queue, topic, Id, Entry, Sub, Audit, Dest, with_pending, with_subs, with_reserved}
 use Rattle.definition.specs.Consumer.{add_expired, is_browser, has_credit, redelivered, Ack, ack_sub}
 use Rattle.definition.specs.Destination.{Out, Answer, Spec, Look, look, given, Turn, visit_at, visit, scan, turns, rounds, browsers, dispatch_queue, dispatch_topic, dispatch_by, dispatch, due, touch_idle, count, sub_of, put_sub, stored, enqueue_by, add_sub, joined, prefetch_at, set_prefetch, reinsert, held_by, reserved_of, ack_reserved, ack_at, ack, pulled, resumed, pull_at, pull, fired, timeout_at, pull_timeout, returned_from, reserved_from, returning, drop_sub, remove_at, remove_sub, return_reserved, sweep_list, sweep_subs, sweep_expired, clear, audit_of, test_at, is_duplicate}
@@ -22,7 +22,7 @@ use Rattle.definition.proofs.Made.{step_call}
 use Rattle.earlier.specs.Claims.{Settings, settings, SettingsStay, StepSettingsStay, BufferSettingsStay, OpenSettings}
 
 -- where both sides have it, the choice has it
-pub either : {A B : Type 0} (f : A → B) (b : Bool) (x y : A) (n : B) → f x ≡ n → f y ≡ n → f (if b then x else y) ≡ n
+pub either : {A B : Type 0} (f : A → B) (b : Bool) (x y : A) (n : B) → f x ≡ n → f y ≡ n → f (whether b then x else y) ≡ n
 either f true x y n p q = p
 either f false x y n p q = q
 

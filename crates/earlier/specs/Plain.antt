@@ -2,7 +2,7 @@
 -- call's own clock. No other definition names the allowance but to carry it. Assumes nothing.
 use Rattle.std.specs.Prelude.{ℕ, ◌+◌, ◌-◌, not, ◌&&◌, ◌||◌, List, [], ◌∷◌, ◌++◌, map, leb, ltb, eqb, ℤ, pos, length}
 use Rattle.std.proofs.Math.Option.{Option, none, some}
-use Rattle.definition.specs.Base.{if◌then◌else◌, keep, tally, empty, is_some}
+use Rattle.definition.specs.Base.{whether◌then◌else◌, keep, tally, empty, is_some}
 use Rattle.definition.specs.Types.{Kind, queue, topic, Id, Entry, Sub, Dest, with_pull, with_generation, with_pending, with_subs, with_idle, with_reserved}
 use Rattle.definition.specs.Consumer.{add_expired, is_browser, expired, redelivered, selects, Ack, ack_sub}
 use Rattle.definition.specs.Destination.{Out, Answer, Spec, count, sub_of, put_sub, dispatch_queue, dispatch_topic, dispatch_by, touch_idle, stored, fanned_out, new_sub, prefetch_at, insert_all, hold_back_all, held_by, reserved_of, ack_reserved, resumed, returned_from, reserved_from, drop_sub, sweep_list, sweep_subs}
@@ -22,7 +22,7 @@ plain_joined now p t =
     let live = keep (λ e. not (expired (pos now) e)) t.pending in
     let chosen = keep (λ e. selects e.match_word p.selector) live in
     let browsed = count (add_expired (tally (expired (pos now)) t.pending)) (with_pending live t) in
-    with_idle none (if p.browser then with_subs (t.subs ++ new_sub p (some chosen) ∷ []) browsed else with_subs (t.subs ++ new_sub p none ∷ []) t)
+    with_idle none (whether p.browser then with_subs (t.subs ++ new_sub p (some chosen) ∷ []) browsed else with_subs (t.subs ++ new_sub p none ∷ []) t)
 
 unfoldable pub plain_reinsert : ℕ → List Entry → Dest → Dest
 plain_reinsert now es t =
@@ -34,11 +34,11 @@ plain_sweep_expired now most t =
     let w = sweep_list most now t.pending in
     let r = sweep_subs (most - w.gone) now t.subs in
     let swept = count (add_expired (w.gone + r.gone)) (with_pending w.list (with_subs r.subs t)) in
-    if ltb 0 (w.gone + r.gone) then record { answer = w.gone + r.gone; dest = touch_idle now swept; events = [] }
+    whether ltb 0 (w.gone + r.gone) then record { answer = w.gone + r.gone; dest = touch_idle now swept; events = [] }
     else record { answer = 0; dest = swept; events = [] }
 
 abbrev pub plain_snapshot_rows : ℕ → Spec → Dest → ℕ
-plain_snapshot_rows now p t = if p.browser then tally (λ e. not (expired (pos now) e) && selects e.match_word p.selector) t.pending else 0
+plain_snapshot_rows now p t = whether p.browser then tally (λ e. not (expired (pos now) e) && selects e.match_word p.selector) t.pending else 0
 
 -- ---- what runs these
 
@@ -46,7 +46,7 @@ unfoldable pub plain_ack_at : ℕ → Id → Ack → Dest → Option Sub → Out
 plain_ack_at now i a t none =
     let k = ack_reserved i a t a.last in
     let r = plain_dispatch now (touch_idle now k.dest) in
-    if a.transacted || empty (reserved_of i t) then record { dest = t; events = [] }
+    whether a.transacted || empty (reserved_of i t) then record { dest = t; events = [] }
     else record { dest = r.dest; events = k.events ++ r.events }
 plain_ack_at now i a t (some s) =
     let k = ack_sub a s in
@@ -57,12 +57,12 @@ unfoldable pub plain_pull_at : ℕ → Id → ℤ → Dest → Option Sub → An
 plain_pull_at now i timeout t none = record { answer = 0; dest = t; events = [] }
 plain_pull_at now i timeout t (some s) =
     let r = plain_dispatch now (put_sub i (with_pull (some (s.generation + 1)) (with_generation (s.generation + 1) s)) t) in
-    if ltb 0 s.prefetch then record { answer = 0; dest = t; events = [] } else resumed i timeout r (sub_of i r.dest)
+    whether ltb 0 s.prefetch then record { answer = 0; dest = t; events = [] } else resumed i timeout r (sub_of i r.dest)
 
 unfoldable pub plain_returning : ℕ → Sub → ℤ → Dest → Kind → Dest
 plain_returning now s last t topic = t
 plain_returning now s last t queue =
-    if is_browser s then t
+    whether is_browser s then t
     else plain_reinsert now (returned_from last s.inflight) (with_reserved (t.reserved ++ reserved_from s.id s.inflight) t)
 
 unfoldable pub plain_remove_at : ℕ → Id → ℤ → Dest → Option Sub → Answer
@@ -74,7 +74,7 @@ plain_remove_at now i last t (some s) =
 unfoldable pub plain_return_reserved : ℕ → Id → Dest → Out
 plain_return_reserved now i t =
     let r = plain_dispatch now (plain_reinsert now (map redelivered (reserved_of i t)) (with_reserved (keep (λ h. not (held_by i h)) t.reserved) t)) in
-    if empty (reserved_of i t) then record { dest = t; events = [] } else r
+    whether empty (reserved_of i t) then record { dest = t; events = [] } else r
 
 -- ---- the calls
 
@@ -103,9 +103,9 @@ plain_perform t missing = perform t missing
 
 unfoldable pub plain_own_refusal : Dest → Call → ℕ
 plain_own_refusal t (joining p now) =
-    if is_some (sub_of p.id t) then 6
-    else if leb 32 (length t.subs) then 7
-    else if ltb (free_rows t) (plain_snapshot_rows now p t) then 5
+    whether is_some (sub_of p.id t) then 6
+    else whether leb 32 (length t.subs) then 7
+    else whether ltb (free_rows t) (plain_snapshot_rows now p t) then 5
     else 0
 plain_own_refusal t (enqueuing e now) = own_refusal t (enqueuing e now)
 plain_own_refusal t (leaving i last now) = own_refusal t (leaving i last now)
@@ -123,14 +123,14 @@ plain_own_refusal t missing = own_refusal t missing
 
 unfoldable pub plain_refusal : Lengths → Call → Dest → ℕ
 plain_refusal lent c t =
-    if short lent then 1
-    else if not (sound t) then 2
-    else if not (arguments_ok c) then 3
-    else if eqb t.calls_used t.call_limit then 9
+    whether short lent then 1
+    else whether not (sound t) then 2
+    else whether not (arguments_ok c) then 3
+    else whether eqb t.calls_used t.call_limit then 9
     else plain_own_refusal t c
 
 unfoldable pub plain_call : Lengths → Call → Dest → Result
 plain_call lent c t =
     let r = plain_perform t c in
     let done : Result = record { refusal = 0; answer = r.answer; events = r.events; dest = used r.dest } in
-    if eqb (plain_refusal lent c t) 0 then done else refused (plain_refusal lent c t) t
+    whether eqb (plain_refusal lent c t) 0 then done else refused (plain_refusal lent c t) t

@@ -8,7 +8,7 @@ use borrow.Author.Tests.{le-leb, ltb-false, eq-eqb}
 use lib.Dec.{leb, ltb, eqb}
 use lib.ListN.{length, take}
 use Rattle.entry.specs.Entry.{entry_of, row_of}
-use Rattle.definition.specs.Base.{if◌then◌else◌, is_some}
+use Rattle.definition.specs.Base.{whether◌then◌else◌, is_some}
 use Rattle.definition.specs.Types.{Kind, queue, topic, Id, Audit, Entry, Dest}
 use Rattle.definition.specs.Destination.{Spec, sub_of, due, dispatch_by, dispatch, stored, fanned_out, enqueue_by, joined, add_sub}
 use Rattle.definition.specs.Calls.{Call, enqueuing, joining, arguments_ok, bound, snapshot_rows, own_refusal, perform}
@@ -172,7 +172,7 @@ module _ (d : Head) (subs rows events : List Row) (a : Ready d subs rows events)
 
 -- 6, 7, 5 or 0
 abbrev verdict : Bool → Bool → Bool → ℕ
-verdict there full few = if there then 6 else if full then 7 else if few then 5 else 0
+verdict there full few = whether there then 6 else whether full then 7 else whether few then 5 else 0
 
 verdict-none : (there full few : Bool) → verdict there full few ≡ 0 → few ≡ false
 verdict-none true full few z = absurd (omega (arith, z))

@@ -15,7 +15,7 @@ use Rattle.words.proofs.Tests.{by-test}
 use Rattle.stats.specs.declared.Stats.{Stats}
 use Rattle.entry.specs.Entry.{expired, entry_of, row_of, expired_row}
 use Rattle.definition.specs.Base as Base
-use Rattle.definition.specs.Base.{if◌then◌else◌, keep, tally}
+use Rattle.definition.specs.Base.{whether◌then◌else◌, keep, tally}
 use Rattle.definition.specs.Types.{Entry, topic, with_tpending}
 use Rattle.definition.specs.Types as Def
 use Rattle.definition.specs.Consumer.{◌⊕◌, Step, zero_stats, add_expired, add_discarded}
@@ -258,7 +258,7 @@ pub record Copy (now limit : ℕ) (e : Entry) (a f h c : List Row) (s : Sub) (us
   pub sub : sub_view topic r.sub f held ≡ (fan_out now limit e (sub_view topic s f h)).sub
   pub counts : lost r.expired r.over ≡ (fan_out now limit e (sub_view topic s f h)).counts
   pub uses : r.used + s.held ≡ used + r.sub.held
-  pub most : r.sub.held ≤ s.held + (if accepts_of s e then 1 else 0)
+  pub most : r.sub.held ≤ s.held + (whether accepts_of s e then 1 else 0)
   pub few : r.expired + r.over + r.used ≤ used + 1
   pub size : length rows' ≡ length rows
   pub past : drop 512 rows' ≡ drop 512 rows
@@ -363,7 +363,7 @@ module _ (now limit : ℕ) (e : Entry) (a f h c : List Row) (base : ℕ) (s : Su
 -- either way, where the rows are those parts
 module _ (now limit : ℕ) (e : Entry) (a f h c y rows : List Row) (base : ℕ) (s : Sub) (used : ℕ) (is : rows ≡ a ++ (f ++ (h ++ (c ++ y))))
     (la : length a ≡ base) (lf : length f ≡ s.inflight) (lh : length h ≡ s.held) (lc : base + s.inflight + s.held + length c ≡ used)
-    (room : used + (if accepts_of s e then 1 else 0) ≤ 512) (long : 512 ≤ length rows)
+    (room : used + (whether accepts_of s e then 1 else 0) ≤ 512) (long : 512 ≤ length rows)
     (soon : now ≤ 2 ^ 62) (row_is : entry_of (row_of e 0 0 0) ≡ e) (absent : holds e.seq h ≡ false)
   where
     free-length : used + length y ≡ length rows

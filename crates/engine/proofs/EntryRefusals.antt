@@ -8,7 +8,7 @@ use borrow.Author.Tests.{lt-ltb, le-ltb}
 use lib.Dec.{ltb}
 use lib.ListN.{length, take, length-take}
 use Rattle.words.proofs.Tests.{by-test}
-use Rattle.definition.specs.Base.{if◌then◌else◌, tally, member}
+use Rattle.definition.specs.Base.{whether◌then◌else◌, tally, member}
 use Rattle.definition.specs.Types.{Id, Entry, Audit}
 use Rattle.definition.specs.Calls.{seqs, all_rows, own_rows, rows_from, rows_for, enqueuing, own_refusal}
 use Rattle.definition.specs.Layout.{Row}
@@ -24,10 +24,10 @@ use Rattle.engine.proofs.Used.{all-rows-length, all-rows-member}
 
 -- 4, 14, 5 or 0
 abbrev pub choice : Bool → Bool → Bool → ℕ
-choice held over few = if held then 4 else if over then 14 else if few then 5 else 0
+choice held over few = whether held then 4 else whether over then 14 else whether few then 5 else 0
 
 module _ (e : Entry) (d : Head) (subs rows : List Row) where
-  needed : (producers : List Id) (audits : List Audit) (b : Bool) → rows_for e (head_view d subs rows producers audits) (kind_by b) ≡ (if b then 1 else tally (takes_entry e) (take d.consumers subs))
+  needed : (producers : List Id) (audits : List Audit) (b : Bool) → rows_for e (head_view d subs rows producers audits) (kind_by b) ≡ (whether b then 1 else tally (takes_entry e) (take d.consumers subs))
   unfolding head_view
   needed producers audits true = refl
   needed producers audits false = tally-subs (kind_by d.queue) e (take d.consumers subs) rows

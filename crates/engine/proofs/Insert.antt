@@ -10,7 +10,7 @@ use lib.ListN.{length, take, drop, get_or}
 use Rattle.definition.specs.Layout.{Row}
 use Rattle.words.proofs.Tests.{by-test}
 use Rattle.entry.specs.Entry.{entry_of}
-use Rattle.definition.specs.Base.{if◌then◌else◌, member}
+use Rattle.definition.specs.Base.{whether◌then◌else◌, member}
 use Rattle.definition.specs.Types.{Entry}
 use Rattle.definition.specs.Destination.{insert}
 use Rattle.definition.specs.Calls.{seqs}
@@ -37,7 +37,7 @@ insert-placed i k (r ∷ l) row e q a p =
     go : (b : Bool) → (b ≡ true → e.seq ≤ get_or r 0 0) → (b ≡ false → get_or r 0 0 < e.seq) → (e.seq ≡ (entry_of r).seq → ⊥)
         → (suc i ≤ place_from (suc i) e.seq l) × (place_from (suc i) e.seq l ≤ suc i + length l)
         → ((m : ℕ) → place_from (suc i) e.seq l ≡ suc i + m → map entry_of (take m l ++ row ∷ drop m l) ≡ insert e (map entry_of l))
-        → (m : ℕ) → (if b then i else place_from (suc i) e.seq l) ≡ i + m → map entry_of (take m (r ∷ l) ++ row ∷ drop m (r ∷ l)) ≡ insert e (map entry_of (r ∷ l))
+        → (m : ℕ) → (whether b then i else place_from (suc i) e.seq l) ≡ i + m → map entry_of (take m (r ∷ l) ++ row ∷ drop m (r ∷ l)) ≡ insert e (map entry_of (r ∷ l))
     go true le lt ne w ih zero h =
         let s : (entry_of r).seq ≡ get_or r 0 0 = entry-seq r in
         let n : e.seq ≤ get_or r 0 0 = le refl in

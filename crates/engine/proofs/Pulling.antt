@@ -6,7 +6,7 @@ use Prim.Native.Nat.{ℕ, ◌≤◌}
 use native.Mathlib.Omega.{arith}
 use lib.ListN.{length}
 use lib.IntN.{ℤ}
-use Rattle.definition.specs.Base.{if◌then◌else◌}
+use Rattle.definition.specs.Base.{whether◌then◌else◌}
 use Rattle.definition.specs.Types.{Id, Audit, Dest}
 use Rattle.definition.specs.Destination.{dispatch}
 use Rattle.definition.specs.Destination as Def
@@ -55,10 +55,10 @@ module _ (now : ℕ) (i : Id) (timeout : ℤ) (d : Head) (subs rows events : Lis
       pulled-waits =
           let w = leaves-when (stands subs' m (length rows') (length events')) (OneMore m r.head) (answered_out i timeout) m r.head subs' rows' events' subs'' rows' events'' stand y in
           record {
-            refusal = z.refusal ∙ ap (λ (b : Bool). if◌then◌else◌ {A = ℕ} b 0 2) stand;
+            refusal = z.refusal ∙ ap (λ (b : Bool). whether◌then◌else◌ {A = ℕ} b 0 2) stand;
             answer = λ p u n.
                 z.answer p u
-                ∙ ap (λ (b : Bool). if b then (answered i timeout (head_view m subs' rows' p u)).answer else 0) stand
+                ∙ ap (λ (b : Bool). whether b then (answered i timeout (head_view m subs' rows' p u)).answer else 0) stand
                 ∙ ap (λ (t : Dest). (answered i timeout t).answer) (l.view p u n)
                 ∙ sym (ap (λ (x : Def.Answer). x.answer) (pull-waits now i timeout (viewed p u) (h p u)));
             sends = (

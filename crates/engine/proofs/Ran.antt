@@ -9,7 +9,7 @@ use borrow.Author.Tests.{eq-eqb, ne_eqb, lt-ltb, le-ltb}
 use lib.Dec.{eqb, ltb, eqb-suc-zero}
 use lib.ListN.{length}
 use Rattle.words.proofs.Tests.{or_left, or_right}
-use Rattle.definition.specs.Base.{if◌then◌else◌, is_some}
+use Rattle.definition.specs.Base.{whether◌then◌else◌, is_some}
 use Rattle.definition.specs.Calls.{Lengths, state_short, short, Call, Result, arguments_ok}
 use Rattle.definition.specs.Words.{read, decode, open_words}
 use Rattle.definition.specs.Layout.{Row, Buffers, view, sound_buffers, lengths_of, buffer_step, lent}
@@ -73,7 +73,7 @@ module _ (h : List ℕ) (subs rows events : List Row) (code : ℕ) (ws : List �
 
       module _ (a : Answer) (r : Outcome) (said : r ≡ finished a) where
         -- on the tables
-        module _ (subs' rows' events' : List Row) (h' : List ℕ) (ends : h' ≡ (if eqb a.refusal 0 then stored_head (counted a.head) h else h)) where
+        module _ (subs' rows' events' : List Row) (h' : List ℕ) (ends : h' ≡ (whether eqb a.refusal 0 then stored_head (counted a.head) h else h)) where
           at_zero : (c : Call) → decode code ws ≡ some c → arguments_ok c ≡ true → Performs c d a subs rows events subs' rows' events' → a.refusal ≡ 0 → Called q b (lent h' subs' rows') events events' r
           at_zero c e ok p z =
               let t : eqb a.refusal 0 ≡ true = eq-eqb a.refusal 0 z in
@@ -108,7 +108,7 @@ module _ (h : List ℕ) (subs rows events : List Row) (code : ℕ) (ws : List �
           ran t p = ran-at (decode code ws) refl t p
 
         -- in the head
-        module _ (k h' : List ℕ) (ends : h' ≡ (if eqb a.refusal 0 then stored_head (counted a.head) k else k)) where
+        module _ (k h' : List ℕ) (ends : h' ≡ (whether eqb a.refusal 0 then stored_head (counted a.head) k else k)) where
           head-zero : (c : Call) → decode code ws ≡ some c → arguments_ok c ≡ true → InHead c d h a k → a.refusal ≡ 0 → Called q b (lent h' subs rows) events events r
           head-zero c e ok p z =
               let t : eqb a.refusal 0 ≡ true = eq-eqb a.refusal 0 z in
@@ -170,12 +170,12 @@ module _ (h : List ℕ) (subs rows events : List Row) (code : ℕ) (ws : List �
       pub fit-run : head_fits (length h) x ≡ true
       fit-run = subst⁻¹ (λ (y : Head). head_fits (length h) y ≡ true) is (run-fit h subs rows events code ws roomy known-code s more_left)
 
-      pub tables-run : (a : Answer) (r : Outcome) → r ≡ finished a → (subs' rows' events' : List Row) (h' : List ℕ) → h' ≡ (if eqb a.refusal 0 then stored_head (counted a.head) h else h)
+      pub tables-run : (a : Answer) (r : Outcome) → r ≡ finished a → (subs' rows' events' : List Row) (h' : List ℕ) → h' ≡ (whether eqb a.refusal 0 then stored_head (counted a.head) h else h)
           → PerformsBy (decode code ws) x a subs rows events subs' rows' events' → Called said-by (lent h subs rows) (lent h' subs' rows') events events' r
       tables-run a r said subs' rows' events' h' ends p = ran h subs rows events code ws roomy known-code s more_left a r said subs' rows' events' h' ends t
           (subst (λ (y : Head). PerformsBy (decode code ws) y a subs rows events subs' rows' events') is p)
 
-      pub head-run : (a : Answer) (r : Outcome) → r ≡ finished a → (k h' : List ℕ) → h' ≡ (if eqb a.refusal 0 then stored_head (counted a.head) k else k)
+      pub head-run : (a : Answer) (r : Outcome) → r ≡ finished a → (k h' : List ℕ) → h' ≡ (whether eqb a.refusal 0 then stored_head (counted a.head) k else k)
           → HeadBy (decode code ws) x h a k → Called said-by (lent h subs rows) (lent h' subs rows) events events r
       head-run a r said k h' ends p = ran-head h subs rows events code ws roomy known-code s more_left a r said k h' ends t
           (subst (λ (y : Head). HeadBy (decode code ws) y h a k) is p)
@@ -208,7 +208,7 @@ both_yes a b e f = sym (ap (λ (x : Bool). not x && b) e) ∙ f
 -- ---- an open
 
 module _ (h : List ℕ) (subs rows events : List Row) (code : ℕ) (ws : List ℕ) (roomy : short (lengths_of (lent h subs rows) (length events)) ≡ false) (zeroth : eqb code 0 ≡ true) where
-  pub opened-or : (r : Outcome) (h' : List ℕ) → r ≡ (if open_words ws then outcome 0 0 0 else outcome 3 0 0) → h' ≡ (if open_words ws then stored_head (opened_head ws) h else h)
+  pub opened-or : (r : Outcome) (h' : List ℕ) → r ≡ (whether open_words ws then outcome 0 0 0 else outcome 3 0 0) → h' ≡ (whether open_words ws then stored_head (opened_head ws) h else h)
       → Called (buffer_step (lent h subs rows) (length events) code ws) (lent h subs rows) (lent h' subs rows) events events r
   opened-or r h' e f = by-test (open_words ws)
       (λ o. subst⁻¹ (λ (k : List ℕ). Called q (lent h subs rows) (lent k subs rows) events events r) (f ∙ if-true (stored_head (opened_head ws) h) h o)

@@ -5,7 +5,7 @@ use mathlib.Core.List.{List, []}
 use mathlib.Core.Option.{Option, none, some}
 use Prim.Native.Nat.{ℕ, suc}
 use lib.Dec.{eqb, eqb-suc-zero}
-use Rattle.definition.specs.Base.{if◌then◌else◌}
+use Rattle.definition.specs.Base.{whether◌then◌else◌}
 use Rattle.definition.specs.Types.{Dest}
 use Rattle.definition.specs.Calls.{Lengths, short, sound, Call, Result, refused, used, arguments_ok, own_refusal, perform, refusal, call}
 use Rattle.definition.specs.Words.{decode, open_words, opened_by, open_step, call_step, step}
@@ -98,7 +98,7 @@ module _ (b : Buffers) (events code : ℕ) (ws : List ℕ) where
           unfolding call_step
           called = coded-step ∙ ap (call_step l t) decoded
 
-          last-refusal : refusal l c t ≡ (if eqb t.calls_used t.call_limit then 9 else own_refusal t c)
+          last-refusal : refusal l c t ≡ (whether eqb t.calls_used t.call_limit then 9 else own_refusal t c)
           unfolding refusal
           last-refusal = rw (roomy, is-sound, ok)
 

@@ -11,7 +11,7 @@ use Rattle.stats.specs.declared.Stats.{Stats}
 use Rattle.stats.specs.Counted.{with_discarded_by}
 use Rattle.entry.specs.Entry.{entry_of}
 use Rattle.definition.specs.Base as Base
-use Rattle.definition.specs.Base.{if◌then◌else◌, every, nth, tally, member}
+use Rattle.definition.specs.Base.{whether◌then◌else◌, every, nth, tally, member}
 use Rattle.definition.specs.Types.{Kind, topic, Id, Entry, Audit}
 use Rattle.definition.specs.Types as Def
 use Rattle.definition.specs.Consumer.{◌⊕◌, add_expired, add_discarded}
@@ -231,7 +231,7 @@ module _ (now : ℕ) (e : Entry) (subs₀ rows₀ : List Row) (d₀ : Head) (a :
           ap (λ (l : List Entry). member e.seq (seqs l)) (sym (rows-of-sub topic w flying held)) ∙ absent-first e.seq it (drop 1 (drop i all)) h in
           or-no-right (holds e.seq flying) _ (sym (holds-append e.seq flying held) ∙ o)
 
-      tally-is : tally (takes_entry e) (drop i ws) ≡ (if accepts_of s e then 1 else 0) + tally (takes_entry e) post
+      tally-is : tally (takes_entry e) (drop i ws) ≡ (whether accepts_of s e then 1 else 0) + tally (takes_entry e) post
       tally-is = ap (tally (takes_entry e)) (drop-cons ws i [] here)
 
       mine : Copy now limit e front flying held later s used rows (copied now limit e base s used rows) (copied_rows now limit e base s used rows)

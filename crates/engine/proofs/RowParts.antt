@@ -11,7 +11,7 @@ use mir.Syntax.{w32}
 use mir.Val.{SFits}
 use Rattle.words.proofs.Words.{int-fits}
 use Rattle.entry.specs.Entry.{entry_of, row_of}
-use Rattle.definition.specs.Base.{if◌then◌else◌, all}
+use Rattle.definition.specs.Base.{whether◌then◌else◌, all}
 use Rattle.definition.specs.Types.{Id, Entry, Sub, Audit, Dest}
 use Rattle.definition.specs.Layout.{Row, held_at, subs_at, sub_rows, entry_strict}
 use Rattle.definition.proofs.Tests.{and_both}
@@ -94,7 +94,7 @@ made d subs reserved waiting producers audits = record {
   producers = producers;
   audits = audits;
   stats = d.stats;
-  idle = if d.idle then some d.idle_since else none;
+  idle = whether d.idle then some d.idle_since else none;
   reserved = map held_at reserved;
 }
 

@@ -9,7 +9,7 @@ use lib.ListN.{length, take, drop, get_or}
 use lib.Seq.{slice, take-add}
 use Rattle.words.proofs.Tests.{by-test}
 use Rattle.entry.specs.Entry.{entry_of}
-use Rattle.definition.specs.Base.{if◌then◌else◌, tally}
+use Rattle.definition.specs.Base.{whether◌then◌else◌, tally}
 use Rattle.definition.specs.Types.{Kind, Entry, queue, topic}
 use Rattle.definition.specs.Consumer.{is_browser}
 use Rattle.definition.specs.Words.{at}
@@ -54,7 +54,7 @@ module _ (c : ℕ) where
 
   -- one consumer's, on a queue and on a topic
   one-queue : (w : Row) (h rows : List Row) → (b : Bool) → (row_sub w).browser ≡ b
-      → rows_from c (if b then [] else flying (sub_at queue w (take (inflight_count w) rows) h)) ≡ tally (came_from c) (take (if b then 0 else inflight_count w) rows)
+      → rows_from c (whether b then [] else flying (sub_at queue w (take (inflight_count w) rows) h)) ≡ tally (came_from c) (take (whether b then 0 else inflight_count w) rows)
   unfolding sub_at
   one-queue w h rows true e = refl
   one-queue w h rows false e = ap (rows_from c) (flying-rows (take (inflight_count w) rows)) ∙ counted (take (inflight_count w) rows)
@@ -76,9 +76,9 @@ module _ (c : ℕ) where
       let r : List Row = drop base rows in
       let s = sub_at queue w (take a r) (take b (drop a r)) in
       let t = browser-at queue w (take a r) (take b (drop a r)) in
-      joined (if is_browser s then [] else flying s) (taken (subs_at queue ws (drop b (drop a r))))
+      joined (whether is_browser s then [] else flying s) (taken (subs_at queue ws (drop b (drop a r))))
       ∙ ap₂ (λ (x y : ℕ). x + y)
-      (ap (λ (x : Bool). rows_from c (if x then [] else flying s)) t ∙ one-queue w (take b (drop a r)) r (row_sub w).browser refl ∙ ap (tally (came_from c)) (part base (own_of true (row_sub w)) rows))
+      (ap (λ (x : Bool). rows_from c (whether x then [] else flying s)) t ∙ one-queue w (take b (drop a r)) r (row_sub w).browser refl ∙ ap (tally (came_from c)) (part base (own_of true (row_sub w)) rows))
       (ap (λ (x : List Row). rows_from c (taken (subs_at queue ws x))) (drop-three base a b rows) ∙ all-queue (base + (a + b)) ws rows)
 
   all-topic : (base : ℕ) (ws rows : List Row) → rows_from c (consumer_rows (subs_at topic ws (drop base rows))) ≡ taken_from false c base ws rows

@@ -1,6 +1,6 @@
 -- Many calls on one lent state, one after another. Assumes nothing.
 use Rattle.std.specs.Prelude.{◌≡◌, Bool, true, not, List, [], ◌∷◌, ◌++◌, map, ℕ, zero, suc, ◌-◌, eqb, length, take, drop}
-use Rattle.definition.specs.Base.{if◌then◌else◌, all}
+use Rattle.definition.specs.Base.{whether◌then◌else◌, all}
 use Rattle.definition.specs.Types.{Dest}
 use Rattle.definition.specs.Calls.{Lengths, short, Result}
 use Rattle.definition.specs.Words.{at, step}
@@ -39,11 +39,11 @@ batch l places [] t = undone t
 batch l zero (w ∷ ws) t = undone t
 batch l (suc k) (w ∷ ws) t =
     let r = step l (at 0 w) (eight_words w) t in
-    if short l then undone t else followed r (batch (less (length r.events) l) k ws r.dest)
+    whether short l then undone t else followed r (batch (less (length r.events) l) k ws r.dest)
 
 -- on lent buffers: where they are not sound, none
 unfoldable pub buffer_batch : Buffers → ℕ → ℕ → List Row → Batch
-buffer_batch b events places ws = if sound_buffers b then batch (lengths_of b events) places ws (view b) else undone (view b)
+buffer_batch b events places ws = whether sound_buffers b then batch (lengths_of b events) places ws (view b) else undone (view b)
 
 abbrev pub refusing : Row → Bool
 refusing o = not (eqb (at 0 o) 0)

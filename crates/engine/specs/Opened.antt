@@ -2,7 +2,7 @@
 use Rattle.std.specs.Prelude.{true, List, ℕ, eqb}
 use Rattle.definition.specs.Consumer.{zero_stats}
 use Rattle.definition.specs.Words.{at, share_of}
-use Rattle.definition.specs.Base.{if◌then◌else◌}
+use Rattle.definition.specs.Base.{whether◌then◌else◌}
 use Rattle.stats.specs.Counted.{more}
 use Rattle.state.specs.declared.Head.{Head}
 use Rattle.state.specs.declared.Answer.{Answer}
@@ -37,4 +37,4 @@ counted d = with_used_calls (more d.calls_used) d
 
 -- a refused call answers its refusal alone
 abbrev pub finished : Answer → Outcome
-finished a = if eqb a.refusal 0 then outcome 0 a.answer a.head.events else outcome a.refusal 0 0
+finished a = whether eqb a.refusal 0 then outcome 0 a.answer a.head.events else outcome a.refusal 0 0

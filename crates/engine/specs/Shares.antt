@@ -2,7 +2,7 @@
 use Rattle.std.specs.Prelude.{ℕ, ◌+◌, Bool, List, [], ◌∷◌, eqb}
 use Rattle.std.proofs.Math.Seq.{slice}
 use Rattle.entry.specs.Entry.{entry_of}
-use Rattle.definition.specs.Base.{if◌then◌else◌, tally}
+use Rattle.definition.specs.Base.{whether◌then◌else◌, tally}
 use Rattle.definition.specs.Types.{Entry}
 use Rattle.definition.specs.Calls.{own_rows, rows_from, over_share}
 use Rattle.definition.specs.Layout.{Row, inflight_count, held_count}
@@ -17,7 +17,7 @@ came_from c w = eqb c (entry_of w).producer
 
 -- how many of a consumer's rows, from its first on, belong to connections: all on a topic; on a queue those in flight, and none of a browser's
 abbrev pub own_of : Bool → Sub → ℕ
-own_of queue s = if queue then (if s.browser then 0 else s.inflight) else s.inflight + s.held
+own_of queue s = whether queue then (whether s.browser then 0 else s.inflight) else s.inflight + s.held
 
 -- those of one connection, where the rows of these consumers begin at a place
 unfoldable pub taken_from : Bool → ℕ → ℕ → List Row → List Row → ℕ

@@ -2,7 +2,7 @@
 use Rattle.std.specs.Prelude.{ℕ, ◌+◌, Bool, List, [], map, take}
 use Rattle.std.proofs.Math.Option.{none}
 use Rattle.entry.specs.Entry.{entry_of}
-use Rattle.definition.specs.Base.{if◌then◌else◌, tally, member}
+use Rattle.definition.specs.Base.{whether◌then◌else◌, tally, member}
 use Rattle.definition.specs.Types.{Kind, queue, topic, Entry, Dest, with_pending, with_subs, with_idle}
 use Rattle.definition.specs.Destination.{insert, hold_back, fan_out_all, count, stored, fanned_out}
 use Rattle.definition.specs.Calls.{seqs, enqueuing, own_refusal}
@@ -36,7 +36,7 @@ holds seq rows = member seq (seqs (map entry_of rows))
 
 -- the rows that an entry needs: one on a queue, one for each consumer that accepts it on a topic
 abbrev pub rows_needed : Entry → Head → List Row → ℕ
-rows_needed e d subs = if d.queue then 1 else tally (takes_entry e) (take d.consumers subs)
+rows_needed e d subs = whether d.queue then 1 else tally (takes_entry e) (take d.consumers subs)
 
 -- the refusal that is the entry's own. It looks at no producer, no audit and no clock.
 abbrev pub own_refusal_of : Entry → Head → List Row → List Row → ℕ

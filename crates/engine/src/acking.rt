@@ -4,7 +4,7 @@ ghost use Rattle.std.proofs.Math.Seq.{slice};
 ghost use Rattle.model.specs.declared.Id.{Id};
 ghost use Rattle.model.specs.declared.AckEffect.TheVariants.{Removes};
 ghost use Rattle.model.specs.declared.AckCount.TheVariants.{DeadLetter};
-ghost use Rattle.definition.specs.Base.{if◌then◌else◌, all, tally};
+ghost use Rattle.definition.specs.Base.{whether◌then◌else◌, all, tally};
 ghost use Rattle.definition.specs.Consumer.{free, redeliver, ack_sub};
 ghost use Rattle.definition.specs.Layout.{Row, inflight_at};
 ghost use Rattle.entry.specs.declared.Found.TheVariants.{At};
@@ -180,7 +180,7 @@ fn act(
 
 // Which entries an ack's type means, outside a transaction or in one.
 fn range_of(rule: AckRule, transacted: bool) -> AckRange
-    ensures { result ≡ (if transacted then rule.tx_range else rule.range) }
+    ensures { result ≡ (whether transacted then rule.tx_range else rule.range) }
 {
     if transacted {
         return rule.tx_range;
@@ -190,7 +190,7 @@ fn range_of(rule: AckRule, transacted: bool) -> AckRange
 
 // And what it does to them.
 fn effect_of(rule: AckRule, transacted: bool) -> AckEffect
-    ensures { result ≡ (if transacted then rule.tx_effect else rule.effect) }
+    ensures { result ≡ (whether transacted then rule.tx_effect else rule.effect) }
 {
     if transacted {
         return rule.tx_effect;

@@ -2,7 +2,7 @@
 #![tactic(auto)]
 
 ghost use Rattle.std.specs.Prelude.{◌≡◌, true, false, ◌<◌, eqb, length};
-ghost use Rattle.definition.specs.Base.{if◌then◌else◌};
+ghost use Rattle.definition.specs.Base.{whether◌then◌else◌};
 ghost use Rattle.definition.specs.Words.{share_of, open_words};
 ghost use Rattle.definition.specs.Base.{is_some};
 ghost use Rattle.definition.specs.Calls.{short};
@@ -93,8 +93,8 @@ fn opened(words: [u64; 8]) -> Head
 
 // Opens a destination, where the words are those of an open.
 fn open(head: &mut [u64], c: Call) -> Outcome
-    ensures value { result ≡ (if open_words c.words then outcome 0 0 0 else outcome 3 0 0) }
-    ensures head_after { head.new ≡ (if open_words c.words then stored_head (opened_head c.words) head.old else head.old) }
+    ensures value { result ≡ (whether open_words c.words then outcome 0 0 0 else outcome 3 0 0) }
+    ensures head_after { head.new ≡ (whether open_words c.words then stored_head (opened_head c.words) head.old else head.old) }
 {
     if !c.opens() {
         return Outcome::refused(3);
@@ -112,7 +112,7 @@ fn open(head: &mut [u64], c: Call) -> Outcome
 // Stores what a call leaves, with one call more used; a refused one stores nothing.
 pub fn finish(head: &mut [u64], a: Answer) -> Outcome
     ensures value { result ≡ finished a }
-    ensures head_after { head.new ≡ (if eqb a.refusal 0 then stored_head (counted a.head) head.old else head.old) }
+    ensures head_after { head.new ≡ (whether eqb a.refusal 0 then stored_head (counted a.head) head.old else head.old) }
 {
     if a.refusal != 0 {
         return Outcome::refused(a.refusal);

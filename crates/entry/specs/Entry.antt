@@ -3,7 +3,7 @@ use Rattle.std.specs.Prelude.{ℕ, ◌/◌, ◌%◌, ◌^◌, Bool, true, not, �
 use Rattle.std.proofs.Math.IntN.{suc_ℤ}
 use Rattle.std.specs.Int.Signed.{lt_z, le_z}
 use mir.Val.{bool_byte}
-use Rattle.words.specs.Pick.{if◌then◌else◌}
+use Rattle.words.specs.Pick.{whether◌then◌else◌}
 use Rattle.words.specs.Words.{signed, unsigned, int}
 use Rattle.entry.specs.declared.Entry.{Entry}
 
@@ -13,7 +13,7 @@ expired now e = lt_z (pos 0) e.expiration && le_z e.expiration now
 
 -- i32: saturating_add(1)
 unfoldable pub one_more : ℤ → ℤ
-one_more r = if lt_z r (pos 2147483647) then suc_ℤ r else r
+one_more r = whether lt_z r (pos 2147483647) then suc_ℤ r else r
 
 abbrev pub with_redelivery : ℤ → Entry → Entry
 with_redelivery x e = record { seq = e.seq; expiration = e.expiration; producer = e.producer; match_word = e.match_word; redelivery = x; persistent = e.persistent; size = e.size }
@@ -28,7 +28,7 @@ bit w k = eqb (w / 2 ^ k % 2) 1
 
 -- bit s of a match word says whether selector s accepts; 64 is no selector, which accepts every entry
 unfoldable pub selects : ℕ → ℕ → Bool
-selects w s = if ltb s 64 then bit w s else true
+selects w s = whether ltb s 64 then bit w s else true
 
 -- a row of ten words: six of the entry, and its size in the last
 unfoldable pub entry_of : List ℕ → Entry

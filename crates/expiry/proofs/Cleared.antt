@@ -6,7 +6,7 @@ use Prim.Native.Nat.{ℕ, ◌+◌, ◌≤◌, min}
 use native.Mathlib.Omega.{arith}
 use lib.ListN.{length, take, drop, length-map, length-drop}
 use lib.Seq.{length-take-le}
-use Rattle.definition.specs.Base.{if◌then◌else◌}
+use Rattle.definition.specs.Base.{whether◌then◌else◌}
 use Rattle.definition.specs.Types.{Id, Audit, Dest}
 use Rattle.definition.specs.Types as Def
 use Rattle.definition.specs.Destination as Destination
@@ -33,8 +33,8 @@ pub refused : (b : Bool) → b ≡ false → (also : Type 0) (f : Dest → Desti
 refused b h also f g d subs rows events r e = (
   unless-touched b also f d r.head subs rows events subs rows events h (record { same_head = ap (λ (y : State.Answer). y.head) e; same-subs = refl; same_rows = refl; same-events = refl }),
   record {
-    refusal = ap (λ (y : State.Answer). y.refusal) e ∙ sym (ap (λ (y : Bool). if◌then◌else◌ {A = ℕ} y 0 2) h);
-    answer = λ ps qs _. ap (λ (y : State.Answer). y.answer) e ∙ sym (ap (λ (y : Bool). if◌then◌else◌ {A = ℕ} y (g (head_view d subs rows ps qs)).answer 0) h);
+    refusal = ap (λ (y : State.Answer). y.refusal) e ∙ sym (ap (λ (y : Bool). whether◌then◌else◌ {A = ℕ} y 0 2) h);
+    answer = λ ps qs _. ap (λ (y : State.Answer). y.answer) e ∙ sym (ap (λ (y : Bool). whether◌then◌else◌ {A = ℕ} y (g (head_view d subs rows ps qs)).answer 0) h);
   },
 )
 
@@ -106,7 +106,7 @@ module _ (d : Head) (subs rows events : List Row) (t : fits subs d (length rows)
   clears subs'' r es er = rw (es, er) (
     when-leaves (fits subs d (length rows) (length events)) _ clear_out d (emptied_head d) subs rows events subs' rows events t (leaves-cleared, record { room = omega (arith, facts.sent); as_many = refl }),
     record {
-      refusal = sym (ap (λ (y : Bool). if◌then◌else◌ {A = ℕ} y 0 2) t);
-      answer = λ ps qs _. answered ps qs ∙ sym (ap (λ (y : Bool). if◌then◌else◌ {A = ℕ} y (clear (head_view d subs rows ps qs)).answer 0) t);
+      refusal = sym (ap (λ (y : Bool). whether◌then◌else◌ {A = ℕ} y 0 2) t);
+      answer = λ ps qs _. answered ps qs ∙ sym (ap (λ (y : Bool). whether◌then◌else◌ {A = ℕ} y (clear (head_view d subs rows ps qs)).answer 0) t);
     },
   )

@@ -9,7 +9,7 @@ use lib.ListN.{take, drop}
 use lib.Seq.{slice}
 use Rattle.entry.specs.Entry.{entry_of}
 use Rattle.model.specs.Model.{id_of}
-use Rattle.definition.specs.Base.{if◌then◌else◌}
+use Rattle.definition.specs.Base.{whether◌then◌else◌}
 use Rattle.definition.specs.Types.{Kind, Entry, with_tpending}
 use Rattle.definition.specs.Types as Def
 use Rattle.definition.specs.Destination as Destination
@@ -36,7 +36,7 @@ sub_with k s f b l = record {
   freed = s.freed;
   next_dseq = s.next_dseq;
   cursor = s.cursor;
-  pull = if s.pulling then some s.pull else none;
+  pull = whether s.pulling then some s.pull else none;
   generation = s.generation;
   tpending = tpending_at k b l;
 }

@@ -13,7 +13,7 @@ use lib.Seq.{slice, slice-cons, slice_empty, length-slice, length-take-le, take_
 use Rattle.words.proofs.Words.{expired-word}
 use Rattle.words.proofs.Tests.{by-test}
 use Rattle.entry.specs.Entry.{entry_of}
-use Rattle.definition.specs.Base.{if◌then◌else◌, keep, tally, all}
+use Rattle.definition.specs.Base.{whether◌then◌else◌, keep, tally, all}
 use Rattle.definition.specs.Types.{Entry}
 use Rattle.definition.specs.Consumer.{expired}
 use Rattle.definition.specs.Destination as Destination
@@ -32,7 +32,7 @@ use Rattle.expiry.specs.Sweep.{next_of, Listed, sweep_listed, swept, SweepFine, 
 
 -- what stands at a place; at the end, nothing
 abbrev pub found_at : ℕ → ℕ → List Row → Option Entry
-found_at at to rows = if eqb at to then none else some (entry_of (get_or rows at []))
+found_at at to rows = whether eqb at to then none else some (entry_of (get_or rows at []))
 
 module _ (at to : ℕ) (rows : List Row) where
   pub found_none : at ≡ to → found_at at to rows ≡ none
@@ -49,7 +49,7 @@ by_word now row b h t = expired-word now (get_or row 1 0) (omega arith) ∙ t
 -- what was found, after one more entry
 module _ (now : ℕ) (e : Entry) (n : Option Entry) where
   abbrev next : Option Entry
-  next = if expired (pos now) e then sooner e n else n
+  next = whether expired (pos now) e then sooner e n else n
 
   pub met-not : expired (pos now) e ≡ false → n ≡ next
   met-not h = rw h
@@ -263,7 +263,7 @@ module _ (most now from : ℕ) (rows₀ : List Row) (w₀ : Swept) where
         let u : w.used ≤ length rows = omega (arith, f.used, f.room) in
         let few : k ≤ w.length = k-few from w rows f.rows u n.entry k rows' is made in
         let l : length rows' ≡ length rows = length-turn from w rows f.rows u n.entry k rows' is made in
-        let e : soonest now (sweep_listed from w rows).list ≡ some n.entry = sym q ∙ ap (λ (b : Bool). if◌then◌else◌ {A = Option Entry} b (some n.entry) none) t in
+        let e : soonest now (sweep_listed from w rows).list ≡ some n.entry = sym q ∙ ap (λ (b : Bool). whether◌then◌else◌ {A = Option Entry} b (some n.entry) none) t in
         record {
           same = l ∙ g.same;
           fine = record { rows = omega (arith, f.rows, few); used = omega (arith, f.used); room = omega (arith, l, f.room); gone = omega arith; few = f.few; clock = f.clock };
@@ -278,7 +278,7 @@ module _ (most now from : ℕ) (rows₀ : List Row) (w₀ : Swept) where
         → sweep_listed from w rows ≡ swept most now (sweep_listed from w₀ rows₀)
     unfolding sweep_listed
     turn-none n q t =
-        let e : soonest now (sweep_listed from w rows).list ≡ none = sym q ∙ ap (λ (b : Bool). if◌then◌else◌ {A = Option Entry} b (some n.entry) none) t in
+        let e : soonest now (sweep_listed from w rows).list ≡ none = sym q ∙ ap (λ (b : Bool). whether◌then◌else◌ {A = Option Entry} b (some n.entry) none) t in
         sym (swept_none most now (sweep_listed from w rows) e) ∙ g.said
 
     -- the budget is used up

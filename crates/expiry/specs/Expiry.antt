@@ -1,7 +1,7 @@
 -- What deleting entries leaves, and how it is answered. Assumes nothing.
 use Rattle.std.specs.Prelude.{◌≡◌, ℕ, Bool, List, [], ltb, length}
 use Rattle.stats.specs.Counted.{with_expired_by}
-use Rattle.definition.specs.Base.{if◌then◌else◌}
+use Rattle.definition.specs.Base.{whether◌then◌else◌}
 use Rattle.definition.specs.Types.{Id, Audit, Dest}
 use Rattle.definition.specs.Destination as Destination
 use Rattle.definition.specs.Destination.{Out, sweep_expired, clear}
@@ -24,9 +24,9 @@ sweep_out now most t = record { dest = (sweep_expired now most t).dest; events =
 
 -- the end of it: how many went, counted, and the idle mark
 abbrev pub sweep_finished : ℕ → ℕ → Head → State.Answer
-sweep_finished gone now d = if ltb 0 gone then done_as gone (touched now (with_counters (with_expired_by d.stats gone) d)) else done_as 0 d
+sweep_finished gone now d = whether ltb 0 gone then done_as gone (touched now (with_counters (with_expired_by d.stats gone) d)) else done_as 0 d
 
 -- answered as the definition has it; refused with 2 where a test fails
 pub record SweepAnswers (test : Bool) (f : Dest → Destination.Answer) (d : Head) (subs rows : List Row) (r : State.Answer) : Type 0 where
-  pub refusal : r.refusal ≡ (if test then 0 else 2)
-  pub answer : (producers : List Id) (audits : List Audit) → length producers ≡ d.producers → r.answer ≡ (if test then (f (head_view d subs rows producers audits)).answer else 0)
+  pub refusal : r.refusal ≡ (whether test then 0 else 2)
+  pub answer : (producers : List Id) (audits : List Audit) → length producers ≡ d.producers → r.answer ≡ (whether test then (f (head_view d subs rows producers audits)).answer else 0)

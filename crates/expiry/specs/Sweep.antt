@@ -3,7 +3,7 @@ use Rattle.std.specs.Prelude.{◌≡◌, ℕ, ◌+◌, ◌-◌, ◌≤◌, ◌^�
 use Rattle.std.proofs.Math.Option.{Option, none, some}
 use Rattle.std.proofs.Math.Seq.{slice}
 use Rattle.entry.specs.Entry.{entry_of}
-use Rattle.definition.specs.Base.{if◌then◌else◌, all}
+use Rattle.definition.specs.Base.{whether◌then◌else◌, all}
 use Rattle.definition.specs.Types.{Id, Audit, Dest, Entry, with_pending, with_subs}
 use Rattle.definition.specs.Destination.{sweep_list, sweep_subs}
 use Rattle.definition.specs.Layout.{Row, sub_rows, entry_strict}
@@ -15,7 +15,7 @@ use Rattle.expiry.specs.declared.Swept.{Swept}
 
 -- the entry that was found, if one was
 abbrev pub next_of : Next → Option Entry
-next_of n = if n.found then some n.entry else none
+next_of n = whether n.found then some n.entry else none
 
 -- the rows in use about a list, its entries, and how many went
 pub record Listed : Type 0 where
@@ -70,7 +70,7 @@ subs_swept budget by t = with_subs (sweep_subs budget by t.subs).subs t
 
 -- a snapshot is not swept
 abbrev pub swept_unless : Bool → ℕ → ℕ → Listed → Listed
-swept_unless snapshot most by v = if snapshot then v else swept most by v
+swept_unless snapshot most by v = whether snapshot then v else swept most by v
 
 -- the counts lie within the tables, and so many went before
 pub record Able (subs : List Row) (d : Head) (nrows before most by : ℕ) : Type 0 where

@@ -6,7 +6,7 @@ use mathlib.Core.Bool.{Bool, true, false, not, ◌&&◌}
 use mathlib.Core.List.{List, [], ◌∷◌, map}
 use mathlib.Core.Option.{Option, none, some}
 use lib.ListN.{length, length-map}
-use Rattle.definition.specs.Base.{if◌then◌else◌, keep, tally, empty}
+use Rattle.definition.specs.Base.{whether◌then◌else◌, keep, tally, empty}
 use Rattle.definition.specs.Types.{Id, Entry, Inflight, Sub, Stats, Held, Dest, Event}
 use Rattle.definition.specs.Consumer.{zero_stats, ◌⊕◌, Step, is_browser, AckType, Delivered, Poison, Standard, Redelivered, Individual, Unmatched, Expired, Other, ack_type, Ack, ack_range, ack_last, freed_as, free, remove_inflight, bumped, redeliver, unless_browser, ack_transacted, ack_plain, ack_sub}
 use Rattle.definition.specs.Destination.{count, is_id, sub_of, put_sub, held_by, reserved_of, reserved_hit, reserved_counts, ack_reserved}
@@ -26,11 +26,11 @@ fleeting e = not e.persistent
 -- what the counters add for the entries `own` that an acknowledgement of type y takes
 pub record Grows (y : AckType) (own : List Entry) (c : Stats) : Type 0 where
   pub enqueued : c.enqueued ≡ 0
-  pub dequeued : c.dequeued ≡ (if same_fate dequeued (ack_fate y) then length own else 0)
-  pub expired : c.expired ≡ (if same_fate expired (ack_fate y) then length own else 0)
-  pub discarded : c.discarded ≡ (if same_fate dead_lettered (ack_fate y) then tally fleeting own else 0)
+  pub dequeued : c.dequeued ≡ (whether same_fate dequeued (ack_fate y) then length own else 0)
+  pub expired : c.expired ≡ (whether same_fate expired (ack_fate y) then length own else 0)
+  pub discarded : c.discarded ≡ (whether same_fate dead_lettered (ack_fate y) then tally fleeting own else 0)
 
-nothing : (b : Bool) → ◌≡◌ {A = ℕ} 0 (if b then 0 else 0)
+nothing : (b : Bool) → ◌≡◌ {A = ℕ} 0 (whether b then 0 else 0)
 nothing true = refl
 nothing false = refl
 
@@ -70,9 +70,9 @@ keep-no (x ∷ l) = keep-no l
 
 -- what it names in flight
 abbrev in_range : AckType → Ack → Sub → List Entry
-in_range y a s = if is_browser s then [] else entries (keep (λ x. hits s a x y) s.inflight)
+in_range y a s = whether is_browser s then [] else entries (keep (λ x. hits s a x y) s.inflight)
 
-no-range : (s : Sub) → (if is_browser s then [] else entries (keep (λ x. false) s.inflight)) ≡ []
+no-range : (s : Sub) → (whether is_browser s then [] else entries (keep (λ x. false) s.inflight)) ≡ []
 no-range s = by-if (λ (l : List Entry). l ≡ []) (is_browser s) [] (entries (keep (λ x. false) s.inflight)) (λ c. refl) (λ c. ap entries (keep-no s.inflight))
 
 takes_none : (y : AckType) (s v : Sub) (es : List Event) → ((f : Entry → ℕ) → Steady f → count_m f v ≡ count_m f s) → Takes y [] s (record { sub = v; counts = zero_stats; events = es })
@@ -94,12 +94,12 @@ unfolding is_browser
 removed-browser hit s = refl
 
 -- two ifs of one test
-pub by-ifs : {A B : Type 0} (Q : A → B → Type 0) (b : Bool) (x y : A) (u v : B) → (b ≡ true → Q x u) → (b ≡ false → Q y v) → Q (if b then x else y) (if b then u else v)
+pub by-ifs : {A B : Type 0} (Q : A → B → Type 0) (b : Bool) (x y : A) (u v : B) → (b ≡ true → Q x u) → (b ≡ false → Q y v) → Q (whether b then x else y) (whether b then u else v)
 by-ifs Q true x y u v f g = f refl
 by-ifs Q false x y u v f g = g refl
 
 -- what is removed counts by c, unless the consumer is a browser
-removes : (y : AckType) (hit : Inflight → Bool) (c : Stats) (es : List Event) (s : Sub) → Grows y (entries (keep hit s.inflight)) c → Takes y (if is_browser s then [] else entries (keep hit s.inflight)) s (record { sub = remove_inflight hit s; counts = unless_browser s c; events = es })
+removes : (y : AckType) (hit : Inflight → Bool) (c : Stats) (es : List Event) (s : Sub) → Grows y (entries (keep hit s.inflight)) c → Takes y (whether is_browser s then [] else entries (keep hit s.inflight)) s (record { sub = remove_inflight hit s; counts = unless_browser s c; events = es })
 removes y hit c es s g = by-ifs (λ (own : List Entry) (d : Stats). Takes y own s (record { sub = remove_inflight hit s; counts = d; events = es })) (is_browser s) [] (entries (keep hit s.inflight)) zero_stats c
     (λ b. record { sums = λ f w. omega (arith, count-browser f s b, count-browser f (remove_inflight hit s) (removed-browser hit s ∙ b)); grows = grows_none y })
     (λ b. record { sums = λ f w. omega (arith, count-plain f s b, count-plain f (remove_inflight hit s) (removed-browser hit s ∙ b), flight-split f hit s.inflight); grows = g })
@@ -119,7 +119,7 @@ transacted-takes Expired a s = marks Expired (ack_range s a false) true s
 transacted-takes Other a s = marks Other (ack_range s a false) true s
 
 -- none, where none is named
-takes-no : (y : AckType) (s : Sub) (r : Step) → Takes y [] s r → Takes y (if is_browser s then [] else entries (keep (λ x. false) s.inflight)) s r
+takes-no : (y : AckType) (s : Sub) (r : Step) → Takes y [] s r → Takes y (whether is_browser s then [] else entries (keep (λ x. false) s.inflight)) s r
 takes-no y s r k = subst⁻¹ (λ (l : List Entry). Takes y l s r) (no-range s) k
 
 plain-takes : (y : AckType) (a : Ack) (s : Sub) → Takes y (in_range y a s) s (ack_plain a s y)
@@ -133,7 +133,7 @@ plain-takes Unmatched a s = removes Unmatched (ack_range s a true) _ [] s (recor
 plain-takes Expired a s = removes Expired (ack_range s a false) _ [] s (record { enqueued = refl; dequeued = refl; expired = sym (flight-many (ack_range s a false) s.inflight); discarded = refl })
 plain-takes Other a s = takes-no Other s _ (takes_none Other s s [] (λ f w. refl))
 
-pub ack-takes : (a : Ack) (s : Sub) → Takes (ack_type a.type) (if a.transacted then [] else in_range (ack_type a.type) a s) s (ack_sub a s)
+pub ack-takes : (a : Ack) (s : Sub) → Takes (ack_type a.type) (whether a.transacted then [] else in_range (ack_type a.type) a s) s (ack_sub a s)
 unfolding ack_sub
 ack-takes a s = by-ifs (λ (own : List Entry) (r : Step). Takes (ack_type a.type) own s r) a.transacted [] (in_range (ack_type a.type) a s) _ _ (λ c. transacted-takes (ack_type a.type) a s) (λ c. plain-takes (ack_type a.type) a s)
 
@@ -147,7 +147,7 @@ pub record Acked (y : AckType) (own : List Entry) (t v : Dest) : Type 0 where
   pub grows : Grows y own counts
   pub stats : v.stats ≡ t.stats ⊕ counts
 
-pub present-acked : (i : Id) (a : Ack) (s : Sub) (t : Dest) → sub_of i t ≡ some s → Acked (ack_type a.type) (if a.transacted then [] else named_at i a t (some s)) t (count (ack_sub a s).counts (put_sub i (ack_sub a s).sub t))
+pub present-acked : (i : Id) (a : Ack) (s : Sub) (t : Dest) → sub_of i t ≡ some s → Acked (ack_type a.type) (whether a.transacted then [] else named_at i a t (some s)) t (count (ack_sub a s).counts (put_sub i (ack_sub a s).sub t))
 present-acked i a s t e =
     let k = ack-takes a s in
     record { sums = λ f w. omega (arith, k.sums f w, sums-put (count_m f) (is_id i) t.subs s (ack_sub a s).sub e); waits = refl; counts = (ack_sub a s).counts; grows = k.grows; stats = refl }

@@ -7,7 +7,7 @@ use mathlib.Core.List.{List, [], ◌∷◌, ◌++◌, map, map-append}
 use mathlib.Core.Option.{Option, none, some}
 use lib.Dec.{eqb}
 use borrow.Author.Tests.{eqb-true, ne_eqb}
-use Rattle.definition.specs.Base.{if◌then◌else◌, keep, member}
+use Rattle.definition.specs.Base.{whether◌then◌else◌, keep, member}
 use Rattle.definition.specs.Types.{queue, Entry, Dest}
 use Rattle.definition.specs.Consumer.{ack_type}
 use Rattle.definition.specs.Calls.{seqs, taken, held, Call, enqueuing, joining, leaving, asking, unmarking, releasing, sweeping, clearing, adding, removing, testing, forgetting, discarding, missing, arguments_ok, Result, call, brought}
@@ -30,7 +30,7 @@ use Rattle.fates.specs.Books.{left_block, BlocksLeave}
 
 -- the fate by whether the entry waited
 abbrev fate_from : Bool → Means → Fate
-fate_from w (acks y) = if w then expired else ack_fate y
+fate_from w (acks y) = whether w then expired else ack_fate y
 fate_from w clears = cleared
 fate_from w expires = expired
 
@@ -94,7 +94,7 @@ read-says code ws =
     says : (n : ℕ) (b : Bool) (c : Call) → Says n ws c → eqb code n ≡ true → AllSays code ws (provided b c)
     says n b c h e = given-says code ws b c (subst⁻¹ (λ (k : ℕ). Says k ws c) (eqb-true code n e) h)
 
-    acked : (w : Bool) → leaves_as 4 (at 3 ws) w ≡ 3 + rank (if w then expired else ack_fate (ack_type (at 3 ws % 256)))
+    acked : (w : Bool) → leaves_as 4 (at 3 ws) w ≡ 3 + rank (whether w then expired else ack_fate (ack_type (at 3 ws % 256)))
     acked true = refl
     acked false = acked-number (at 3 ws % 256)
 

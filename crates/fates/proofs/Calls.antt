@@ -8,7 +8,7 @@ use mathlib.Core.Option.{Option, none, some}
 use lib.Dec.{eqb}
 use lib.IntN.{ℤ}
 use Rattle.audit.specs.Audit.{seen}
-use Rattle.definition.specs.Base.{if◌then◌else◌, keep, find, empty}
+use Rattle.definition.specs.Base.{whether◌then◌else◌, keep, find, empty}
 use Rattle.definition.specs.Types.{Kind, queue, topic, Id, Entry, Sub, Audit, Dest, with_idle, with_reserved}
 use Rattle.definition.specs.Consumer.{is_browser, redelivered, AckType, ack_type, Ack, ack_sub}
 use Rattle.definition.specs.Destination.{Out, Answer, count, sub_of, put_sub, touch_idle, due, dispatch, dispatch_by, stored, enqueue_by, Spec, joined, add_sub, prefetch_at, set_prefetch, reinsert, held_by, reserved_of, ack_reserved, ack_at, ack, pull, pull_timeout, returning, drop_sub, remove_at, remove_sub, return_reserved, audit_of, test_at, is_duplicate}
@@ -188,17 +188,17 @@ module _ (t : Dest) (k : t.kind ≡ queue) (o : (x : ℕ) → queue_sum (occ x) 
   still H now y own e = subst⁻¹ (λ (l : List Entry). Moves H now (acks y) l [] t t) e (ack-moves H now y [] t t t o (same-acked y t) (late-none H now t))
 
   -- of an absent consumer
-  absent : (now : ℕ) (i : Id) (a : Ack) → Moves (Ready t (asking i (acknowledge a now))) (due now t) (acks (ack_type a.type)) (if a.transacted then [] else named_at i a t none) [] t (ack_at now i a t none).dest
+  absent : (now : ℕ) (i : Id) (a : Ack) → Moves (Ready t (asking i (acknowledge a now))) (due now t) (acks (ack_type a.type)) (whether a.transacted then [] else named_at i a t none) [] t (ack_at now i a t none).dest
   unfolding ack_at
-  absent now i a = by-if (λ (r : Out). Moves (Ready t (asking i (acknowledge a now))) (due now t) (acks (ack_type a.type)) (if a.transacted then [] else named_at i a t none) [] t r.dest) (a.transacted || empty (reserved_of i t)) _ _
+  absent now i a = by-if (λ (r : Out). Moves (Ready t (asking i (acknowledge a now))) (due now t) (acks (ack_type a.type)) (whether a.transacted then [] else named_at i a t none) [] t r.dest) (a.transacted || empty (reserved_of i t)) _ _
       (λ c. still _ _ (ack_type a.type) _ (nothing c))
       (λ c. subst⁻¹ (λ (l : List Entry). Moves (Ready t (asking i (acknowledge a now))) (due now t) (acks (ack_type a.type)) l [] t (dispatch now (touch_idle now (ack_reserved i a t a.last).dest)).dest) (if-false [] (named_reserved i a t a.last) (or-no-left a.transacted _ c))
       (acked-moves _ now (due now t) (ack_type a.type) (named_reserved i a t a.last) (ack_reserved i a t a.last).dest (reserved-kind i a a.last) (reserved-due now i a a.last) (absent-acked i a t a.last) (λ h. reserved-seen (due now t) i a a.last h.1)))
     where
-      nothing : (a.transacted || empty (reserved_of i t)) ≡ true → (if a.transacted then [] else named_reserved i a t a.last) ≡ []
+      nothing : (a.transacted || empty (reserved_of i t)) ≡ true → (whether a.transacted then [] else named_reserved i a t a.last) ≡ []
       nothing c = by-if (λ (l : List Entry). l ≡ []) a.transacted [] (named_reserved i a t a.last) (λ x. refl) (λ x. none-reserved i a t a.last (sym (ap (λ b. b || empty (reserved_of i t)) x) ∙ c))
 
-  acknowledges : (now : ℕ) (i : Id) (a : Ack) (s : Option Sub) → sub_of i t ≡ s → Moves (Ready t (asking i (acknowledge a now))) (due now t) (acks (ack_type a.type)) (if a.transacted then [] else named_at i a t s) [] t (ack_at now i a t s).dest
+  acknowledges : (now : ℕ) (i : Id) (a : Ack) (s : Option Sub) → sub_of i t ≡ s → Moves (Ready t (asking i (acknowledge a now))) (due now t) (acks (ack_type a.type)) (whether a.transacted then [] else named_at i a t s) [] t (ack_at now i a t s).dest
   unfolding ack_at
   acknowledges now i a none e = absent now i a
   acknowledges now i a (some s) e = acked-moves _ now (due now t) (ack_type a.type) _ (count (ack_sub a s).counts (put_sub i (ack_sub a s).sub t)) k refl (present-acked i a s t e) (λ h. h.0 s e)

@@ -5,7 +5,7 @@ use mathlib.Core.Path.{◌≡◌, refl, sym, ◌∙◌, ap}
 use mathlib.Core.Option.{Option, none, some}
 use mathlib.Core.Bool.{true, false}
 use mathlib.Core.List.{List, [], ◌∷◌, ◌++◌, map}
-use Rattle.definition.specs.Base.{if◌then◌else◌, tally, empty, member}
+use Rattle.definition.specs.Base.{whether◌then◌else◌, tally, empty, member}
 use Rattle.definition.specs.Types.{Entry, Sub, Dest}
 use Rattle.definition.specs.Consumer.{is_browser, AckType, Delivered, Poison, Standard, Redelivered, Individual, Unmatched, Expired, Other}
 use Rattle.definition.specs.Calls.{seqs, flying, taken, held, Lengths, Call, Result, brought}
@@ -22,14 +22,14 @@ use Rattle.fates.specs.Account.{opening, calling, Place, waiting, in_flight, res
 
 -- ---- all departures, by fate
 
-shares : (y : Fate) (n : ℕ) → (if same_fate dequeued y then n else 0) + ((if same_fate expired y then n else 0) + ((if same_fate discarded y then n else 0) + ((if same_fate dead_lettered y then n else 0) + (if same_fate cleared y then n else 0)))) ≡ n
+shares : (y : Fate) (n : ℕ) → (whether same_fate dequeued y then n else 0) + ((whether same_fate expired y then n else 0) + ((whether same_fate discarded y then n else 0) + ((whether same_fate dead_lettered y then n else 0) + (whether same_fate cleared y then n else 0)))) ≡ n
 shares dequeued n = omega arith
 shares expired n = omega arith
 shares discarded n = omega arith
 shares dead_lettered n = omega arith
 shares cleared n = omega arith
 
-pub left-next : (x : Fate) (f : Entry → ℕ) (d : Departure) (l : List Departure) → sum f (left_as x (d ∷ l)) ≡ (if same_fate x d.fate then f d.entry else 0) + sum f (left_as x l)
+pub left-next : (x : Fate) (f : Entry → ℕ) (d : Departure) (l : List Departure) → sum f (left_as x (d ∷ l)) ≡ (whether same_fate x d.fate then f d.entry else 0) + sum f (left_as x l)
 left-next x f d l = by-test (same_fate x d.fate) (λ c. rw c) (λ c. rw c (omega arith))
 
 pub all_left : (f : Entry → ℕ) (l : List Departure) → sum f (map (λ d. d.entry) l) ≡ sum f (left_as dequeued l) + (sum f (left_as expired l) + (sum f (left_as discarded l) + (sum f (left_as dead_lettered l) + sum f (left_as cleared l))))
@@ -39,10 +39,10 @@ all_left f (d ∷ l) = omega (arith, all_left f l, shares d.fate (f d.entry), le
 -- ---- one number
 
 -- in a list that has it at most once
-pub there : (s : ℕ) (l : List Entry) → sum (occ s) l ≤ 1 → (if member s (seqs l) then 1 else 0) ≡ sum (occ s) l
+pub there : (s : ℕ) (l : List Entry) → sum (occ s) l ≤ 1 → (whether member s (seqs l) then 1 else 0) ≡ sum (occ s) l
 there s l h = by-test (member s (seqs l)) (λ c. rw c (omega (arith, member-occ s l c))) (λ c. rw c (sym (occ-member s l c)))
 
-carried : (s : ℕ) (c : Sub) → count_m (occ s) c ≤ 1 → (if carries s c then 1 else 0) ≡ count_m (occ s) c
+carried : (s : ℕ) (c : Sub) → count_m (occ s) c ≤ 1 → (whether carries s c then 1 else 0) ≡ count_m (occ s) c
 carried s c h = by-test (is_browser c)
     (λ b. rw b (sym (count-browser (occ s) c b)))
     (λ b. rw b (there s (flying c) (omega (arith, count-plain (occ s) c b)) ∙ sym (count-plain (occ s) c b)))
@@ -114,7 +114,7 @@ none_more t m (d ∷ l) k = by-test (same_fate discarded d.fate)
     (λ c. rw c (none_more t m l k))
   where
     cons-nil : {x : Entry} {r : List Entry} → x ∷ r ≡ [] → ⊥
-    cons-nil h = let z : ◌≡◌ {A = ℕ} 1 0 = ap (λ (r : List Entry). if empty r then 0 else 1) h in omega arith
+    cons-nil h = let z : ◌≡◌ {A = ℕ} 1 0 = ap (λ (r : List Entry). whether empty r then 0 else 1) h in omega arith
 
 pub none-is-discarded : NoneIsDiscarded
 none-is-discarded a l t (opening lent ws u h k) = refl

@@ -10,7 +10,7 @@ use lib.IntN.{ℤ, pos}
 use lib.Signed.{lt_z}
 use borrow.Author.Tests.{eqb-true, eq-eqb}
 use Rattle.audit.specs.Audit.{seen}
-use Rattle.definition.specs.Base.{if◌then◌else◌, keep, tally, find, empty, all}
+use Rattle.definition.specs.Base.{whether◌then◌else◌, keep, tally, find, empty, all}
 use Rattle.definition.specs.Types.{Kind, queue, topic, Id, Entry, Sub, Audit, Dest, with_prefetch, with_pending, with_subs, with_idle, with_reserved}
 use Rattle.definition.specs.Consumer.{add_expired, selects, is_browser, snapshot, send_null, same_seq, redelivered, Ack, ack_sub}
 use Rattle.definition.specs.Consumer as Consumer
@@ -111,7 +111,7 @@ returning-snaps P now i s last t queue a = by-if (λ (u : Dest). Snaps P u.subs)
     (λ c. reinsert-snaps P now (returned_from last s.inflight) (with_reserved (t.reserved ++ reserved_from s.id s.inflight) (drop_sub i t)) (snaps-without P (is_id i) t.subs a))
 
 unmarked-snaps : (P : Entry → Type 0) (i : Id) (t : Dest) → Snaps P t.subs → Snaps P (unmarked i t).subs
-unmarked-snaps P i t a = snaps-map P (λ s. if is_id i s then no_tx s else s) t.subs (λ s. by-if (λ (v : Sub). snapshot v ≡ snapshot s) (is_id i s) (no_tx s) s (λ c. refl) (λ c. refl)) a
+unmarked-snaps P i t a = snaps-map P (λ s. whether is_id i s then no_tx s else s) t.subs (λ s. by-if (λ (v : Sub). snapshot v ≡ snapshot s) (is_id i s) (no_tx s) s (λ c. refl) (λ c. refl)) a
 
 -- ---- each call
 

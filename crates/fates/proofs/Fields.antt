@@ -8,7 +8,7 @@ use mathlib.Core.Option.{Option, none, some}
 use lib.Dec.{eqb}
 use lib.IntN.{ℤ, ℤ_discrete}
 use borrow.Author.Tests.{eqb-true, eq-eqb, ne_eqb}
-use Rattle.definition.specs.Base.{if◌then◌else◌, find, member}
+use Rattle.definition.specs.Base.{whether◌then◌else◌, find, member}
 use Rattle.definition.specs.Types.{Entry, Dest, with_redelivery}
 use Rattle.definition.specs.Consumer.{redelivered}
 use Rattle.definition.specs.Calls.{seqs, taken, held}
@@ -42,7 +42,7 @@ said-self x (yes a) = refl
 said-self x (no a) = absurd (a refl)
 
 abbrev bit_of : Bool → ℕ
-bit_of b = if b then 1 else 0
+bit_of b = whether b then 1 else 0
 
 bit-same : (a b : Bool) → eqb (bit_of a) (bit_of b) ≡ true → a ≡ b
 bit-same true true h = refl
@@ -80,13 +80,13 @@ matches e (some f) = fields e f
 
 -- 1 for an entry that is none of these
 odd : List Entry → Entry → ℕ
-odd a e = if matches e (numbered e a) then 0 else 1
+odd a e = whether matches e (numbered e a) then 0 else 1
 
 odd-steady : (a : List Entry) → Steady (odd a)
 unfolding odd matches
 odd-steady a e = again (numbered e a)
   where
-    again : (o : Option Entry) → ◌≡◌ {A = ℕ} (if matches (redelivered e) o then 0 else 1) (if matches e o then 0 else 1)
+    again : (o : Option Entry) → ◌≡◌ {A = ℕ} (whether matches (redelivered e) o then 0 else 1) (whether matches e o then 0 else 1)
     again none = refl
     again (some f) = refl
 

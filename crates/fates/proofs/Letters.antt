@@ -8,7 +8,7 @@ use lib.Dec.{ltb, eqb}
 use lib.IntN.{ℤ, pos}
 use lib.Signed.{lt_z}
 use Rattle.audit.specs.Audit.{seen}
-use Rattle.definition.specs.Base.{if◌then◌else◌, keep, find, nth, empty, is_some}
+use Rattle.definition.specs.Base.{whether◌then◌else◌, keep, find, nth, empty, is_some}
 use Rattle.definition.specs.Types.{Kind, queue, topic, Id, Entry, Inflight, Sub, Audit, Dest, Event}
 use Rattle.definition.specs.Consumer.{expired, is_browser, snapshot, has_credit, AckType, Delivered, Poison, Standard, Redelivered, Individual, Unmatched, Expired, Other, ack_type, Ack, ack_range, dead_letters, ack_plain, ack_sub, Step, meet_topic, drain_topic, at_rest, serve_topic, Browse, meet_browser, close_browser, drain_browser}
 use Rattle.definition.specs.Destination.{Out, Answer, sub_of, Look, look, Turn, given, visit_at, visit, scan, turns, rounds, browsers, dispatch_queue, serve_all, dispatch_topic, dispatch_by, due, enqueue_by, add_sub, set_prefetch, reserved_of, reserved_hit, letters, reserved_events, ack_reserved, ack_at, ack, pulled, resumed, pull_at, pull, fired, timeout_at, pull_timeout, remove_at, remove_sub, return_reserved, sweep_list, sweep_subs, sweep_expired, clear, audit_of, test_at, is_duplicate}
@@ -155,7 +155,7 @@ persist l = keep (λ e. e.persistent) l
 
 keep_same : (p q : Entry → Bool) (l : List Entry) → ((e : Entry) → p e ≡ q e) → keep p l ≡ keep q l
 keep_same p q [] h = refl
-keep_same p q (e ∷ l) h = rw (h e) (ap (λ (k : List Entry). if q e then e ∷ k else k) (keep_same p q l h))
+keep_same p q (e ∷ l) h = rw (h e) (ap (λ (k : List Entry). whether q e then e ∷ k else k) (keep_same p q l h))
 
 left-keep : (f : Fate) (t : Dest) (m : Means) (l : List Entry) → left_as f (map (departing t m) l) ≡ keep (λ e. same_fate f (fate_by t e m)) l
 left-keep f t m [] = refl
@@ -187,7 +187,7 @@ dead-none Other = refl
 none-dead : (t : Dest) (m : Means) (l : List Entry) → ((e : Entry) → same_fate dead_lettered (fate_by t e m) ≡ false) → left_as dead_lettered (map (departing t m) l) ≡ []
 none-dead t m l h = left-keep dead_lettered t m l ∙ keep_same (λ e. same_fate dead_lettered (fate_by t e m)) (λ e. false) l h ∙ keep-no l
 
-by-waits : (y : AckType) (b : Bool) → Fates.ack_fate y ≡ Fates.dequeued → same_fate dead_lettered (if b then Fates.expired else Fates.ack_fate y) ≡ false
+by-waits : (y : AckType) (b : Bool) → Fates.ack_fate y ≡ Fates.dequeued → same_fate dead_lettered (whether b then Fates.expired else Fates.ack_fate y) ≡ false
 by-waits y true e = refl
 by-waits y false e = ap (same_fate dead_lettered) e
 
@@ -195,7 +195,7 @@ own-dead : (y : AckType) (t : Dest) (l : List Entry) → left_as dead_lettered (
 unfolding dead fate_by removal
 own-dead Poison t l = left-keep dead_lettered t (acks Poison) l ∙ keep_same _ (λ e. not (waits t e)) l (λ e. poisoned (waits t e))
   where
-    poisoned : (b : Bool) → same_fate dead_lettered (if b then Fates.expired else dead_lettered) ≡ not b
+    poisoned : (b : Bool) → same_fate dead_lettered (whether b then Fates.expired else dead_lettered) ≡ not b
     poisoned true = refl
     poisoned false = refl
 own-dead Delivered t l = none-dead t (acks Delivered) l (λ e. by-waits Delivered (waits t e) refl)
@@ -205,7 +205,7 @@ own-dead Individual t l = none-dead t (acks Individual) l (λ e. by-waits Indivi
 own-dead Unmatched t l = none-dead t (acks Unmatched) l (λ e. by-waits Unmatched (waits t e) refl)
 own-dead Expired t l = none-dead t (acks Expired) l (λ e. expired-not (waits t e))
   where
-    expired-not : (b : Bool) → same_fate dead_lettered (if b then Fates.expired else Fates.expired) ≡ false
+    expired-not : (b : Bool) → same_fate dead_lettered (whether b then Fates.expired else Fates.expired) ≡ false
     expired-not true = refl
     expired-not false = refl
 own-dead Other t l = none-dead t (acks Other) l (λ e. by-waits Other (waits t e) refl)
@@ -217,7 +217,7 @@ all-letters cause [] = refl
 all-letters cause (e ∷ l) = ap (λ (es : List Event). letter_of cause e ∷ es) (all-letters cause l)
 
 -- one more, if it is persistent
-one_more : (b cause : Bool) (e : Entry) (es : List Event) (l : List Entry) → es ≡ map (letter_of cause) l → (if b then letter_of cause e ∷ es else es) ≡ map (letter_of cause) (if b then e ∷ l else l)
+one_more : (b cause : Bool) (e : Entry) (es : List Event) (l : List Entry) → es ≡ map (letter_of cause) l → (whether b then letter_of cause e ∷ es else es) ≡ map (letter_of cause) (whether b then e ∷ l else l)
 one_more true cause e es l h = ap (λ (x : List Event). letter_of cause e ∷ x) h
 one_more false cause e es l h = h
 
@@ -229,7 +229,7 @@ default-letters : (l : List Entry) → letters l ≡ map (letter_of false) (pers
 default-letters [] = refl
 default-letters (e ∷ l) = one_more e.persistent false e (letters l) (persist l) (default-letters l)
 
-plain-letters : (y : AckType) (a : Ack) (s : Sub) → (ack_plain a s y).events ≡ map (letter_of a.cause) (persist (dead y (if is_browser s then [] else map (λ x. x.entry) (keep (λ x. hits s a x y) s.inflight))))
+plain-letters : (y : AckType) (a : Ack) (s : Sub) → (ack_plain a s y).events ≡ map (letter_of a.cause) (persist (dead y (whether is_browser s then [] else map (λ x. x.entry) (keep (λ x. hits s a x y) s.inflight))))
 unfolding ack_plain dead hits
 plain-letters Poison a s = by-test (is_browser s) (λ c. rw c) (λ c. rw c (flight-letters a.cause (keep (ack_range s a false) s.inflight)))
 plain-letters Delivered a s = refl
@@ -258,7 +258,7 @@ first-letters cause l x y h g = keep_append is_letter x y ∙ ap₂ (λ (p q : L
 no-letters : (y : AckType) (cause : Bool) (l : List Entry) → l ≡ [] → [] ≡ map (letter_of cause) (persist (dead y l))
 no-letters y cause l h = sym (ap (λ (k : List Entry). map (letter_of cause) (persist k)) (ap (dead y) h ∙ dead-none y))
 
-sub-letters : (i : Id) (a : Ack) (t : Dest) (s : Sub) → (ack_sub a s).events ≡ map (letter_of a.cause) (persist (dead (ack_type a.type) (if a.transacted then [] else named_at i a t (some s))))
+sub-letters : (i : Id) (a : Ack) (t : Dest) (s : Sub) → (ack_sub a s).events ≡ map (letter_of a.cause) (persist (dead (ack_type a.type) (whether a.transacted then [] else named_at i a t (some s))))
 unfolding ack_sub
 sub-letters i a t s = by-ifs (λ (r : Step) (l : List Entry). r.events ≡ map (letter_of a.cause) (persist (dead (ack_type a.type) l))) a.transacted _ _ _ _
     (λ c. no-letters (ack_type a.type) a.cause [] refl)
@@ -269,7 +269,7 @@ unfolding ack_reserved
 taken-letters i a t none = no-letters (ack_type a.type) false [] refl
 taken-letters i a t (some last) = reserved-letters (ack_type a.type) (keep (λ e. reserved_hit a.first last e (ack_type a.type)) (reserved_of i t))
 
-ack-letters : (now : ℕ) (i : Id) (a : Ack) (t : Dest) (s : Option Sub) → keep is_letter (ack_at now i a t s).events ≡ map (letter_of (is_some s && a.cause)) (persist (dead (ack_type a.type) (if a.transacted then [] else named_at i a t s)))
+ack-letters : (now : ℕ) (i : Id) (a : Ack) (t : Dest) (s : Option Sub) → keep is_letter (ack_at now i a t s).events ≡ map (letter_of (is_some s && a.cause)) (persist (dead (ack_type a.type) (whether a.transacted then [] else named_at i a t s)))
 unfolding ack_at
 ack-letters now i a t none = by-if (λ (r : Out). keep is_letter r.events ≡ map (letter_of false) (persist (dead (ack_type a.type) named))) (a.transacted || empty (reserved_of i t)) _ _
     (λ c. no-letters (ack_type a.type) false named (nothing c))
@@ -277,11 +277,11 @@ ack-letters now i a t none = by-if (λ (r : Out). keep is_letter r.events ≡ ma
     (taken-letters i a t a.last ∙ ap (λ (l : List Entry). map (letter_of false) (persist (dead (ack_type a.type) l))) (sym (if-false [] (named_reserved i a t a.last) (or-no-left a.transacted _ c)))) (sends-quiet _ _ _))
   where
     named : List Entry
-    named = if a.transacted then [] else named_reserved i a t a.last
+    named = whether a.transacted then [] else named_reserved i a t a.last
 
     nothing : (a.transacted || empty (reserved_of i t)) ≡ true → named ≡ []
     nothing c = by-if (λ (l : List Entry). l ≡ []) a.transacted [] (named_reserved i a t a.last) (λ x. refl) (λ x. none-reserved i a t a.last (sym (ap (λ b. b || empty (reserved_of i t)) x) ∙ c))
-ack-letters now i a t (some s) = first-letters a.cause (persist (dead (ack_type a.type) (if a.transacted then [] else named_at i a t (some s)))) (ack_sub a s).events _ (sub-letters i a t s) (sends-quiet _ _ _)
+ack-letters now i a t (some s) = first-letters a.cause (persist (dead (ack_type a.type) (whether a.transacted then [] else named_at i a t (some s)))) (ack_sub a s).events _ (sub-letters i a t s) (sends-quiet _ _ _)
 
 -- ---- each call
 

@@ -7,7 +7,7 @@ use mathlib.Core.List.{List, [], ◌∷◌, map}
 use mathlib.Core.Option.{some}
 use lib.Dec.{ltb, eqb}
 use borrow.Author.Tests.{eq-eqb}
-use Rattle.definition.specs.Base.{if◌then◌else◌, keep, tally, find, put, member}
+use Rattle.definition.specs.Base.{whether◌then◌else◌, keep, tally, find, put, member}
 use Rattle.definition.specs.Types.{Entry, Sub}
 use Rattle.definition.specs.Consumer.{redelivered, is_browser}
 use Rattle.definition.specs.Destination.{insert, insert_all}
@@ -36,7 +36,7 @@ sum-split f p (e ∷ l) = by-test (p e) (λ c. rw c (omega (arith, sum-split f p
 
 -- a measure of what passes only
 abbrev pub only : (Entry → Bool) → (Entry → ℕ) → Entry → ℕ
-only p f e = if p e then f e else 0
+only p f e = whether p e then f e else 0
 
 pub sum-only : (f : Entry → ℕ) (p : Entry → Bool) (l : List Entry) → sum (only p f) l ≡ sum f (keep p l)
 sum-only f p [] = refl

@@ -6,7 +6,7 @@ use mathlib.Core.Bool.{Bool, false}
 use mathlib.Core.List.{List, [], ◌∷◌, ◌++◌, map}
 use mathlib.Core.Option.{Option, none, some}
 use borrow.Author.Tests.{eq-eqb}
-use Rattle.definition.specs.Base.{if◌then◌else◌, keep, find}
+use Rattle.definition.specs.Base.{whether◌then◌else◌, keep, find}
 use Rattle.definition.specs.Types.{Id, Entry, Inflight, Sub, Held, Dest}
 use Rattle.definition.specs.Consumer.{is_browser, AckType, ack_type, Ack}
 use Rattle.definition.specs.Destination.{sub_of, held_by, reserved_of, reserved_hit}
@@ -82,8 +82,8 @@ taken-part : (p : Sub → Bool) (l : List Sub) (s : Sub) (m : List Entry) → fi
 taken-part p [] s m f b r = absurd (none-some f)
 taken-part p (c ∷ l) s m f b r = by-test (p c)
     (λ d. let e = some_inj (sym (if-true (some c) (find p l) d) ∙ f) in
-    part-before (taken l) _ m (subst⁻¹ (λ (k : List Entry). Part k m) (ap (λ (x : Sub). if is_browser x then [] else flying x) e ∙ if-false [] (flying s) b) r))
-    (λ d. part-later (if is_browser c then [] else flying c) (taken l) m (taken-part p l s m (sym (if-false (some c) (find p l) d) ∙ f) b r))
+    part-before (taken l) _ m (subst⁻¹ (λ (k : List Entry). Part k m) (ap (λ (x : Sub). whether is_browser x then [] else flying x) e ∙ if-false [] (flying s) b) r))
+    (λ d. part-later (whether is_browser c then [] else flying c) (taken l) m (taken-part p l s m (sym (if-false (some c) (find p l) d) ∙ f) b r))
 
 reserved-part : (i : Id) (a : Ack) (t : Dest) (o : Option ℕ) → Part (held t) (named_reserved i a t o)
 reserved-part i a t none = part_none (held t)

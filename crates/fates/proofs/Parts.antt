@@ -9,7 +9,7 @@ use lib.Dec.{ltb, eqb}
 use lib.IntN.{ℤ, pos}
 use lib.Signed.{lt_z}
 use lib.ListN.{length, length-append}
-use Rattle.definition.specs.Base.{if◌then◌else◌, keep, empty}
+use Rattle.definition.specs.Base.{whether◌then◌else◌, keep, empty}
 use Rattle.definition.specs.Types.{Kind, queue, Id, Entry, Inflight, Sub, Stats, Dest, with_prefetch, with_idle, with_reserved}
 use Rattle.definition.specs.Consumer.{expired, selects, is_browser, redelivered, send_null}
 use Rattle.definition.specs.Destination.{Out, Answer, is_id, sub_of, put_sub, idle_mark, touch_idle, dispatch, dispatch_by, hold_back, hold_back_all, stored, due, Spec, new_sub, joined, room, prefetch_at, reinsert, held_by, reserved_of, pull_at, pulled, resumed, fired, timeout_at, was_delivered, returned_from, reserved_from, returning, drop_sub, no_tx, unmarked}
@@ -211,13 +211,13 @@ returns H now t d es o k = record {
 returned-sum : (f : Entry → ℕ) → Steady f → (last : ℤ) (j : Id) (l : List Inflight) → sum f (returned_from last l) + sum f (map (λ h. h.entry) (reserved_from j l)) ≡ sum f (map (λ i. i.entry) l)
 returned-sum f w last j [] = refl
 returned-sum f w last j (i ∷ l) = by_bool
-    (λ b. sum f (if b then returned_from last l else (if was_delivered last i.entry then redelivered i.entry else i.entry) ∷ returned_from last l)
-    + sum f (map (λ h. h.entry) (if b then record { holder = j; entry = i.entry } ∷ reserved_from j l else reserved_from j l)) ≡ f i.entry + sum f (map (λ i. i.entry) l))
+    (λ b. sum f (whether b then returned_from last l else (whether was_delivered last i.entry then redelivered i.entry else i.entry) ∷ returned_from last l)
+    + sum f (map (λ h. h.entry) (whether b then record { holder = j; entry = i.entry } ∷ reserved_from j l else reserved_from j l)) ≡ f i.entry + sum f (map (λ i. i.entry) l))
     (omega (arith, returned-sum f w last j l))
     (omega (arith, returned-sum f w last j l, again))
     i.tx
   where
-    again : f (if was_delivered last i.entry then redelivered i.entry else i.entry) ≡ f i.entry
+    again : f (whether was_delivered last i.entry then redelivered i.entry else i.entry) ≡ f i.entry
     again = by-if (λ (e : Entry). f e ≡ f i.entry) (was_delivered last i.entry) (redelivered i.entry) i.entry (λ c. w i.entry) (λ c. refl)
 
 left-taken : (i : Id) (last : ℤ) (s : Sub) (t : Dest) → sub_of i t ≡ some s → is_browser s ≡ false → Taken t (with_reserved (t.reserved ++ reserved_from s.id s.inflight) (drop_sub i t)) (returned_from last s.inflight)
@@ -243,7 +243,7 @@ returning-expires H now i last s t k q o e = subst⁻¹ (λ (j : Kind). Expires 
 no-tx : Inflight → Inflight
 no-tx i = record { dseq = i.dseq; entry = i.entry; freed = i.freed; tx = false }
 
-unmarked-count : (f : Entry → ℕ) (i : Id) (s : Sub) → count_m f (if is_id i s then no_tx s else s) ≡ count_m f s
+unmarked-count : (f : Entry → ℕ) (i : Id) (s : Sub) → count_m f (whether is_id i s then no_tx s else s) ≡ count_m f s
 unfolding is_browser no-tx
 unmarked-count f i s = by-if (λ (v : Sub). count_m f v ≡ count_m f s) (is_id i s) (no_tx s) s
     (λ c. count_same f s (no_tx s) refl (flown s.inflight))
@@ -258,7 +258,7 @@ redelivered-sum f w [] = refl
 redelivered-sum f w (e ∷ l) = omega (arith, w e, redelivered-sum f w l)
 
 unmarked-sum : (f : Entry → ℕ) (i : Id) (t : Dest) → sums (count_m f) (unmarked i t).subs ≡ sums (count_m f) t.subs
-unmarked-sum f i t = sums-map (count_m f) (λ s. if is_id i s then no_tx s else s) t.subs (unmarked-count f i)
+unmarked-sum f i t = sums-map (count_m f) (λ s. whether is_id i s then no_tx s else s) t.subs (unmarked-count f i)
 
 pub unmarked-expires : (H : Type 0) (now : ℕ) (i : Id) (t : Dest) → Expires H now 0 [] t (unmarked i t)
 unmarked-expires H now i t = alike H now t (unmarked i t) (λ f w. omega (arith, unmarked-sum f i t)) refl

@@ -8,7 +8,7 @@ use mathlib.Core.Option.{some}
 use lib.Dec.{eqb}
 use lib.ListN.{length, length-append}
 use borrow.Author.Tests.{eqb-true, eqb-false, not-true}
-use Rattle.definition.specs.Base.{if◌then◌else◌, tally, all, member}
+use Rattle.definition.specs.Base.{whether◌then◌else◌, tally, all, member}
 use Rattle.definition.specs.Types.{Kind, queue, Entry, Dest}
 use Rattle.definition.specs.Consumer.{redelivered}
 use Rattle.definition.specs.Consumer as Consumer
@@ -39,11 +39,11 @@ fate-steady t expires e = refl
 
 like-steady : (x : Fate) (t : Dest) (m : Means) → Steady (like x t m)
 unfolding like
-like-steady x t m e = ap (λ y. if same_fate x y then 1 else 0) (fate-steady t m e)
+like-steady x t m e = ap (λ y. whether same_fate x y then 1 else 0) (fate-steady t m e)
 
 lettered-steady : (t : Dest) (m : Means) → Steady (lettered t m)
 unfolding lettered
-lettered-steady t m e = ap (λ y. if same_fate dead_lettered y then (if fleeting e then 1 else 0) else 0) (fate-steady t m e)
+lettered-steady t m e = ap (λ y. whether same_fate dead_lettered y then (whether fleeting e then 1 else 0) else 0) (fate-steady t m e)
 
 removal-steady : (t : Dest) (m : Means) (e : Entry) → removal t (redelivered e) m ≡ removal t e m
 unfolding removal
@@ -53,7 +53,7 @@ removal-steady t expires e = refl
 
 pub hasty-steady : (now : ℕ) (t : Dest) (m : Means) → Steady (hasty now t m)
 unfolding hasty alive Consumer.expired
-hasty-steady now t m e = ap (λ b. if b then alive now e else 0) (ap (λ y. same_fate expired y && not (removal t (redelivered e) m)) (fate-steady t m e) ∙ ap (λ b. same_fate expired (fate_by t e m) && not b) (removal-steady t m e))
+hasty-steady now t m e = ap (λ b. whether b then alive now e else 0) (ap (λ y. same_fate expired y && not (removal t (redelivered e) m)) (fate-steady t m e) ∙ ap (λ b. same_fate expired (fate_by t e m) && not b) (removal-steady t m e))
 
 -- ---- what leaves is what is gone
 
@@ -65,7 +65,7 @@ leavers-sum b gone t u o s f w = omega (arith, sum-only f out (holding t ++ b), 
     out e = not (member e.seq (seqs (holding u)))
 
     steady : Steady (only out f)
-    steady e = ap (λ n. if out e then n else 0) (w e)
+    steady e = ap (λ n. whether out e then n else 0) (w e)
 
     none_in : sum (only out f) (holding u) ≡ 0
     none_in = only_none out f (holding u) (mine-occ (λ x. not (member x (seqs (holding u))) ≡ false) (holding u) (λ x h. ap not (yes-member x (holding u) h)))
@@ -90,7 +90,7 @@ left-like x t m (e ∷ l) = by-test (same_fate x (fate_by t e m)) (λ c. rw c (o
 
 -- 1 for an entry that is not persistent
 fleets : Entry → ℕ
-fleets e = if fleeting e then 1 else 0
+fleets e = whether fleeting e then 1 else 0
 
 fleets-sum : (l : List Entry) → sum fleets l ≡ tally fleeting l
 unfolding fleets

@@ -5,7 +5,7 @@ use mathlib.Core.Path.{◌≡◌, refl, ap}
 use mathlib.Core.Bool.{Bool, true, false, not, ◌&&◌}
 use mathlib.Core.List.{List, [], ◌∷◌, ◌++◌}
 use lib.ListN.{length}
-use Rattle.definition.specs.Base.{if◌then◌else◌, tally, member}
+use Rattle.definition.specs.Base.{whether◌then◌else◌, tally, member}
 use Rattle.definition.specs.Types.{Entry, Stats, Dest}
 use Rattle.definition.specs.Consumer.{AckType, Delivered, Poison, Standard, Redelivered, Individual, Unmatched, Expired, Other}
 use Rattle.definition.specs.Destination.{clear}
@@ -25,27 +25,27 @@ use Rattle.fates.specs.Fates.{Fate, dequeued, expired, discarded, dead_lettered,
 
 -- 1 for an entry that leaves so
 unfoldable pub like : Fate → Dest → Means → Entry → ℕ
-like x t m e = if same_fate x (fate_by t e m) then 1 else 0
+like x t m e = whether same_fate x (fate_by t e m) then 1 else 0
 
 -- 1 for one that is dead-lettered and not persistent
 unfoldable pub lettered : Dest → Means → Entry → ℕ
-lettered t m e = if same_fate dead_lettered (fate_by t e m) then (if fleeting e then 1 else 0) else 0
+lettered t m e = whether same_fate dead_lettered (fate_by t e m) then (whether fleeting e then 1 else 0) else 0
 
 -- 1 for one that leaves like expired and has not, but for an acknowledgement's own removals
 unfoldable pub hasty : ℕ → Dest → Means → Entry → ℕ
-hasty now t m e = if same_fate expired (fate_by t e m) && not (removal t e m) then alive now e else 0
+hasty now t m e = whether same_fate expired (fate_by t e m) && not (removal t e m) then alive now e else 0
 
 abbrev Fated : Fate → Dest → Means → Entry → Type 0
 Fated y t m e = fate_by t e m ≡ y
 
-like-sum : (x y : Fate) (t : Dest) (m : Means) (l : List Entry) → All (Fated y t m) l → sum (like x t m) l ≡ (if same_fate x y then length l else 0)
+like-sum : (x y : Fate) (t : Dest) (m : Means) (l : List Entry) → All (Fated y t m) l → sum (like x t m) l ≡ (whether same_fate x y then length l else 0)
 unfolding like
 like-sum x y t m [] h = by-if (λ (n : ℕ). 0 ≡ n) (same_fate x y) 0 0 (λ c. refl) (λ c. refl)
 like-sum x y t m (e ∷ l) h = by-test (same_fate x y)
     (λ c. let k = like-sum x y t m l h.1 in rw (h.0, c) (omega (arith, k, if-true (length l) 0 c)))
     (λ c. let k = like-sum x y t m l h.1 in rw (h.0, c) (omega (arith, k, if-false (length l) 0 c)))
 
-lettered-sum : (y : Fate) (t : Dest) (m : Means) (l : List Entry) → All (Fated y t m) l → sum (lettered t m) l ≡ (if same_fate dead_lettered y then tally fleeting l else 0)
+lettered-sum : (y : Fate) (t : Dest) (m : Means) (l : List Entry) → All (Fated y t m) l → sum (lettered t m) l ≡ (whether same_fate dead_lettered y then tally fleeting l else 0)
 unfolding lettered
 lettered-sum y t m [] h = by-if (λ (n : ℕ). 0 ≡ n) (same_fate dead_lettered y) 0 0 (λ c. refl) (λ c. refl)
 lettered-sum y t m (e ∷ l) h = by-test (same_fate dead_lettered y)
@@ -140,11 +140,11 @@ unfolding hasty fate_by removal
 own-calm now y t [] h = refl
 own-calm now y t (e ∷ l) h = rw h.0 (omega (arith, and_no (same_fate expired (ack_fate y)) (alive now e), own-calm now y t l h.1))
   where
-    and_no : (b : Bool) (n : ℕ) → (if b && false then n else 0) ≡ 0
+    and_no : (b : Bool) (n : ℕ) → (whether b && false then n else 0) ≡ 0
     and_no true n = refl
     and_no false n = refl
 
-never-discarded : (y : AckType) (n : ℕ) → (if same_fate discarded (ack_fate y) then n else 0) ≡ 0
+never-discarded : (y : AckType) (n : ℕ) → (whether same_fate discarded (ack_fate y) then n else 0) ≡ 0
 never-discarded Delivered n = refl
 never-discarded Poison n = refl
 never-discarded Standard n = refl
@@ -182,8 +182,8 @@ ack-moves H now y own t v u o k l = record {
     not-waiting : All (λ e. waits t e ≡ false) own
     not-waiting = mine-occ (λ x. member x (seqs t.pending) ≡ false) own (λ x h. occ-no-member x t.pending (omega (arith, o x, k.sums (occ x) (occ-steady x), ap (sum (occ x)) k.waits)))
 
-    mine : (x : Fate) → sum (like x t (acks y)) own ≡ (if same_fate x (ack_fate y) then length own else 0)
+    mine : (x : Fate) → sum (like x t (acks y)) own ≡ (whether same_fate x (ack_fate y) then length own else 0)
     mine x = like-sum x (ack_fate y) t (acks y) own (own-fated y t own not-waiting)
 
-    theirs : (x : Fate) → sum (like x t (acks y)) l.gone ≡ (if same_fate x expired then length l.gone else 0)
+    theirs : (x : Fate) → sum (like x t (acks y)) l.gone ≡ (whether same_fate x expired then length l.gone else 0)
     theirs x = like-sum x expired t (acks y) l.gone (late-fated y t l.gone waiting)

@@ -10,7 +10,7 @@ use lib.IntN.{pos}
 use lib.ListN.{length}
 use lib.Signed.{lt_z, le_z}
 use borrow.Author.Tests.{eqb-true, eq-eqb, eqb-false, ne_eqb}
-use Rattle.definition.specs.Base.{if◌then◌else◌, keep, tally}
+use Rattle.definition.specs.Base.{whether◌then◌else◌, keep, tally}
 use Rattle.definition.specs.Types.{queue, Entry, Sub, Dest, with_tpending, with_pending, with_subs}
 use Rattle.definition.specs.Consumer.{expired, add_expired, is_browser}
 use Rattle.definition.specs.Destination.{Answer, count, due, sooner, soonest, Swept, sweep_at, sweep_list, SweptSubs, sweep_subs, sweep_expired, cleared, clear}
@@ -57,7 +57,7 @@ record Sweeps (now : ℕ) (l : List Entry) (w : Swept) : Type 0 where
 abbrev numbered : Entry → Entry → Bool
 numbered e f = eqb f.seq e.seq
 
-numbered-occ : (e f : Entry) → (if numbered e f then 1 else 0) ≡ occ e.seq f
+numbered-occ : (e f : Entry) → (whether numbered e f then 1 else 0) ≡ occ e.seq f
 numbered-occ e f = by-test (eqb f.seq e.seq)
     (λ c. rw c (sym (occ-yes e.seq f (eq-eqb e.seq f.seq (sym (eqb-true f.seq e.seq c))))))
     (λ c. rw c (sym (occ-no e.seq f (ne_eqb e.seq f.seq (λ h. eqb-false f.seq e.seq c (sym h))))))
@@ -68,7 +68,7 @@ numbered-many e (f ∷ l) = omega (arith, numbered-occ e f, numbered-many e l)
 
 -- 1 for an entry that has expired
 unfoldable pub dead : ℕ → Entry → ℕ
-dead now e = if expired (pos now) e then 1 else 0
+dead now e = whether expired (pos now) e then 1 else 0
 
 dead-yes : (now : ℕ) (e : Entry) → expired (pos now) e ≡ true → dead now e ≡ 1
 unfolding dead

@@ -7,7 +7,7 @@ use mathlib.Core.List.{List, [], ◌∷◌, ◌++◌, map}
 use lib.Dec.{eqb}
 use lib.ListN.{length, length-append, length-map}
 use borrow.Author.Tests.{eqb-true, eqb-false, eq-eqb, ne_eqb}
-use Rattle.definition.specs.Base.{if◌then◌else◌, keep, tally}
+use Rattle.definition.specs.Base.{whether◌then◌else◌, keep, tally}
 use Rattle.definition.specs.Types.{Entry, Dest}
 use Rattle.definition.specs.Calls.{taken, held, sound}
 use Rattle.definition.specs.Queries.{is_queue}
@@ -41,7 +41,7 @@ in_parts q l t = omega (
 abbrev says : ℕ → Block → Bool
 says n b = eqb (at 1 b) n
 
-held-says : (n p : ℕ) (l : List Entry) → tally (says n) (map (block_at p) l) ≡ (if eqb p n then length l else 0)
+held-says : (n p : ℕ) (l : List Entry) → tally (says n) (map (block_at p) l) ≡ (whether eqb p n then length l else 0)
 held-says n p [] = by-test (eqb p n) (λ c. rw c) (λ c. rw c)
 held-says n p (e ∷ l) = by-test (eqb p n) (λ c. let k = held-says n p l in rw c (omega (arith, rw c at k))) (λ c. let k = held-says n p l in rw c (omega (arith, rw c at k)))
 

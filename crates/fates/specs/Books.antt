@@ -1,7 +1,7 @@
 -- The blocks of a queue along calls, those that it holds and those that left, and what is claimed of them. Assumes nothing.
 use Rattle.std.specs.Prelude.{ℕ, ◌+◌, ◌≤◌, ◌≡◌, Bool, true, false, ◌&&◌, List, [], ◌∷◌, ◌++◌, map, eqb, length}
 use Rattle.std.proofs.Math.Option.{some}
-use Rattle.definition.specs.Base.{if◌then◌else◌, keep, tally, find, nth, is_some, member}
+use Rattle.definition.specs.Base.{whether◌then◌else◌, keep, tally, find, nth, is_some, member}
 use Rattle.definition.specs.Types.{queue, topic, Id, Entry, Dest, Event, letter, message, null, with_redelivery}
 use Rattle.definition.specs.Destination.{sub_of}
 use Rattle.definition.specs.Calls.{Lengths, sound, Request, acknowledge, pulling, timed_out, prefetching, Call, enqueuing, joining, leaving, asking, unmarking, releasing, sweeping, clearing, adding, removing, testing, forgetting, discarding, missing, seqs}
@@ -26,11 +26,11 @@ pub record Books : Type 0 where
 
 -- after an accepted call that left u: what leaves in it comes after what had left; an open begins anew
 abbrev pub booked : Lent → Dest → Books → Books
-booked k u b = record { dest = u; held = account_of u; left = (if eqb k.code 0 then [] else b.left) ++ left_blocks k.code k.words u b.held }
+booked k u b = record { dest = u; held = account_of u; left = (whether eqb k.code 0 then [] else b.left) ++ left_blocks k.code k.words u b.held }
 
 -- a refused one changes nothing
 abbrev pub books_next : Lent → Books → Books
-books_next k b = if eqb (result k b.dest).refusal 0 then booked k (result k b.dest).dest b else b
+books_next k b = whether eqb (result k b.dest).refusal 0 then booked k (result k b.dest).dest b else b
 
 abbrev pub along : List Lent → Books → Books
 along [] b = b
@@ -83,7 +83,7 @@ TotalsAreTheParts = (l : List Departure) (t : Dest) (p : Place) → tally (λ b.
 
 -- one block has the number of an accepted entry, and none any other number
 abbrev pub OneBlockEach : Type 0
-OneBlockEach = (a : List Entry) (l : List Departure) (t : Dest) → Account a l t → (s : ℕ) → tally (λ b. eqb s (at 0 b)) (all_blocks l t) ≡ (if member s (seqs a) then 1 else 0)
+OneBlockEach = (a : List Entry) (l : List Departure) (t : Dest) → Account a l t → (s : ℕ) → tally (λ b. eqb s (at 0 b)) (all_blocks l t) ≡ (whether member s (seqs a) then 1 else 0)
 
 -- each block has the number and the persistence of an accepted entry, and its number is in the place that it says
 abbrev pub BlocksAreRight : Type 0

@@ -3,7 +3,7 @@
 use Rattle.std.specs.Prelude.{ℕ, ◌+◌, Bool, List, [], ◌∷◌, ◌++◌, map, T}
 use Rattle.std.proofs.Math.Option.{Option, none, some}
 use Rattle.words.specs.Pick.{same_numbers}
-use Rattle.definition.specs.Base.{if◌then◌else◌, keep, every}
+use Rattle.definition.specs.Base.{whether◌then◌else◌, keep, every}
 use Rattle.definition.specs.Types.{Dest, Event, letter, message, null}
 use Rattle.definition.specs.Consumer.{consumer_open}
 use Rattle.definition.specs.Destination.{destination_open}
@@ -145,7 +145,7 @@ keeps l h g =
 -- the dead letters among these, each a number and whether the cause is the client's
 abbrev letters_in : List Event → List ℕ
 letters_in [] = []
-letters_in (letter s redelivery cause ∷ es) = s ∷ (if cause then 1 else 0) ∷ letters_in es
+letters_in (letter s redelivery cause ∷ es) = s ∷ (whether cause then 1 else 0) ∷ letters_in es
 letters_in (message i s redelivery ∷ es) = letters_in es
 letters_in (null i ∷ es) = letters_in es
 

@@ -1,7 +1,7 @@
 -- How entries leave a queue (document 02 §7), read from the calls made: no counter and no browser's copy is looked at. Assumes nothing.
 use Rattle.std.specs.Prelude.{ℕ, Bool, true, false, not, List, [], ◌++◌, map, eqb}
 use Rattle.std.proofs.Math.Option.{Option, none, some}
-use Rattle.definition.specs.Base.{if◌then◌else◌, keep, member}
+use Rattle.definition.specs.Base.{whether◌then◌else◌, keep, member}
 use Rattle.definition.specs.Types.{Id, Entry, Inflight, Sub, Dest}
 use Rattle.definition.specs.Consumer.{AckType, Delivered, Poison, Standard, Redelivered, Individual, Unmatched, Expired, Other, ack_type, Ack, ack_range, ack_last, is_browser}
 use Rattle.definition.specs.Destination.{sub_of, reserved_of, reserved_hit}
@@ -77,7 +77,7 @@ removal t e expires = false
 
 -- the fate of an entry that leaves in a call on t; what waited and leaves in an acknowledgement has expired in its dispatch
 unfoldable pub fate_by : Dest → Entry → Means → Fate
-fate_by t e (acks y) = if waits t e then expired else ack_fate y
+fate_by t e (acks y) = whether waits t e then expired else ack_fate y
 fate_by t e clears = cleared
 fate_by t e expires = expired
 
@@ -102,11 +102,11 @@ named_reserved i a t (some last) = keep (λ e. reserved_hit a.first last e (ack_
 -- of an absent consumer, or of one that is there and is no browser
 abbrev pub named_at : Id → Ack → Dest → Option Sub → List Entry
 named_at i a t none = named_reserved i a t a.last
-named_at i a t (some s) = if is_browser s then [] else map (λ x. x.entry) (keep (λ x. hits s a x (ack_type a.type)) s.inflight)
+named_at i a t (some s) = whether is_browser s then [] else map (λ x. x.entry) (keep (λ x. hits s a x (ack_type a.type)) s.inflight)
 
 -- a transacted one only marks
 abbrev pub named_by : Id → Ack → Dest → List Entry
-named_by i a t = if a.transacted then [] else named_at i a t (sub_of i t)
+named_by i a t = whether a.transacted then [] else named_at i a t (sub_of i t)
 
 -- ---- what leaves
 

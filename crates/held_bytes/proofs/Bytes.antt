@@ -6,7 +6,7 @@ use mathlib.Core.Bool.{Bool, true, false, not, ◌||◌, true≢false}
 use mathlib.Core.List.{List, [], ◌∷◌, ◌++◌, map}
 use lib.Dec.{eqb}
 use borrow.Author.Tests.{eqb-true, eq-eqb}
-use Rattle.definition.specs.Base.{if◌then◌else◌, keep, all, member}
+use Rattle.definition.specs.Base.{whether◌then◌else◌, keep, all, member}
 use Rattle.definition.specs.Types.{Entry, Inflight, Held, Sub, Dest}
 use Rattle.definition.specs.Consumer.{snapshot, redelivered}
 use Rattle.definition.specs.Calls.{Lengths, Call, enqueuing, joining, leaving, asking, unmarking, releasing, sweeping, clearing, adding, removing, testing, forgetting, discarding, missing, seqs, flying, rows_of, held, consumer_rows, all_rows, sizes_agree, own_refusal, perform, used, refusal, refused, Result, call, brought}
@@ -42,10 +42,10 @@ new-other x [] h = refl
 new-other x (e ∷ l) h = and_both (not (eqb x e.seq)) _ (ap not (or-no-left (eqb x e.seq) _ h)) (new-other x l (or-no-right (eqb x e.seq) _ h))
 
 bytes-in : (e : Entry) (l : List Entry) → member e.seq (seqs l) ≡ true → bytes_of (e ∷ l) ≡ bytes_of l
-bytes-in e l h = let z : ◌≡◌ {A = ℕ} (if member e.seq (seqs l) then 0 else e.size) 0 = if-true 0 e.size h in omega arith
+bytes-in e l h = let z : ◌≡◌ {A = ℕ} (whether member e.seq (seqs l) then 0 else e.size) 0 = if-true 0 e.size h in omega arith
 
 bytes-new : (e : Entry) (l : List Entry) → member e.seq (seqs l) ≡ false → bytes_of (e ∷ l) ≡ e.size + bytes_of l
-bytes-new e l h = let z : ◌≡◌ {A = ℕ} (if member e.seq (seqs l) then 0 else e.size) e.size = if-false 0 e.size h in omega arith
+bytes-new e l h = let z : ◌≡◌ {A = ℕ} (whether member e.seq (seqs l) then 0 else e.size) e.size = if-false 0 e.size h in omega arith
 
 bytes-out : (x z : ℕ) (l : List Entry) → member x (seqs l) ≡ true → all (like x z) l ≡ true → bytes_of l ≡ z + bytes_of (keep (λ e. not (eqb x e.seq)) l)
 bytes-out x z [] h g = absurd (true≢false (sym h))

@@ -9,7 +9,7 @@ use lib.ListN.{length, drop}
 use lib.IntN.{ℤ, pos}
 use lib.Signed.{lt_z}
 use Rattle.audit.specs.Audit.{seen}
-use Rattle.definition.specs.Base.{if◌then◌else◌, keep, nth, empty}
+use Rattle.definition.specs.Base.{whether◌then◌else◌, keep, nth, empty}
 use Rattle.definition.specs.Types.{Kind, queue, topic, Id, Entry, Inflight, Sub, Stats, Held, Audit, Dest, with_prefetch, with_cursor, with_pull, with_generation, with_tpending, with_pending, with_subs, with_idle, with_reserved}
 use Rattle.definition.specs.Consumer.{shown, add_expired, zero_stats, expired, selects, is_browser, snapshot, with_snapshot, has_credit, accepts, send, send_null, redelivered, freed_as, free, remove_inflight, bumped, redeliver, Ack, AckType, Delivered, Poison, Standard, Redelivered, Individual, Unmatched, Expired, Other, ack_type, ack_range, ack_last, ack_transacted, ack_plain, ack_sub, Step, meet_topic, drain_topic, at_rest, Browse, same_seq, meet_browser, close_browser, drain_browser, dispatch_browser}
 use Rattle.definition.specs.Destination.{Out, Answer, Look, look, Turn, given, visit_at, visit, scan, turns, rounds, Browsed, browsers, dispatch_queue, serve_all, dispatch_topic, dispatch_by, dispatch, count, is_id, sub_of, put_sub, insert, touch_idle, hold_back, due, Trimmed, trim, fan_out, fan_out_all, stored, fanned_out, enqueue_by, Spec, room, joined, add_sub, prefetch_at, set_prefetch, insert_all, hold_back_all, reinsert, held_by, reserved_of, ack_reserved, ack_at, ack, pulled, resumed, pull_at, pull, fired, timeout_at, pull_timeout, was_delivered, returned_from, reserved_from, without, returning, drop_sub, remove_at, remove_sub, no_tx, unmarked, return_reserved, Swept, sweep_at, sweep_list, sweep_subs, sweep_expired, emptied, cleared, clear, test_at, is_duplicate, soonest}
@@ -330,7 +330,7 @@ module _ (P : Entry → Type 0) (again : (e : Entry) → P e → P (redelivered 
       dispatches _ _ (touch_idle now u) (touches now u (returns t.kind now s last (drop_sub i t) (finds i s t e h) (record { pending = h.pending; reserved = h.reserved; subs = lacks (is_id i) t.subs h.subs })))
 
   untxed : (i : Id) (t : Dest) → Holds t → Holds (unmarked i t)
-  untxed i t h = record { pending = h.pending; reserved = h.reserved; subs = mapped Mine Mine (λ s. if is_id i s then no_tx s else s) (λ s m. by-if Mine (is_id i s) (no_tx s) s (λ c. kept_rows s (no_tx s) refl refl (mapped Flies Flies _ (λ j p. p) s.inflight m.flies) m) (λ c. m)) t.subs h.subs }
+  untxed i t h = record { pending = h.pending; reserved = h.reserved; subs = mapped Mine Mine (λ s. whether is_id i s then no_tx s else s) (λ s m. by-if Mine (is_id i s) (no_tx s) s (λ c. kept_rows s (no_tx s) refl refl (mapped Flies Flies _ (λ j p. p) s.inflight m.flies) m) (λ c. m)) t.subs h.subs }
 
   releases : (now : ℕ) (i : Id) (t : Dest) → Holds t → Holds (return_reserved now i t).dest
   unfolding return_reserved

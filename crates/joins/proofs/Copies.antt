@@ -7,7 +7,7 @@ use native.Mathlib.Numerals.{add-one}
 use native.Mathlib.Omega.{arith}
 use lib.ListN.{length, take, drop, get_or, set, length-set}
 use lib.Seq.{slice, slice_empty, slice-cons}
-use Rattle.definition.specs.Base.{if◌then◌else◌, keep, tally}
+use Rattle.definition.specs.Base.{whether◌then◌else◌, keep, tally}
 use Rattle.definition.specs.Layout.{Row}
 use Rattle.definition.proofs.Lists.{keep-count}
 use Rattle.table.proofs.Lists.{slice_snoc, written, written_none, written_at, written-more}
@@ -65,22 +65,22 @@ module _ (selector at from to : ℕ) (rs : List Row) where
           ap (λ (l : List Row). get_or l i []) g.said
           ∙ written_at at (at + tally p (slice from i rs)) (keep p (slice from i rs)) rs size i [] (omega (arith, before, g.from_low)) (omega (arith, before, g.from_low, inside))
 
-      rest : tally p (slice i to rs) ≡ (if p (get_or rs i []) then 1 else 0) + tally p (slice (i + 1) to rs)
+      rest : tally p (slice i to rs) ≡ (whether p (get_or rs i []) then 1 else 0) + tally p (slice (i + 1) to rs)
       rest = ap (tally p) (slice-cons i to rs [] less g.end ∙ ap (λ (n : ℕ). get_or rs i [] ∷ slice n to rs) (sym (add-one i)))
 
       grows : slice from (i + 1) rs ≡ slice from i rs ++ (get_or rs i [] ∷ [])
       grows = slice_snoc from i rs [] g.from_low inside
 
       pub copying-room : p (get_or now i []) ≡ true → j < from
-      copying-room t = omega (arith, g.room, rest, ap (λ (b : Bool). if◌then◌else◌ {A = ℕ} b 1 0) (ap p (sym copying-at) ∙ t))
+      copying-room t = omega (arith, g.room, rest, ap (λ (b : Bool). whether◌then◌else◌ {A = ℕ} b 1 0) (ap p (sym copying-at) ∙ t))
 
       pub copying-hit : p (get_or now i []) ≡ true → Copying selector at from to rs (set now j (get_or now i [])) (j + 1) (i + 1)
       unfolding copied_from written
       copying-hit t =
           let x : Row = get_or rs i [] in
           let h : p x ≡ true = ap p (sym copying-at) ∙ t in
-          let one : ◌≡◌ {A = ℕ} (if p x then 1 else 0) 1 = ap (λ (b : Bool). if◌then◌else◌ {A = ℕ} b 1 0) h in
-          let more : tally p (slice from (i + 1) rs) ≡ tally p (slice from i rs) + (if p x then 1 else 0) = tally-turn p from i rs x g.from_low inside refl in
+          let one : ◌≡◌ {A = ℕ} (whether p x then 1 else 0) 1 = ap (λ (b : Bool). whether◌then◌else◌ {A = ℕ} b 1 0) h in
+          let more : tally p (slice from (i + 1) rs) ≡ tally p (slice from i rs) + (whether p x then 1 else 0) = tally-turn p from i rs x g.from_low inside refl in
           let less_one = rest in
           let q : j + 1 ≡ at + tally p (slice from (i + 1) rs) = omega (arith, g.place) in
           let n : ℕ = at + tally p (slice from i rs) in
@@ -105,8 +105,8 @@ module _ (selector at from to : ℕ) (rs : List Row) where
       copying-miss t =
           let x : Row = get_or rs i [] in
           let h : p x ≡ false = ap p (sym copying-at) ∙ t in
-          let one : ◌≡◌ {A = ℕ} (if p x then 1 else 0) 0 = ap (λ (b : Bool). if◌then◌else◌ {A = ℕ} b 1 0) h in
-          let more : tally p (slice from (i + 1) rs) ≡ tally p (slice from i rs) + (if p x then 1 else 0) = tally-turn p from i rs x g.from_low inside refl in
+          let one : ◌≡◌ {A = ℕ} (whether p x then 1 else 0) 0 = ap (λ (b : Bool). whether◌then◌else◌ {A = ℕ} b 1 0) h in
+          let more : tally p (slice from (i + 1) rs) ≡ tally p (slice from i rs) + (whether p x then 1 else 0) = tally-turn p from i rs x g.from_low inside refl in
           let less_one = rest in
           let e : tally p (slice from i rs) ≡ tally p (slice from (i + 1) rs) = omega arith in
           record {

@@ -13,7 +13,7 @@ use lib.Seq.{take_at, drop_at, take-suc-set, drop-set-lt}
 use Rattle.stats.specs.declared.Stats.{Stats}
 use Rattle.stats.specs.Counted.{top, with_expired_by}
 use Rattle.entry.specs.Entry.{entry_of, expired, selects}
-use Rattle.definition.specs.Base.{if◌then◌else◌, all, keep, tally}
+use Rattle.definition.specs.Base.{whether◌then◌else◌, all, keep, tally}
 use Rattle.definition.specs.Types.{Kind, queue, topic, Id, Audit, Entry, Held, Dest}
 use Rattle.definition.specs.Types as Def
 use Rattle.definition.specs.Consumer.{add_expired}
@@ -52,7 +52,7 @@ parts_of d subs pending reserved ps qs = record {
   producers = ps;
   audits = qs;
   stats = d.stats;
-  idle = if d.idle then some d.idle_since else none;
+  idle = whether d.idle then some d.idle_since else none;
   reserved = reserved;
 }
 

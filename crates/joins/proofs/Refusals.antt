@@ -11,7 +11,7 @@ use lib.IntN.{pos}
 use lib.ListN.{length, take, drop, length-append, length-map, length-drop}
 use lib.Seq.{slice, length-take-le, drop-drop}
 use Rattle.entry.specs.Entry.{entry_of, expired, selects}
-use Rattle.definition.specs.Base.{if◌then◌else◌, is_some, tally}
+use Rattle.definition.specs.Base.{whether◌then◌else◌, is_some, tally}
 use Rattle.definition.specs.Types.{Id, Audit, Entry, Held, Dest}
 use Rattle.definition.specs.Types as Def
 use Rattle.definition.specs.Destination as Destination
@@ -119,12 +119,12 @@ module _ (d : Head) (subs rows : List Row) (ps : List Id) (qs : List Audit) (n :
   snapshot-is now p =
       let gets : Entry → Bool = λ e. not (expired (pos (due_by now d)) e) && selects e.match_word p.selector in
       let l : List Row = slice (first_waiting d) d.used rows in
-      ap (λ (n : ℕ). if p.browser then n else 0) (ap (tally gets) waiting-rows ∙ tally-map entry_of gets l)
+      ap (λ (n : ℕ). whether p.browser then n else 0) (ap (tally gets) waiting-rows ∙ tally-map entry_of gets l)
 
   pub refusal_is : (now : ℕ) (p : SubSpec) → own_refusal viewed (joining (spec_of p) now) ≡ join_refusal p subs d (snapshot_of (due_by now d) p d rows)
   unfolding own_refusal
   refusal_is now p = λ j.
-      if present-is (spec_of p).id j then 6
-      else if leb 32 (consumers-are j) then 7
-      else if ltb (free-is j) (snapshot-is now p j) then 5
+      whether present-is (spec_of p).id j then 6
+      else whether leb 32 (consumers-are j) then 7
+      else whether ltb (free-is j) (snapshot-is now p j) then 5
       else 0

@@ -4,7 +4,7 @@ use Rattle.std.proofs.Math.Seq.{slice}
 use Rattle.stats.specs.Counted.{with_expired_by}
 use Rattle.entry.specs.Entry.{expired, selects, entry_of}
 use Rattle.model.specs.Model.{id_of}
-use Rattle.definition.specs.Base.{if◌then◌else◌, every, keep, tally}
+use Rattle.definition.specs.Base.{whether◌then◌else◌, every, keep, tally}
 use Rattle.definition.specs.Types.{Id, Audit}
 use Rattle.definition.specs.Destination.{Spec, room}
 use Rattle.definition.specs.Calls.{joining, own_refusal, snapshot_rows}
@@ -43,7 +43,7 @@ snapped by selector w = not (gone_at by w) && shown_by selector w
 
 -- how many a snapshot gets of the waiting rows
 abbrev pub snapshot_of : ℕ → SubSpec → Head → List Row → ℕ
-snapshot_of by p d rows = if p.browser then tally (snapped by p.selector) (slice (first_waiting d) d.used rows) else 0
+snapshot_of by p d rows = whether p.browser then tally (snapped by p.selector) (slice (first_waiting d) d.used rows) else 0
 
 -- copies of the rows from..to that a selector takes stand from a place on
 unfoldable pub copied_from : ℕ → ℕ → ℕ → ℕ → List Row → List Row
@@ -58,14 +58,14 @@ is_found Nothing = false
 -- the refusal, with so many rows for its snapshot
 abbrev pub join_refusal : SubSpec → List Row → Head → ℕ → ℕ
 join_refusal p subs d k =
-    if is_found (position_from 0 (spec_of p).id (take d.consumers subs)) then 6
-    else if leb 32 d.consumers then 7
-    else if ltb (rows_free d) k then 5
+    whether is_found (position_from 0 (spec_of p).id (take d.consumers subs)) then 6
+    else whether leb 32 d.consumers then 7
+    else whether ltb (rows_free d) k then 5
     else 0
 
 -- the refusal that the definition gives; 2 where a test fails
 pub record Refused (test : Bool) (now : ℕ) (p : SubSpec) (d : Head) (subs rows : List Row) (r : ℕ) : Type 0 where
-  pub exact : (producers : List Id) (audits : List Audit) → r ≡ (if test then own_refusal (head_view d subs rows producers audits) (joining (spec_of p) now) else 2)
+  pub exact : (producers : List Id) (audits : List Audit) → r ≡ (whether test then own_refusal (head_view d subs rows producers audits) (joining (spec_of p) now) else 2)
 
 -- the clock is no later than 2^62, the numbers fit, nothing refuses it, nothing waits on a topic, and its snapshot and the events have room
 unfoldable pub joins_when : ℕ → SubSpec → List Row → Head → List Row → ℕ → Bool
@@ -107,10 +107,10 @@ abbrev pub with_one : Head → Head
 with_one d = not_idle (with_consumers (d.consumers + 1) d)
 
 abbrev pub joined_head : ℕ → SubSpec → ℕ → Head → List Row → Head
-joined_head by p k d rows = if p.browser then browsed_head by k (with_one d) rows else with_one d
+joined_head by p k d rows = whether p.browser then browsed_head by k (with_one d) rows else with_one d
 
 abbrev pub joined_rows : ℕ → SubSpec → ℕ → Head → List Row → List Row
-joined_rows by p k d rows = if p.browser then browsed_rows by p.selector k d rows else rows
+joined_rows by p k d rows = whether p.browser then browsed_rows by p.selector k d rows else rows
 
 -- what a snapshot of k rows goes by
 pub record Browses (by selector k : ℕ) (d : Head) (rows : List Row) : Type 0 where

@@ -7,7 +7,7 @@ use native.Mathlib.Omega.{arith}
 use borrow.Author.Tests.{eqb-true, eqb-false, ltb-true, ltb-false, leb-true, leb-false}
 use lib.Dec.{eqb, ltb, leb}
 use lib.ListN.{length}
-use Rattle.words.specs.Pick.{if◌then◌else◌, all}
+use Rattle.words.specs.Pick.{whether◌then◌else◌, all}
 use Rattle.words.specs.Places.{◌when◌}
 use Rattle.words.proofs.Tests.{by-test, if-true, if-false, or_left, or_right}
 use Rattle.words.proofs.Places.{first_of, exact}
@@ -80,7 +80,7 @@ overlap-place t = below-lowest (is_overlap t) 65536
 abbrev three : Bool → Bool → Bool → ℕ
 three a b c = first_of (3 when a ∷ 12 when b ∷ 13 when c ∷ [])
 
-by_three : (r a b : Bool) (x y : ℕ) → (if not r then says 3 0 else if a then says 12 x else if b then says 13 y else says 0 0).refusal ≡ three (not r) a b
+by_three : (r a b : Bool) (x y : ℕ) → (whether not r then says 3 0 else whether a then says 12 x else whether b then says 13 y else says 0 0).refusal ≡ three (not r) a b
 by_three false a b x y = refl
 by_three true true b x y = refl
 by_three true false true x y = refl

@@ -1,7 +1,7 @@
 -- Document 02 §8, a table of layouts: what its check and its lookup answer. A row is a first layout, a last layout and a selector.
 -- Assumes nothing.
 use Rattle.std.specs.Prelude.{ℕ, zero, suc, ◌+◌, ◌^◌, Bool, true, false, not, ◌&&◌, List, [], ◌∷◌, eqb, leb, ltb, length, get_or}
-use Rattle.words.specs.Pick.{if◌then◌else◌}
+use Rattle.words.specs.Pick.{whether◌then◌else◌}
 use Rattle.layouts.specs.declared.Checked.{Checked}
 
 -- ---- a row
@@ -45,7 +45,7 @@ table_in_range t = leb (length t) 64 && all_in_range t
 -- the lowest of `count` numbers from `from` on with a property; `from + count` where none has it
 unfoldable pub lowest : (ℕ → Bool) → ℕ → ℕ → ℕ
 lowest p from zero = from
-lowest p from (suc count) = if p from then from else lowest p (suc from) count
+lowest p from (suc count) = whether p from then from else lowest p (suc from) count
 
 -- no row covers the layout
 abbrev pub is_gap : List (List ℕ) → ℕ → Bool
@@ -70,15 +70,15 @@ says refusal answer = record { refusal = refusal; answer = answer }
 -- 3: out of range. 12: a gap, also where there is an overlap too. 13: an overlap. Beside 12 and 13 the layout found
 unfoldable pub checked : List (List ℕ) → Checked
 checked t =
-    if not (table_in_range t) then says 3 0
-    else if ltb (lowest_gap t) 65536 then says 12 (lowest_gap t)
-    else if ltb (lowest_overlap t) 65536 then says 13 (lowest_overlap t)
+    whether not (table_in_range t) then says 3 0
+    else whether ltb (lowest_gap t) 65536 then says 12 (lowest_gap t)
+    else whether ltb (lowest_overlap t) 65536 then says 13 (lowest_overlap t)
     else says 0 0
 
 -- the selector of the first row that covers a layout; 0 for none
 abbrev pub selector_at : List (List ℕ) → ℕ → ℕ
 selector_at [] l = 0
-selector_at (row ∷ rows) l = if covers row l then selector row else selector_at rows l
+selector_at (row ∷ rows) l = whether covers row l then selector row else selector_at rows l
 
 -- the match word with one selector's bit
 abbrev pub match_word : ℕ → ℕ
@@ -86,6 +86,6 @@ match_word s = 2 ^ s
 
 unfoldable pub looked_up : List (List ℕ) → ℕ → Checked
 looked_up t l =
-    if ltb 65535 l then says 3 0
-    else if eqb (checked t).refusal 0 then says 0 (match_word (selector_at t l))
+    whether ltb 65535 l then says 3 0
+    else whether eqb (checked t).refusal 0 then says 0 (match_word (selector_at t l))
     else checked t

@@ -1,6 +1,6 @@
 -- A verdict in words, as bytes. Assumes nothing.
 use Rattle.std.specs.Prelude.{ℕ, List, [], ◌∷◌, ◌++◌, eqb}
-use Rattle.words.specs.Pick.{if◌then◌else◌}
+use Rattle.words.specs.Pick.{whether◌then◌else◌}
 use Rattle.callfile.specs.Lines.{field, newline}
 use Rattle.layouts.specs.Layouts.{first, last, selector}
 use Rattle.layouttext.specs.Verdict.{Verdict, fault, gap, overlap, accepted}
@@ -60,11 +60,11 @@ accepted_words = 97 ∷ 99 ∷ 99 ∷ 101 ∷ 112 ∷ 116 ∷ 101 ∷ 100 ∷ 58
 -- what is wrong with a line
 unfoldable pub row_complaint : ℕ → List ℕ
 row_complaint kind =
-    if eqb kind 2 then not_row
-    else if eqb kind 3 then first_out
-    else if eqb kind 4 then last_out
-    else if eqb kind 5 then selector_out
-    else if eqb kind 6 then first_above
+    whether eqb kind 2 then not_row
+    else whether eqb kind 3 then first_out
+    else whether eqb kind 4 then last_out
+    else whether eqb kind 5 then selector_out
+    else whether eqb kind 6 then first_above
     else many_rows
 
 -- some words, and a number after a space

@@ -1,6 +1,6 @@
 -- What is said of a text of rows. Assumes nothing.
 use Rattle.std.specs.Prelude.{ℕ, suc, ◌+◌, List, [], ◌∷◌, eqb, length, get_or, drop}
-use Rattle.words.specs.Pick.{if◌then◌else◌}
+use Rattle.words.specs.Pick.{whether◌then◌else◌}
 use Rattle.layouts.specs.declared.Checked.{Checked}
 use Rattle.layouts.specs.Layouts.{covers, checked}
 use Rattle.texting.specs.Lines.{lines_of}
@@ -17,7 +17,7 @@ pub data Verdict : Type 0 where
 -- the place of the first row that covers a layout; past the end where none does
 unfoldable pub cover_at : ℕ → List (List ℕ) → ℕ
 cover_at l [] = 0
-cover_at l (row ∷ rows) = if covers row l then 0 else suc (cover_at l rows)
+cover_at l (row ∷ rows) = whether covers row l then 0 else suc (cover_at l rows)
 
 -- the place of the next one
 abbrev pub next_cover : ℕ → List (List ℕ) → ℕ
@@ -32,11 +32,11 @@ overlapping rows lines l =
 
 -- what the check answers, in these rows
 abbrev pub found : List (List ℕ) → List ℕ → Checked → Verdict
-found rows lines c = if eqb c.refusal 12 then gap c.answer else if eqb c.refusal 13 then overlapping rows lines c.answer else accepted (length rows)
+found rows lines c = whether eqb c.refusal 12 then gap c.answer else whether eqb c.refusal 13 then overlapping rows lines c.answer else accepted (length rows)
 
 -- a line at fault comes before what the check answers
 abbrev pub judged : Reading → Verdict
-judged r = if eqb r.kind 0 then found r.rows r.lines (checked r.rows) else fault r.line r.kind
+judged r = whether eqb r.kind 0 then found r.rows r.lines (checked r.rows) else fault r.line r.kind
 
 -- a text, its lines counted from 1
 abbrev pub reading_of : List ℕ → Reading

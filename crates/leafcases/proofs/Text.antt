@@ -14,7 +14,7 @@ use lib.Seq.{drop-cons}
 use mir.Syntax.{w64}
 use mir.Val.{SFits, to_z}
 use mir.ValLaws.{to_z_pos}
-use Rattle.words.specs.Pick.{if◌then◌else◌}
+use Rattle.words.specs.Pick.{whether◌then◌else◌}
 use Rattle.words.specs.Words.{unsigned}
 use Rattle.words.proofs.Signed.{flip}
 use Rattle.words.proofs.Tests.{by-test}
@@ -57,7 +57,7 @@ no_number [] h = refl
 no_number (b ∷ bs) h = absurd (omega arith)
 
 pub some_number : (s : List ℕ) → 0 < length s
-    → spelled s ≡ (if eqb (get_or s 0 0) 45 then negative (digits_of (drop 1 s)) else positive (digits_of s))
+    → spelled s ≡ (whether eqb (get_or s 0 0) 45 then negative (digits_of (drop 1 s)) else positive (digits_of s))
 unfolding spelled
 some_number [] h = absurd (omega arith)
 some_number (b ∷ bs) h = refl
@@ -152,7 +152,7 @@ words-end s n h = rw (le-ltb n (length s) h)
 -- a turn of the loop over a line's numbers: n is where the word ends
 pub values-step : (s : List ℕ) (at n count : ℕ) (values : List ℕ) → at < length s → n ≡ at + 1 + word_length (drop (at + 1) s)
     → values_of (words_after at s) values count
-    ≡ with_spelled (spelled (take (n - (at + 1)) (drop (at + 1) s))) (λ x. if leb 9 count then no_values else values_of (words_after n s) (set values count (unsigned x)) (count + 1))
+    ≡ with_spelled (spelled (take (n - (at + 1)) (drop (at + 1) s))) (λ x. whether leb 9 count then no_values else values_of (words_after n s) (set values count (unsigned x)) (count + 1))
 unfolding values_of
 values-step s at n count values h e =
     let k : n - (at + 1) ≡ word_length (drop (at + 1) s) = omega arith in

@@ -1,6 +1,6 @@
 -- A case against the definitions of the leaf functions, and what is counted. Assumes nothing.
 use Rattle.std.specs.Prelude.{ℕ, Bool, true, false, ◌&&◌, List, eqb, ℤ, pos, get_or}
-use Rattle.words.specs.Pick.{if◌then◌else◌}
+use Rattle.words.specs.Pick.{whether◌then◌else◌}
 use Rattle.words.specs.Words.{signed, unsigned, int, is_int}
 use Rattle.entry.specs.declared.Entry.{Entry}
 use Rattle.entry.specs.Entry.{expired, redelivered}
@@ -30,7 +30,7 @@ time v k = signed (value_word v k)
 
 -- whether a flag of the list, 0 or 1, says this
 unfoldable pub flag_is : Bool → ℕ → Bool
-flag_is b x = if b then eqb x 1 else eqb x 0
+flag_is b x = whether b then eqb x 1 else eqb x 0
 
 abbrev pub entry_with : ℤ → ℤ → Entry
 entry_with expiration redelivery = record { seq = 1; expiration = expiration; producer = 0; match_word = 0; redelivery = redelivery; persistent = false; size = 0 }
@@ -110,7 +110,7 @@ abbrev pub new_run : Run
 new_run = record { counts = no_counts; audit = new_audit; lines = 0; shown = 0; len = 0; over = false; reading = true }
 
 unfoldable pub counted_case : Count → Bool → Count
-counted_case c same = record { cases = more c.cases; differ = if same then c.differ else more c.differ }
+counted_case c same = record { cases = more c.cases; differ = whether same then c.differ else more c.differ }
 
 unfoldable pub counted_as : Counts → Kind → Bool → Counts
 counted_as c K.Expired same = record { expired = counted_case c.expired same; redelivered = c.redelivered; admit_memory = c.admit_memory; apply_expiry_options = c.apply_expiry_options; audit = c.audit; audits = c.audits; bad = c.bad }

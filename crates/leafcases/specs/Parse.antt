@@ -1,6 +1,6 @@
 -- How a line of the list is read: bytes, digits, numbers and names. Assumes nothing.
 use Rattle.std.specs.Prelude.{ℕ, suc, ◌+◌, ◌*◌, ◌-◌, ◌^◌, Bool, true, false, ◌&&◌, ◌||◌, List, [], ◌∷◌, eqb, leb, ltb, length, take, drop, set, ℤ, pos, neg_ℤ}
-use Rattle.words.specs.Pick.{if◌then◌else◌}
+use Rattle.words.specs.Pick.{whether◌then◌else◌}
 use Rattle.words.specs.Words.{unsigned}
 use Rattle.leafcases.specs.declared.parse.Digits.{Digits}
 use Rattle.leafcases.specs.declared.parse.Digits.TheVariants as D
@@ -14,7 +14,7 @@ use Rattle.leafcases.specs.declared.parse.Kind.TheVariants as K
 -- a number and one more digit: bad where the byte is none, or ten times the number is past 2 ^ 63
 unfoldable pub next_digit : ℕ → ℕ → Digits
 next_digit v b =
-    if ltb b 48 || ltb 57 b || ltb 922337203685477580 v then D.Bad
+    whether ltb b 48 || ltb 57 b || ltb 922337203685477580 v then D.Bad
     else D.Value (v * 10 + (b - 48))
 
 abbrev pub and_then : Digits → (ℕ → Digits) → Digits
@@ -33,23 +33,23 @@ digits_of (b ∷ bs) = spelled_after 0 (b ∷ bs)
 
 -- as an i64, with no sign before it
 unfoldable pub positive : Digits → Number
-positive (D.Value v) = if ltb v (2 ^ 63) then N.Value (pos v) else N.Bad
+positive (D.Value v) = whether ltb v (2 ^ 63) then N.Value (pos v) else N.Bad
 positive D.Bad = N.Bad
 
 -- and after a minus
 unfoldable pub negative : Digits → Number
-negative (D.Value v) = if leb v (2 ^ 63) then N.Value (neg_ℤ (pos v)) else N.Bad
+negative (D.Value v) = whether leb v (2 ^ 63) then N.Value (neg_ℤ (pos v)) else N.Bad
 negative D.Bad = N.Bad
 
 -- the i64 that a text spells
 unfoldable pub spelled : List ℕ → Number
 spelled [] = N.Bad
-spelled (b ∷ bs) = if eqb b 45 then negative (digits_of bs) else positive (digits_of (b ∷ bs))
+spelled (b ∷ bs) = whether eqb b 45 then negative (digits_of bs) else positive (digits_of (b ∷ bs))
 
 -- how many bytes stand before a space or the end
 unfoldable pub word_length : List ℕ → ℕ
 word_length [] = 0
-word_length (b ∷ bs) = if eqb b 32 then 0 else suc (word_length bs)
+word_length (b ∷ bs) = whether eqb b 32 then 0 else suc (word_length bs)
 
 unfoldable pub same_bytes : List ℕ → List ℕ → Bool
 same_bytes [] [] = true
@@ -60,12 +60,12 @@ same_bytes (a ∷ l) (b ∷ m) = eqb a b && same_bytes l m
 -- expired, redelivered, admit_memory, apply_expiry_options, audit_new, audit
 unfoldable pub kind_named : List ℕ → Kind
 kind_named name =
-    if same_bytes name (101 ∷ 120 ∷ 112 ∷ 105 ∷ 114 ∷ 101 ∷ 100 ∷ []) then K.Expired
-    else if same_bytes name (114 ∷ 101 ∷ 100 ∷ 101 ∷ 108 ∷ 105 ∷ 118 ∷ 101 ∷ 114 ∷ 101 ∷ 100 ∷ []) then K.Redelivered
-    else if same_bytes name (97 ∷ 100 ∷ 109 ∷ 105 ∷ 116 ∷ 95 ∷ 109 ∷ 101 ∷ 109 ∷ 111 ∷ 114 ∷ 121 ∷ []) then K.AdmitMemory
-    else if same_bytes name (97 ∷ 112 ∷ 112 ∷ 108 ∷ 121 ∷ 95 ∷ 101 ∷ 120 ∷ 112 ∷ 105 ∷ 114 ∷ 121 ∷ 95 ∷ 111 ∷ 112 ∷ 116 ∷ 105 ∷ 111 ∷ 110 ∷ 115 ∷ []) then K.ApplyExpiryOptions
-    else if same_bytes name (97 ∷ 117 ∷ 100 ∷ 105 ∷ 116 ∷ 95 ∷ 110 ∷ 101 ∷ 119 ∷ []) then K.AuditNew
-    else if same_bytes name (97 ∷ 117 ∷ 100 ∷ 105 ∷ 116 ∷ []) then K.Audit
+    whether same_bytes name (101 ∷ 120 ∷ 112 ∷ 105 ∷ 114 ∷ 101 ∷ 100 ∷ []) then K.Expired
+    else whether same_bytes name (114 ∷ 101 ∷ 100 ∷ 101 ∷ 108 ∷ 105 ∷ 118 ∷ 101 ∷ 114 ∷ 101 ∷ 100 ∷ []) then K.Redelivered
+    else whether same_bytes name (97 ∷ 100 ∷ 109 ∷ 105 ∷ 116 ∷ 95 ∷ 109 ∷ 101 ∷ 109 ∷ 111 ∷ 114 ∷ 121 ∷ []) then K.AdmitMemory
+    else whether same_bytes name (97 ∷ 112 ∷ 112 ∷ 108 ∷ 121 ∷ 95 ∷ 101 ∷ 120 ∷ 112 ∷ 105 ∷ 114 ∷ 121 ∷ 95 ∷ 111 ∷ 112 ∷ 116 ∷ 105 ∷ 111 ∷ 110 ∷ 115 ∷ []) then K.ApplyExpiryOptions
+    else whether same_bytes name (97 ∷ 117 ∷ 100 ∷ 105 ∷ 116 ∷ 95 ∷ 110 ∷ 101 ∷ 119 ∷ []) then K.AuditNew
+    else whether same_bytes name (97 ∷ 117 ∷ 100 ∷ 105 ∷ 116 ∷ []) then K.Audit
     else K.Bad
 
 -- how many numbers a line of this kind has
@@ -93,7 +93,7 @@ with_spelled N.Bad f = no_values
 -- the numbers of these words, each as the word of 64 bits that holds it, put after the n that are there; nine at most
 unfoldable pub values_of : List (List ℕ) → List ℕ → ℕ → Values
 values_of [] values n = record { values = values; count = n; good = true }
-values_of (w ∷ ws) values n = with_spelled (spelled w) (λ x. if leb 9 n then no_values else values_of ws (set values n (unsigned x)) (n + 1))
+values_of (w ∷ ws) values n = with_spelled (spelled w) (λ x. whether leb 9 n then no_values else values_of ws (set values n (unsigned x)) (n + 1))
 
 abbrev pub on_head : ℕ → List (List ℕ) → List (List ℕ)
 on_head b [] = (b ∷ []) ∷ []
@@ -102,15 +102,15 @@ on_head b (w ∷ ws) = (b ∷ w) ∷ ws
 -- what stands between the spaces
 unfoldable pub split : List ℕ → List (List ℕ)
 split [] = [] ∷ []
-split (b ∷ bs) = if eqb b 32 then [] ∷ split bs else on_head b (split bs)
+split (b ∷ bs) = whether eqb b 32 then [] ∷ split bs else on_head b (split bs)
 
 -- the words after the space at n, if there is one
 unfoldable pub words_after : ℕ → List ℕ → List (List ℕ)
-words_after n s = if ltb n (length s) then split (drop (n + 1) s) else []
+words_after n s = whether ltb n (length s) then split (drop (n + 1) s) else []
 
 -- the kind, if the numbers are good and as many as it wants
 unfoldable pub kind_with : Kind → Values → Kind
-kind_with kind v = if v.good && eqb v.count (numbers_wanted kind) then kind else K.Bad
+kind_with kind v = whether v.good && eqb v.count (numbers_wanted kind) then kind else K.Bad
 
 abbrev pub line_with : Kind → Values → Line
 line_with kind v = record { values = v.values; kind = kind_with kind v }
@@ -126,5 +126,5 @@ parsed_line s = line_of_words (split s)
 -- the line in the first n bytes; bad where it was cut
 unfoldable pub line_in : List ℕ → ℕ → Bool → Line
 line_in buffer n cut =
-    if cut || ltb (length buffer) n then record { values = zeros; kind = K.Bad }
+    whether cut || ltb (length buffer) n then record { values = zeros; kind = K.Bad }
     else parsed_line (take n buffer)

@@ -1,7 +1,7 @@
 -- model.rs: identifiers, ack types, and what each does. Assumes nothing.
 use Rattle.std.specs.Prelude.{ℕ, Bool, ◌&&◌, eqb, ℤ}
 use Rattle.std.specs.Int.Signed.{le_z}
-use Rattle.words.specs.Pick.{if◌then◌else◌}
+use Rattle.words.specs.Pick.{whether◌then◌else◌}
 use Rattle.words.specs.Words.{signed}
 use Rattle.model.specs.declared.Id.{Id}
 use Rattle.model.specs.declared.AckType.{AckType}
@@ -32,13 +32,13 @@ same_id a b = eqb a.conn b.conn && (same_signed a.session b.session && same_sign
 -- the byte of an acknowledgement
 unfoldable pub ack_type : ℕ → AckType
 ack_type k =
-    if eqb k 0 then Delivered
-    else if eqb k 1 then Poison
-    else if eqb k 2 then Standard
-    else if eqb k 3 then Redelivered
-    else if eqb k 4 then Individual
-    else if eqb k 5 then Unmatched
-    else if eqb k 6 then Expired
+    whether eqb k 0 then Delivered
+    else whether eqb k 1 then Poison
+    else whether eqb k 2 then Standard
+    else whether eqb k 3 then Redelivered
+    else whether eqb k 4 then Individual
+    else whether eqb k 5 then Unmatched
+    else whether eqb k 6 then Expired
     else Other
 
 -- range and effect outside a transaction and in one, the reserved range of a consumer that left, what a removed entry counts as

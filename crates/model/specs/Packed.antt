@@ -1,6 +1,6 @@
 -- A rule as a number of six hexadecimal digits, as the table of ack types has it, and where it stands there. Assumes nothing.
 use Rattle.std.specs.Prelude.{ℕ, ◌/◌, ◌%◌, ◌^◌, eqb}
-use Rattle.words.specs.Pick.{if◌then◌else◌}
+use Rattle.words.specs.Pick.{whether◌then◌else◌}
 use Rattle.model.specs.declared.AckType.{AckType}
 use Rattle.model.specs.declared.AckType.TheVariants.{Delivered, Poison, Standard, Redelivered, Individual, Unmatched, Expired, Other}
 use Rattle.model.specs.declared.AckRange.{AckRange}
@@ -23,13 +23,13 @@ rule_place Expired = 6
 rule_place Other = 7
 
 unfoldable pub range_of : ℕ → AckRange
-range_of d = if eqb d 0 then Empty else if eqb d 1 then Between else if eqb d 2 then Cumulative else Last
+range_of d = whether eqb d 0 then Empty else whether eqb d 1 then Between else whether eqb d 2 then Cumulative else Last
 
 unfoldable pub effect_of : ℕ → AckEffect
-effect_of d = if eqb d 0 then Stays else if eqb d 1 then Frees else if eqb d 2 then Marks else if eqb d 3 then Removes else Redelivers
+effect_of d = whether eqb d 0 then Stays else whether eqb d 1 then Frees else whether eqb d 2 then Marks else whether eqb d 3 then Removes else Redelivers
 
 unfoldable pub count_of : ℕ → AckCount
-count_of d = if eqb d 0 then Uncounted else if eqb d 1 then Dequeue else if eqb d 2 then Expiry else DeadLetter
+count_of d = whether eqb d 0 then Uncounted else whether eqb d 1 then Dequeue else whether eqb d 2 then Expiry else DeadLetter
 
 abbrev pub unpacked : ℕ → AckRule
 unpacked x = record { range = range_of (x / 16 ^ 5 % 16); effect = effect_of (x / 16 ^ 4 % 16); tx_range = range_of (x / 16 ^ 3 % 16); tx_effect = effect_of (x / 16 ^ 2 % 16); reserved = range_of (x / 16 % 16); counts = count_of (x % 16) }

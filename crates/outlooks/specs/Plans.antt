@@ -1,6 +1,6 @@
 -- What a plan says of a query's answer, and where its lines stand among the rows. Assumes nothing.
 use Rattle.std.specs.Prelude.{◌≡◌, List, map, ℕ, ◌≤◌, ◌&&◌, ltb, length, take, get_or}
-use Rattle.definition.specs.Base.{if◌then◌else◌}
+use Rattle.definition.specs.Base.{whether◌then◌else◌}
 use Rattle.definition.specs.Calls.{clock_ok}
 use Rattle.definition.specs.Queries.{Line, line_of}
 use Rattle.definition.specs.Layout.{Row}
@@ -21,7 +21,7 @@ plan_line rows p i = page_line (outlook_line_at rows (get_or p.places i 0))
 
 -- 3 where a reading is above 2^62, 17 where the earlier is above the later
 unfoldable pub clocks_refusal : ℕ → ℕ → ℕ
-clocks_refusal earlier later = if clock_ok earlier && clock_ok later then (if ltb later earlier then 17 else 0) else 3
+clocks_refusal earlier later = whether clock_ok earlier && clock_ok later then (whether ltb later earlier then 17 else 0) else 3
 
 -- beside a refusal: its places are open
 pub record NoPlan (refused : ℕ) (r : OutlookPlan) : Type 0 where

@@ -10,7 +10,7 @@ use lib.ListN.{length, take, drop, length-drop}
 use lib.Seq.{drop_at, length-take-le}
 use mir.Syntax.{w64}
 use mir.Val.{SFits}
-use Rattle.words.specs.Pick.{if◌then◌else◌}
+use Rattle.words.specs.Pick.{whether◌then◌else◌}
 use Rattle.words.proofs.Words.{signed-unsigned}
 use Rattle.model.specs.declared.Id.{Id}
 use Rattle.model.proofs.Ids.{id-eq}
@@ -48,7 +48,7 @@ module _ (i : Id) (d : Head) (h : List ℕ) where
   abbrev ids : List Id
   ids = ids_at d.producers (drop 17 h)
 
-  own : (b : Bool) → is_producer i ids ≡ b → (subs rows : List Row) → own_refusal (head_dest d h subs rows) (adding i) ≡ (if not b && leb 32 d.producers then 8 else 0)
+  own : (b : Bool) → is_producer i ids ≡ b → (subs rows : List Row) → own_refusal (head_dest d h subs rows) (adding i) ≡ (whether not b && leb 32 d.producers then 8 else 0)
   unfolding own_refusal head_view
   own b t subs rows = rw (t, ids-length d.producers (drop 17 h))
 

@@ -5,7 +5,7 @@ use mathlib.Core.List.{List}
 use Prim.Native.Nat.{ℕ}
 use native.Mathlib.Omega.{arith}
 use lib.ListN.{length, drop}
-use Rattle.words.specs.Pick.{if◌then◌else◌}
+use Rattle.words.specs.Pick.{whether◌then◌else◌}
 use Rattle.definition.specs.Calls.{Call, own_refusal}
 use Rattle.definition.specs.Layout.{Row, rings_formed}
 use Rattle.state.specs.declared.Head.{Head}
@@ -21,7 +21,7 @@ module _ (c : Call) (d : Head) (h : List ℕ) where
   pub promised : (all : HeadLeft) (r : Answer) (k : List ℕ) → head_left r k ≡ all → PerformsInHead c d h all.result all.words → Promised c all d h r k
   promised all r k e x = record { exact = e; performs = subst (λ (y : HeadLeft). PerformsInHead c d h y.result y.words) (sym e) x }
 
-  pub refused-performs : (n : ℕ) → (n ≡ 0 → ⊥) → (rings_formed d.audits (drop 113 h) ≡ true → (subs rows : List Row) → n ≡ (if head_fits (length h) d then own_refusal (head_dest d h subs rows) c else 2))
+  pub refused-performs : (n : ℕ) → (n ≡ 0 → ⊥) → (rings_formed d.audits (drop 113 h) ≡ true → (subs rows : List Row) → n ≡ (whether head_fits (length h) d then own_refusal (head_dest d h subs rows) c else 2))
       → PerformsInHead c d h (refused_as n d) h
   refused-performs n z e = record {
     long = refl;

@@ -11,7 +11,7 @@ use lib.ListN.{length, take, drop, set, length-drop}
 use lib.Seq.{length-take-le, drop-drop, drop_at, set_at}
 use mir.Syntax.{w64}
 use mir.Val.{SFits, bool_byte}
-use Rattle.words.specs.Pick.{if◌then◌else◌}
+use Rattle.words.specs.Pick.{whether◌then◌else◌}
 use Rattle.audit.specs.Audit.{seen, recorded, order_of, ring_sound}
 use Rattle.audit.proofs.Ring.{order-new}
 use Rattle.model.specs.declared.Id.{Id}
@@ -43,7 +43,7 @@ module _ (i : Id) (q : ℕ) (t : Dest) (c : eqb i.conn 0 ≡ false) where
   unfolding perform is_duplicate
   tested-by o f = rw (c, f)
 
-  own : (o : Option Audit) → find (audit_of i) t.audits ≡ o → own_refusal t (testing i q) ≡ (if not (is_some o) && leb 8 (length t.audits) then 8 else 0)
+  own : (o : Option Audit) → find (audit_of i) t.audits ≡ o → own_refusal t (testing i q) ≡ (whether not (is_some o) && leb 8 (length t.audits) then 8 else 0)
   unfolding own_refusal
   own o f = rw (c, f)
 
@@ -105,7 +105,7 @@ module _ (i : Id) (q : ℕ) (d : Head) (h : List ℕ) where
         unfolding tested
         tested_at = rw (f, c, lt-ltb first n b)
 
-        own-none : (subs rows : List Row) → 0 ≡ (if head_fits (length h) d then own_refusal (head_dest d h subs rows) (testing i q) else 2)
+        own-none : (subs rows : List Row) → 0 ≡ (whether head_fits (length h) d then own_refusal (head_dest d h subs rows) (testing i q) else 2)
         unfolding head_view
         own-none subs rows = rw f (sym (own i q (head_dest d h subs rows) c (some audit) find-is))
 
@@ -176,9 +176,9 @@ module _ (i : Id) (q : ℕ) (d : Head) (h : List ℕ) where
         missing : find (audit_of i) (audits_at n l) ≡ none
         missing = ap (find (audit_of i)) (audits-elems n l) ∙ not_found audit_at ring_ok 1029 (audit_of i) n l b
 
-        own-missing : (subs rows : List Row) → own_refusal (head_dest d h subs rows) (testing i q) ≡ (if leb 8 n then 8 else 0)
+        own-missing : (subs rows : List Row) → own_refusal (head_dest d h subs rows) (testing i q) ≡ (whether leb 8 n then 8 else 0)
         unfolding head_view
-        own-missing subs rows = own i q (head_dest d h subs rows) c none missing ∙ ap (λ (m : ℕ). if leb 8 m then 8 else 0) (audits-length n l)
+        own-missing subs rows = own i q (head_dest d h subs rows) c none missing ∙ ap (λ (m : ℕ). whether leb 8 m then 8 else 0) (audits-length n l)
 
         pub tested-full : leb 8 n ≡ true → Promised (testing i q) (tested i q d h) d h (refused_as 8 d) h
         unfolding tested

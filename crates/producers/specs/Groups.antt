@@ -1,6 +1,6 @@
 -- Groups of w words one after the other, each of which begins with an identifier: a search, and the groups that stay. Assumes nothing.
 use Rattle.std.specs.Prelude.{ℕ, zero, suc, ◌+◌, Bool, true, false, not, List, [], ◌∷◌, ◌++◌, eqb, length, take, drop}
-use Rattle.words.specs.Pick.{if◌then◌else◌}
+use Rattle.words.specs.Pick.{whether◌then◌else◌}
 use Rattle.words.specs.Words.{unsigned}
 use Rattle.model.specs.Model.{same_id}
 use Rattle.model.specs.declared.Id.{Id}
@@ -22,16 +22,16 @@ stays whole i l = not (goes whole i l)
 -- which of n groups of w words is the first that passes a test; n where none does
 unfoldable pub first_of : (List ℕ → Bool) → ℕ → ℕ → List ℕ → ℕ
 first_of p w zero l = 0
-first_of p w (suc n) l = if p l then 0 else suc (first_of p w n (drop w l))
+first_of p w (suc n) l = whether p l then 0 else suc (first_of p w n (drop w l))
 
 -- the groups that pass a test: how many, and their words
 unfoldable pub kept_count : (List ℕ → Bool) → ℕ → ℕ → List ℕ → ℕ
 kept_count p w zero l = 0
-kept_count p w (suc n) l = if p l then suc (kept_count p w n (drop w l)) else kept_count p w n (drop w l)
+kept_count p w (suc n) l = whether p l then suc (kept_count p w n (drop w l)) else kept_count p w n (drop w l)
 
 unfoldable pub kept_words : (List ℕ → Bool) → ℕ → ℕ → List ℕ → List ℕ
 kept_words p w zero l = []
-kept_words p w (suc n) l = if p l then take w l ++ kept_words p w n (drop w l) else kept_words p w n (drop w l)
+kept_words p w (suc n) l = whether p l then take w l ++ kept_words p w n (drop w l) else kept_words p w n (drop w l)
 
 -- words written from a place on
 abbrev pub written_from : ℕ → List ℕ → List ℕ → List ℕ

@@ -1,6 +1,6 @@
 -- What the arguments of a program ask for, and what a file looks like by its first bytes. Assumes nothing.
 use Rattle.std.specs.Prelude.{ℕ, Bool, true, false, not, ◌&&◌, ◌||◌, List, [], ◌∷◌, eqb, leb, length, get_or, take}
-use Rattle.words.specs.Pick.{if◌then◌else◌}
+use Rattle.words.specs.Pick.{whether◌then◌else◌}
 use Rattle.textwords.specs.Text.{same_text, has_mark}
 use Rattle.callfile.specs.Blocks.{calls_in}
 use Rattle.callfile.specs.declared.Reading.{Reading}
@@ -11,7 +11,7 @@ help_word = 45 ∷ 45 ∷ 104 ∷ 101 ∷ 108 ∷ 112 ∷ []
 
 -- one word: 1 a file's name, 2 `--help`, 3 another option, or nothing
 unfoldable pub word_asks : List ℕ → ℕ
-word_asks word = if same_text word help_word then 2 else if eqb (length word) 0 then 3 else if eqb (get_or word 0 0) 45 then 3 else 1
+word_asks word = whether same_text word help_word then 2 else whether eqb (length word) 0 then 3 else whether eqb (get_or word 0 0) 45 then 3 else 1
 
 -- a byte of a text: printable ASCII, a tab, the end of a line
 abbrev pub is_text_byte : ℕ → Bool
@@ -19,19 +19,19 @@ is_text_byte b = (leb 32 b && leb b 126) || (eqb b 9 || (eqb b 10 || eqb b 13))
 
 unfoldable pub are_text : List ℕ → Bool
 are_text [] = true
-are_text (b ∷ bs) = if is_text_byte b then are_text bs else false
+are_text (b ∷ bs) = whether is_text_byte b then are_text bs else false
 
 -- 1 a text that begins with a byte order mark, 2 a text, 3 something else
 unfoldable pub part_like : List ℕ → ℕ
-part_like part = if has_mark part then 1 else if are_text part then 2 else 3
+part_like part = whether has_mark part then 1 else whether are_text part then 2 else 3
 
 -- the first n bytes of a file; 0: a block of a call file
 unfoldable pub looks_like : List ℕ → ℕ → ℕ
-looks_like bytes n = if eqb (calls_in bytes n) 0 then part_like (take n bytes) else 0
+looks_like bytes n = whether eqb (calls_in bytes n) 0 then part_like (take n bytes) else 0
 
 -- how many bytes of a block of so many places were read: those of the one that was begun, or, where blocks were read, all
 abbrev pub read_of : ℕ → Reading → ℕ
-read_of places at = if eqb at.number 0 then at.have else places
+read_of places at = whether eqb at.number 0 then at.have else places
 
 -- bytes were read and not one call, and they are no block of calls
 unfoldable pub is_puzzling : List ℕ → Reading → Bool

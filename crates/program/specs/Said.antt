@@ -1,6 +1,6 @@
 -- What a program says of itself: a message begins with its name. Assumes nothing.
 use Rattle.std.specs.Prelude.{ℕ, ◌≤◌, ◌≡◌, Bool, true, List, [], ◌∷◌, ◌++◌, eqb, length}
-use Rattle.words.specs.Pick.{if◌then◌else◌}
+use Rattle.words.specs.Pick.{whether◌then◌else◌}
 
 -- `NAME: TEXT`
 abbrev pub headed : List ℕ → List ℕ → List ℕ
@@ -24,4 +24,4 @@ other_hint = 116 ∷ 104 ∷ 101 ∷ 32 ∷ 105 ∷ 110 ∷ 112 ∷ 117 ∷ 116 
 
 -- what is said of an input that begins with no block, by what it looks like
 unfoldable pub hint_text : ℕ → List ℕ
-hint_text kind = if eqb kind 1 then marked_hint else if eqb kind 2 then text_hint else other_hint
+hint_text kind = whether eqb kind 1 then marked_hint else whether eqb kind 2 then text_hint else other_hint

@@ -11,7 +11,7 @@ use lib.IntN.{ℤ, pos}
 use lib.ListN.{length, take, get_or, set, length-set}
 use lib.Signed.{lt_z}
 use Rattle.model.specs.Model.{id_of}
-use Rattle.words.specs.Pick.{if◌then◌else◌}
+use Rattle.words.specs.Pick.{whether◌then◌else◌}
 use Rattle.definition.specs.Base.{all}
 use Rattle.definition.specs.Types.{Kind, Id, Audit, Dest, null}
 use Rattle.definition.specs.Destination as Destination
@@ -47,8 +47,8 @@ pub answer-refused : (b : Bool) → b ≡ false → (id : Id) (d : Head) (subs r
 answer-refused b h id d subs rows events timeout r e = (
   unless-touched b _ (answered_out id timeout) d r.head subs rows events subs rows events h (record { same_head = ap (λ (y : State.Answer). y.head) e; same-subs = refl; same_rows = refl; same-events = refl }),
   record {
-    refusal = ap (λ (y : State.Answer). y.refusal) e ∙ sym (ap (λ (y : Bool). if◌then◌else◌ {A = ℕ} y 0 2) h);
-    answer = λ ps qs. ap (λ (y : State.Answer). y.answer) e ∙ sym (ap (λ (y : Bool). if y then (answered id timeout (head_view d subs rows ps qs)).answer else 0) h);
+    refusal = ap (λ (y : State.Answer). y.refusal) e ∙ sym (ap (λ (y : Bool). whether◌then◌else◌ {A = ℕ} y 0 2) h);
+    answer = λ ps qs. ap (λ (y : State.Answer). y.answer) e ∙ sym (ap (λ (y : Bool). whether y then (answered id timeout (head_view d subs rows ps qs)).answer else 0) h);
   },
 )
 
@@ -67,8 +67,8 @@ module _ (b : Bool) (t : b ≡ true) (id : Id) (d : Head) (subs rows events : Li
   answers_by : (timeout : ℤ) (x : ℕ) (h : Head) (r : State.Answer) → r ≡ done_as x h
       → ((ps : List Id) (qs : List Audit) → (answered id timeout (viewed ps qs)).answer ≡ x) → PullAnswers b id timeout d subs rows r
   answers_by timeout x h r e says = record {
-    refusal = ap (λ (y : State.Answer). y.refusal) e ∙ sym (ap (λ (y : Bool). if◌then◌else◌ {A = ℕ} y 0 2) t);
-    answer = λ ps qs. ap (λ (y : State.Answer). y.answer) e ∙ sym (ap (λ (y : Bool). if y then (answered id timeout (viewed ps qs)).answer else 0) t ∙ says ps qs);
+    refusal = ap (λ (y : State.Answer). y.refusal) e ∙ sym (ap (λ (y : Bool). whether◌then◌else◌ {A = ℕ} y 0 2) t);
+    answer = λ ps qs. ap (λ (y : State.Answer). y.answer) e ∙ sym (ap (λ (y : Bool). whether y then (answered id timeout (viewed ps qs)).answer else 0) t ∙ says ps qs);
   }
 
   abbrev out : Destination.Answer → Out

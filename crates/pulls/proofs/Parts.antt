@@ -9,7 +9,7 @@ use lib.Dec.{eqb, ltb}
 use lib.IntN.{ℤ, pos}
 use lib.Signed.{lt_z}
 use Rattle.model.specs.Model.{id_of}
-use Rattle.definition.specs.Base.{if◌then◌else◌}
+use Rattle.definition.specs.Base.{whether◌then◌else◌}
 use Rattle.definition.specs.Types.{Kind, Id, Dest, null}
 use Rattle.definition.specs.Types as Def
 use Rattle.definition.specs.Consumer.{send_null}
@@ -97,9 +97,9 @@ module _ (i : Id) (k : Kind) (s : Sub) (f h : List Row) (t : Dest) (e : sub_of i
   abbrev name : Id
   name = id_of s.conn s.session s.value
 
-  pull-is : (b : Bool) → s.pulling ≡ b → here.pull ≡ (if b then some s.pull else none)
+  pull-is : (b : Bool) → s.pulling ≡ b → here.pull ≡ (whether b then some s.pull else none)
   unfolding sub_view
-  pull-is b c = ap (λ (x : Bool). if x then some s.pull else none) c
+  pull-is b c = ap (λ (x : Bool). whether x then some s.pull else none) c
 
   nulled-is : put_sub i (send_null here) t ≡ nulled
   unfolding sub_view
@@ -111,7 +111,7 @@ module _ (i : Id) (k : Kind) (s : Sub) (f h : List Row) (t : Dest) (e : sub_of i
 
   -- the answer, after the dispatch
 
-  answered-by : (timeout : ℤ) (b : Bool) → s.pulling ≡ b → answered i timeout t ≡ pulled i timeout here (quiet t) (if b then some s.pull else none)
+  answered-by : (timeout : ℤ) (b : Bool) → s.pulling ≡ b → answered i timeout t ≡ pulled i timeout here (quiet t) (whether b then some s.pull else none)
   unfolding answered resumed
   answered-by timeout b c = ap (resumed i timeout (quiet t)) e ∙ ap (pulled i timeout here (quiet t)) (pull-is b c)
 
@@ -130,26 +130,26 @@ module _ (i : Id) (k : Kind) (s : Sub) (f h : List Row) (t : Dest) (e : sub_of i
     unfolding pulled
     answered-null l =
         answered-by timeout true c
-        ∙ if-true sends_null (if lt_z (pos 0) timeout then timed else unanswered t) l
+        ∙ if-true sends_null (whether lt_z (pos 0) timeout then timed else unanswered t) l
         ∙ (λ j. record { answer = 0; dest = nulled-is j; events = null (name-is j) ∷ [] })
 
     pub answered-timed : lt_z timeout (pos 0) ≡ false → lt_z (pos 0) timeout ≡ true → answered i timeout t ≡ timed
     unfolding pulled
     answered-timed l m =
         answered-by timeout true c
-        ∙ if-false sends_null (if lt_z (pos 0) timeout then timed else unanswered t) l
+        ∙ if-false sends_null (whether lt_z (pos 0) timeout then timed else unanswered t) l
         ∙ if-true timed (unanswered t) m
 
     pub answered-waits : lt_z timeout (pos 0) ≡ false → lt_z (pos 0) timeout ≡ false → answered i timeout t ≡ unanswered t
     unfolding pulled
     answered-waits l m =
         answered-by timeout true c
-        ∙ if-false sends_null (if lt_z (pos 0) timeout then timed else unanswered t) l
+        ∙ if-false sends_null (whether lt_z (pos 0) timeout then timed else unanswered t) l
         ∙ if-false timed (unanswered t) m
 
   -- the timer
 
-  timeout-by : (generation : ℕ) (b : Bool) → s.pulling ≡ b → pull_timeout i generation t ≡ fired i generation here t (if b then some s.pull else none)
+  timeout-by : (generation : ℕ) (b : Bool) → s.pulling ≡ b → pull_timeout i generation t ≡ fired i generation here t (whether b then some s.pull else none)
   unfolding pull_timeout timeout_at
   timeout-by generation b c = ap (timeout_at i generation t) e ∙ ap (fired i generation here t) (pull-is b c)
 

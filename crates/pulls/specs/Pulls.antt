@@ -1,7 +1,7 @@
 -- A pull before and after the dispatch, and the words of a consumer that a pull or a new prefetch changes. Assumes nothing.
 use Rattle.std.specs.Prelude.{◌≡◌, ℕ, ◌+◌, ◌≤◌, Bool, false, not, ◌&&◌, List, [], ◌∷◌, eqb, leb, ltb, length, take, ℤ}
 use Rattle.std.proofs.Math.Option.{Option, none, some}
-use Rattle.definition.specs.Base.{if◌then◌else◌, every}
+use Rattle.definition.specs.Base.{whether◌then◌else◌, every}
 use Rattle.definition.specs.Types.{Id, Audit, Dest}
 use Rattle.definition.specs.Types as Def
 use Rattle.definition.specs.Destination.{Out, Answer, sub_of, put_sub, prefetch_at, resumed}
@@ -41,7 +41,7 @@ pulling s = Def.with_pull (some (s.generation + 1)) (Def.with_generation (s.gene
 
 abbrev pub registered_at : Id → Dest → Option Def.Sub → Dest
 registered_at i t none = t
-registered_at i t (some s) = if ltb 0 s.prefetch then t else put_sub i (pulling s) t
+registered_at i t (some s) = whether ltb 0 s.prefetch then t else put_sub i (pulling s) t
 
 -- Dest::pull, before the dispatch
 unfoldable pub registered : Id → Dest → Dest
@@ -65,8 +65,8 @@ pub record PullWaits (test : Bool) (i : Id) (d : Head) (subs rows : List Row) (r
 
 -- what a pull is answered: refused with 2 where a test fails
 pub record PullAnswers (test : Bool) (i : Id) (timeout : ℤ) (d : Head) (subs rows : List Row) (r : State.Answer) : Type 0 where
-  pub refusal : r.refusal ≡ (if test then 0 else 2)
-  pub answer : (producers : List Id) (audits : List Audit) → r.answer ≡ (if test then (answered i timeout (head_view d subs rows producers audits)).answer else 0)
+  pub refusal : r.refusal ≡ (whether test then 0 else 2)
+  pub answer : (producers : List Id) (audits : List Audit) → r.answer ≡ (whether test then (answered i timeout (head_view d subs rows producers audits)).answer else 0)
 
 -- ---- numbers
 

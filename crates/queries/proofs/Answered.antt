@@ -11,7 +11,7 @@ use lib.ListN.{length, take, drop, get_or, length-map, length-drop, get_or-map}
 use lib.Seq.{slice, drop-drop, length-take-le, get_or-take, get_or-drop}
 use mir.Val.{bool_byte}
 use Rattle.entry.specs.Entry.{entry_of}
-use Rattle.definition.specs.Base.{if◌then◌else◌, all, empty, nth, is_some}
+use Rattle.definition.specs.Base.{whether◌then◌else◌, all, empty, nth, is_some}
 use Rattle.definition.specs.Types.{Entry, Dest}
 use Rattle.definition.specs.Destination.{held_rows}
 use Rattle.definition.specs.Queries.{Query, of_kind, consumers, expirations, messages, idle, sequence, query_ok, answer_of, is_queue, has_consumers, expiring, has_expiring, idle_seconds, idle_for, message_count, seq_of, seq_at, number}
@@ -134,7 +134,7 @@ module _ (h : List ℕ) (subs rows : List Row) (z : barred (lent h subs rows) �
 
   -- ---- idle_for
 
-  mark : (now secs : ℕ) (b : Bool) → (b && leb secs ((now - d.idle_since) / 1000)) ≡ (is_some (if b then some d.idle_since else none) && leb secs (idle_seconds now (if b then some d.idle_since else none)))
+  mark : (now secs : ℕ) (b : Bool) → (b && leb secs ((now - d.idle_since) / 1000)) ≡ (is_some (whether b then some d.idle_since else none) && leb secs (idle_seconds now (whether b then some d.idle_since else none)))
   mark now secs true = refl
   mark now secs false = refl
 

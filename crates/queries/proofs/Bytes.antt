@@ -8,7 +8,7 @@ use borrow.Author.Tests.{eq-eqb, ne_eqb, ltb-true, not-true}
 use lib.Dec.{leb, ltb, eqb}
 use lib.ListN.{length, take, get_or, get_or-map, length-map}
 use lib.Seq.{slice, slice_empty, get_or-take, length-take-le}
-use Rattle.words.specs.Pick.{if◌then◌else◌}
+use Rattle.words.specs.Pick.{whether◌then◌else◌}
 use Rattle.words.proofs.Tests.{by-test}
 use Rattle.entry.specs.Entry.{entry_of}
 use Rattle.definition.specs.Base.{all, member, distinct}
@@ -31,14 +31,14 @@ use Rattle.queries.specs.Bytes.{bytes_at, sizes_of, Small}
 pub bytes-means : (l : List Row) → bytes_at l ≡ bytes_of (map entry_of l)
 unfolding entry_of
 bytes-means [] = refl
-bytes-means (w ∷ l) = ap₂ (λ (m : List ℕ) (n : ℕ). (if member (at 0 w) m then 0 else at 9 w) + n) (seqs-rows l) (bytes-means l)
+bytes-means (w ∷ l) = ap₂ (λ (m : List ℕ) (n : ℕ). (whether member (at 0 w) m then 0 else at 9 w) + n) (seqs-rows l) (bytes-means l)
 
 -- different numbers
 pub bytes-lone : (l : List Row) → distinct (map (at 0) l) ≡ true → sizes_of l ≡ bytes_at l
 bytes-lone [] h = refl
 bytes-lone (w ∷ l) h =
     let m : member (at 0 w) (map (at 0) l) ≡ false = not-true (member (at 0 w) (map (at 0) l)) (and_left (not (member (at 0 w) (map (at 0) l))) (distinct (map (at 0) l)) h) in
-    ap₂ ◌+◌ (ap (λ (b : Bool). if b then 0 else at 9 w) (sym m)) (bytes-lone l (and_right (not (member (at 0 w) (map (at 0) l))) (distinct (map (at 0) l)) h))
+    ap₂ ◌+◌ (ap (λ (b : Bool). whether b then 0 else at 9 w) (sym m)) (bytes-lone l (and_right (not (member (at 0 w) (map (at 0) l))) (distinct (map (at 0) l)) h))
 
 -- ---- the loops
 
@@ -61,15 +61,15 @@ module _ (rows : List Row) (i n : ℕ) (b : n ≤ length rows) (h : 0 < i) (k : 
   abbrev w : Row
   w = get_or rows (i - 1) []
 
-  pub bytes-more : (sum x : ℕ) → sum ≡ bytes_at (slice i n rows) → x ≡ (if member (at 0 w) (map (at 0) (slice i n rows)) then 0 else at 9 w) → sum + x ≡ bytes_at (slice (i - 1) n rows)
+  pub bytes-more : (sum x : ℕ) → sum ≡ bytes_at (slice i n rows) → x ≡ (whether member (at 0 w) (map (at 0) (slice i n rows)) then 0 else at 9 w) → sum + x ≡ bytes_at (slice (i - 1) n rows)
   bytes-more sum x e f =
-      let more : bytes_at (slice (i - 1) n rows) ≡ (if member (at 0 w) (map (at 0) (slice i n rows)) then 0 else at 9 w) + bytes_at (slice i n rows) = ap bytes_at (row_more rows i n b h k) in
+      let more : bytes_at (slice (i - 1) n rows) ≡ (whether member (at 0 w) (map (at 0) (slice i n rows)) then 0 else at 9 w) + bytes_at (slice i n rows) = ap bytes_at (row_more rows i n b h k) in
       omega (arith, e, f, more)
 
-  pub added-small : Small n rows → (x : ℕ) → x ≡ (if member (at 0 w) (map (at 0) (slice i n rows)) then 0 else at 9 w) → x ≤ 4294967295
+  pub added-small : Small n rows → (x : ℕ) → x ≡ (whether member (at 0 w) (map (at 0) (slice i n rows)) then 0 else at 9 w) → x ≤ 4294967295
   added-small s x f = by-test (member (at 0 w) (map (at 0) (slice i n rows)))
-      (λ t. omega (arith, f ∙ ap (λ (c : Bool). if c then 0 else at 9 w) t))
-      (λ t. omega (arith, f ∙ ap (λ (c : Bool). if c then 0 else at 9 w) t, s (i - 1) (omega arith)))
+      (λ t. omega (arith, f ∙ ap (λ (c : Bool). whether c then 0 else at 9 w) t))
+      (λ t. omega (arith, f ∙ ap (λ (c : Bool). whether c then 0 else at 9 w) t, s (i - 1) (omega arith)))
 
 pub bytes-none : (n : ℕ) (rows : List Row) → 0 ≡ bytes_at (slice n n rows)
 bytes-none n rows = sym (ap bytes_at (slice_empty n rows))
@@ -124,7 +124,7 @@ bytes-inner (e ∷ a) b c h =
     member-seqs e.seq a (b ++ c)
     ∙ ap (λ (t : Bool). member e.seq (seqs a) || t) (member-seqs e.seq b c ∙ or_comm (member e.seq (seqs b)) (member e.seq (seqs c)) ∙ sym (member-seqs e.seq c b))
     ∙ sym (member-seqs e.seq a (c ++ b)) in
-    ap₂ (λ (t : Bool) (n : ℕ). (if t then 0 else e.size) + n) m (bytes-inner a b c (and_right (all (λ f. not (eqb e.seq f.seq) || eqb e.size f.size) (a ++ (b ++ c))) _ h))
+    ap₂ (λ (t : Bool) (n : ℕ). (whether t then 0 else e.size) + n) m (bytes-inner a b c (and_right (all (λ f. not (eqb e.seq f.seq) || eqb e.size f.size) (a ++ (b ++ c))) _ h))
 
 pub bytes-turned : (a b c : List Entry) → sizes_agree (a ++ (b ++ c)) ≡ true → bytes_of (a ++ (b ++ c)) ≡ bytes_of (c ++ (b ++ a))
 bytes-turned a b c h = bytes-inner a b c h ∙ bytes-any-order a (c ++ b) (agree-inner a b c h) ∙ ap bytes_of (append_assoc c b a)

@@ -9,7 +9,7 @@ use lib.Dec.{eqb}
 use lib.ListN.{length, take, drop, length-map, length-drop}
 use lib.Seq.{drop-drop, length-take-le}
 use Rattle.entry.specs.Entry.{entry_of}
-use Rattle.definition.specs.Base.{if◌then◌else◌}
+use Rattle.definition.specs.Base.{whether◌then◌else◌}
 use Rattle.definition.specs.Types.{Entry, Dest}
 use Rattle.definition.specs.Calls.{state_short}
 use Rattle.definition.specs.Queries.{Line, line_of, page_entries, query_refusal, Page, page}
@@ -125,6 +125,6 @@ module _ (h : List ℕ) (subs rows : List Row) (room offset limit : ℕ) where
           let n = lines-count l in
           let k : eqb count 0 ≡ false = ne_eqb count 0 (λ e. omega (arith, l, e)) in
           rw (page-is, q) (
-            λ j. record { refusal = 0; total = d.waiting; from = ap (λ (x : Bool). if x then 0 else start_is j) (sym k ∙ ap (λ (m : ℕ). eqb m 0) (sym n)) j; count = sym n j },
+            λ j. record { refusal = 0; total = d.waiting; from = ap (λ (x : Bool). whether x then 0 else start_is j) (sym k ∙ ap (λ (m : ℕ). eqb m 0) (sym n)) j; count = sym n j },
             record { lines = refl; in_rows = fits-rows l; in-room = omega (arith, roomy) },
           )

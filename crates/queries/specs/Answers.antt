@@ -1,7 +1,7 @@
 -- What the definitions answer to a query, as the crate's structs, and what a query meets first. Assumes nothing.
 use Rattle.std.specs.Prelude.{ℕ, ◌-◌, ◌/◌, Bool, not, ◌&&◌, eqb, leb}
 use Rattle.entry.specs.Entry.{entry_of}
-use Rattle.definition.specs.Base.{if◌then◌else◌, all}
+use Rattle.definition.specs.Base.{whether◌then◌else◌, all}
 use Rattle.definition.specs.Types.{Sub}
 use Rattle.definition.specs.Calls.{state_short}
 use Rattle.definition.specs.Queries as Def
@@ -19,7 +19,7 @@ as_counted a = record { refusal = a.refusal; stats = a.stats }
 
 -- 1 where a buffer is short, 2 where the state is not sound, else 0
 unfoldable pub barred : Buffers → ℕ
-barred b = if state_short (lengths_of b 0) then 1 else if sound_buffers b then 0 else 2
+barred b = whether state_short (lengths_of b 0) then 1 else whether sound_buffers b then 0 else 2
 
 -- a row whose entry has no expiration
 abbrev pub lasts : Row → Bool

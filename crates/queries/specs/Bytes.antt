@@ -1,6 +1,6 @@
 -- The bytes of rows, as the code adds them. What `bytes_held` ensures is said by the definitions alone. Assumes nothing.
 use Rattle.std.specs.Prelude.{List, [], ◌∷◌, map, ℕ, ◌+◌, ◌≤◌, ◌<◌, get_or}
-use Rattle.words.specs.Pick.{if◌then◌else◌}
+use Rattle.words.specs.Pick.{whether◌then◌else◌}
 use Rattle.definition.specs.Base.{member}
 use Rattle.definition.specs.Words.{at}
 use Rattle.definition.specs.Layout.{Row}
@@ -8,7 +8,7 @@ use Rattle.definition.specs.Layout.{Row}
 -- `bytes_of` the rows' entries
 abbrev pub bytes_at : List Row → ℕ
 bytes_at [] = 0
-bytes_at (w ∷ ws) = (if member (at 0 w) (map (at 0) ws) then 0 else at 9 w) + bytes_at ws
+bytes_at (w ∷ ws) = (whether member (at 0 w) (map (at 0) ws) then 0 else at 9 w) + bytes_at ws
 
 -- each row's size, whatever its number
 abbrev pub sizes_of : List Row → ℕ

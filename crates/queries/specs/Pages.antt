@@ -1,7 +1,7 @@
 -- A page of the definitions as a lent list of structs holds it, and where its lines stand among the rows. Assumes nothing.
 use Rattle.std.specs.Prelude.{◌≡◌, List, [], ◌++◌, map, ℕ, ◌+◌, ◌≤◌, eqb, length, take, drop, get_or}
 use Rattle.entry.specs.Entry.{entry_of}
-use Rattle.definition.specs.Base.{if◌then◌else◌}
+use Rattle.definition.specs.Base.{whether◌then◌else◌}
 use Rattle.definition.specs.Queries.{Line, line_of, Page}
 use Rattle.definition.specs.Words.{at}
 use Rattle.definition.specs.Layout.{Row, Buffers, used_subs, sub_rows}
@@ -30,7 +30,7 @@ abbrev pub as_plan : ℕ → Page → PagePlan
 as_plan from p = record {
   refusal = p.refusal;
   total = p.total;
-  from = if eqb (length p.lines) 0 then 0 else from;
+  from = whether eqb (length p.lines) 0 then 0 else from;
   count = length p.lines;
 }
 

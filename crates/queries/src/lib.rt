@@ -3,7 +3,7 @@
 
 ghost use Rattle.std.specs.Prelude.{◌≡◌, true, false, ◌||◌, map, ◌+◌, ◌-◌, ◌/◌, ◌≤◌, min, length, take};
 ghost use Rattle.std.proofs.Math.Seq.{slice};
-ghost use Rattle.words.specs.Pick.{if◌then◌else◌};
+ghost use Rattle.words.specs.Pick.{whether◌then◌else◌};
 ghost use Rattle.definition.specs.Base.{all, member, distinct};
 ghost use Rattle.definition.specs.Words.{at, kind_by};
 ghost use Rattle.definition.specs.Queries.{of_kind, consumers, expirations, messages, bytes, idle, sequence};
@@ -242,7 +242,7 @@ fn added(rows: &[Row], from: usize, to: usize, seq: u64, place: usize, size: u64
     requires from_le_to { from ≤ to }
     requires to_in_bounds { to ≤ length rows.now }
     requires slot { Slot seq place from to rows.now }
-    ensures { result ≡ (if member seq (map (at 0) (slice from to rows.now)) then 0 else size) }
+    ensures { result ≡ (whether member seq (map (at 0) (slice from to rows.now)) then 0 else size) }
 {
     if known(rows, from, to, seq, place) {
         return 0;

@@ -17,7 +17,7 @@ use mir.ValLaws.{to_z_pos, to_z-of_z}
 use Rattle.words.specs.Words.{signed, unsigned}
 use Rattle.words.proofs.Tests.{by-test}
 use Rattle.entry.specs.Entry.{expired, entry_of}
-use Rattle.definition.specs.Base.{if◌then◌else◌, all}
+use Rattle.definition.specs.Base.{whether◌then◌else◌, all}
 use Rattle.definition.specs.Types.{Entry, queue}
 use Rattle.definition.specs.Types as Def
 use Rattle.definition.specs.Consumer.{accepts}
@@ -67,9 +67,9 @@ look-same now s t p q c [] = refl
 look-same now s t p q c (e ∷ l) =
     let a : look now s c l ≡ look now t c l = look-same now s t p q c l in
     let b : look now s e.seq l ≡ look now t e.seq l = look-same now s t p q e.seq l in
-    λ j. if leb e.seq (p j) then passing e (a j)
-    else if expired (pos now) e then losing (a j)
-    else if q e j then record { pending = l; chosen = some e; cursor = e.seq; gone = 0 }
+    λ j. whether leb e.seq (p j) then passing e (a j)
+    else whether expired (pos now) e then losing (a j)
+    else whether q e j then record { pending = l; chosen = some e; cursor = e.seq; gone = 0 }
     else passing e (b j)
 
 -- ---- the rows

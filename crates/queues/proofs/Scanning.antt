@@ -9,7 +9,7 @@ use lib.ListN.{length, take, drop, length-map, length-drop}
 use lib.Seq.{length-take-le}
 use Rattle.words.proofs.Tests.{by-test}
 use Rattle.entry.specs.Entry.{entry_of}
-use Rattle.definition.specs.Base.{if◌then◌else◌, empty, up_from}
+use Rattle.definition.specs.Base.{whether◌then◌else◌, empty, up_from}
 use Rattle.definition.specs.Types.{Id, Audit, Dest, Event}
 use Rattle.definition.specs.Destination.{Out, Turn, visit, scan, turns, rounds}
 use Rattle.definition.specs.Layout.{Row, sub_rows, event_words}
@@ -28,7 +28,7 @@ use Rattle.queues.proofs.Onward.{onward-same, onward_then}
 module _ (now i : ℕ) (is : List ℕ) (t : Dest) (u : Turn) (here : visit now i t ≡ u) where
   scan-took : u.took ≡ true → scan now (i ∷ is) t ≡ u
   unfolding scan
-  scan-took h = ap (λ (x : Turn). if x.took then x else scan now is x.dest) here ∙ if-true u (scan now is u.dest) h
+  scan-took h = ap (λ (x : Turn). whether x.took then x else scan now is x.dest) here ∙ if-true u (scan now is u.dest) h
 
   scan-on : u.took ≡ false → scan now (i ∷ is) t ≡ scan now is u.dest
   unfolding scan

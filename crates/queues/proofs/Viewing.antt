@@ -7,7 +7,7 @@ use Prim.Native.Nat.{ℕ, ◌+◌, ◌-◌, ◌≤◌}
 use native.Mathlib.Omega.{arith}
 use lib.ListN.{length, take, drop, length-append, length-drop}
 use lib.Seq.{take_at, drop_at, drop-drop}
-use Rattle.words.specs.Pick.{if◌then◌else◌}
+use Rattle.words.specs.Pick.{whether◌then◌else◌}
 use Rattle.entry.specs.Entry.{entry_of}
 use Rattle.definition.specs.Base.{all}
 use Rattle.definition.specs.Types.{Kind, queue, Id, Audit, Dest}
@@ -33,7 +33,7 @@ parts_view d ws a b c ps qs = record {
   producers = ps;
   audits = qs;
   stats = d.stats;
-  idle = if d.idle then some d.idle_since else none;
+  idle = whether d.idle then some d.idle_since else none;
   reserved = map held_at b;
 }
 
@@ -62,7 +62,7 @@ view-parts d subs a b c z e p q r ps qs =
       producers = ps;
       audits = qs;
       stats = d.stats;
-      idle = if d.idle then some d.idle_since else none;
+      idle = whether d.idle then some d.idle_since else none;
       reserved = map held_at (held j);
     }
 

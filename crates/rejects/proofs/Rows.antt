@@ -13,7 +13,7 @@ use Rattle.entry.specs.declared.Found.TheVariants.{At, Nothing}
 use Rattle.model.specs.declared.AckRange.TheVariants.{Between}
 use Rattle.model.specs.declared.AckRule.{AckRule}
 use Rattle.model.specs.Model.{ack_rule}
-use Rattle.definition.specs.Base.{if◌then◌else◌, keep}
+use Rattle.definition.specs.Base.{whether◌then◌else◌, keep}
 use Rattle.definition.specs.Types.{Kind, Id, Entry, Inflight, Held, Audit, Dest}
 use Rattle.definition.specs.Types as Def
 use Rattle.definition.specs.Consumer.{Ack, ack_type, is_browser, ack_range}
@@ -50,12 +50,12 @@ use Rattle.rejects.specs.Rejects.{letters_fit, ack_rejected, head_rejected, lett
 module _ (gone : Bool) (id : Id) (p : Span) (w : Row) where
   pub letter-not : at 2 w ≡ 0 → false ≡ letter_row gone id p w
   unfolding letter_row entry_of
-  letter-not e = sym (ap (λ (b : Bool). (if gone then wants_row id p w else in_numbers p (at 6 w)) && not b) (eq-eqb (at 2 w) 0 e) ∙ and-false (if gone then wants_row id p w else in_numbers p (at 6 w)))
+  letter-not e = sym (ap (λ (b : Bool). (whether gone then wants_row id p w else in_numbers p (at 6 w)) && not b) (eq-eqb (at 2 w) 0 e) ∙ and-false (whether gone then wants_row id p w else in_numbers p (at 6 w)))
 
   module _ (n : at 2 w ≡ 0 → ⊥) where
-    lasts : letter_row gone id p w ≡ (if gone then wants_row id p w else in_numbers p (at 6 w))
+    lasts : letter_row gone id p w ≡ (whether gone then wants_row id p w else in_numbers p (at 6 w))
     unfolding letter_row entry_of
-    lasts = ap (λ (b : Bool). (if gone then wants_row id p w else in_numbers p (at 6 w)) && not b) (ne_eqb (at 2 w) 0 n) ∙ and-true (if gone then wants_row id p w else in_numbers p (at 6 w))
+    lasts = ap (λ (b : Bool). (whether gone then wants_row id p w else in_numbers p (at 6 w)) && not b) (ne_eqb (at 2 w) 0 n) ∙ and-true (whether gone then wants_row id p w else in_numbers p (at 6 w))
 
     pub letter-gone : gone ≡ true → wants_row id p w ≡ letter_row gone id p w
     letter-gone g = sym (lasts ∙ if-true (wants_row id p w) (in_numbers p (at 6 w)) g)
@@ -164,7 +164,7 @@ module _ (id : Id) (a : Ack) (d : Head) (subs rows : List Row) (ps : List Id) (u
 
 module _ (b : Buffers) (room : ℕ) (id : Id) (a : Ack) where
   abbrev here-rejected : List Entry
-  here-rejected = if letters_fit b room then ack_rejected id a (view b) else []
+  here-rejected = whether letters_fit b room then ack_rejected id a (view b) else []
 
   pub head-short : length b.head < 8347 → here-rejected ≡ []
   head-short h = rw (lt-leb 8347 (length b.head) h)

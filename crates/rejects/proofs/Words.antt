@@ -7,7 +7,7 @@ use Prim.Native.Nat.{ℕ}
 use borrow.Author.Tests.{eqb-true, eq-eqb, ne_eqb}
 use lib.Dec.{eqb}
 use Rattle.model.specs.declared.AckType.{AckType}
-use Rattle.definition.specs.Base.{if◌then◌else◌, is_some}
+use Rattle.definition.specs.Base.{whether◌then◌else◌, is_some}
 use Rattle.definition.specs.Types.{Dest}
 use Rattle.definition.specs.Consumer.{Standard, Redelivered, Individual, Unmatched, Expired, Other, Ack, ack_type}
 use Rattle.definition.specs.Calls.{Call, asking, acknowledge}
@@ -24,7 +24,7 @@ use Rattle.rejects.specs.Rejects.{rejecting, ack_rejected}
 pub poison-is : (k : ℕ) → is_poison (ack_type k) ≡ eqb k 1
 unfolding ack_type
 poison-is k =
-    let no : (b : Bool) (x y : AckType) → is_poison x ≡ false → is_poison y ≡ false → is_poison (if b then x else y) ≡ false = λ b x y p r. by-if (λ (t : AckType). is_poison t ≡ false) b x y (λ _. p) (λ _. r) in
+    let no : (b : Bool) (x y : AckType) → is_poison x ≡ false → is_poison y ≡ false → is_poison (whether b then x else y) ≡ false = λ b x y p r. by-if (λ (t : AckType). is_poison t ≡ false) b x y (λ _. p) (λ _. r) in
     by-test (eqb k 0)
     (λ z. rw (z, eqb-true k 0 z))
     (λ z. rw z (by-test (eqb k 1)

@@ -1,7 +1,7 @@
 -- The entries that an acknowledgement rejects, of lent buffers, and where they are copied to. Assumes nothing.
 use Rattle.std.specs.Prelude.{◌≡◌, Bool, not, ◌&&◌, List, [], map, ℕ, leb, eqb, length, take, drop}
 use Rattle.entry.specs.Entry.{entry_of}
-use Rattle.definition.specs.Base.{if◌then◌else◌}
+use Rattle.definition.specs.Base.{whether◌then◌else◌}
 use Rattle.definition.specs.Types.{Id, Entry, Dest}
 use Rattle.definition.specs.Consumer.{Ack, ack_type}
 use Rattle.definition.specs.Destination.{sub_of}
@@ -29,7 +29,7 @@ letters_fit b room = leb 8347 (length b.head) && (leb 512 room && fits b.subs (l
 
 -- what a call rejects, where they do
 unfoldable pub buffer_rejected : Buffers → ℕ → ℕ → List ℕ → List Entry
-buffer_rejected b room code ws = if letters_fit b room then rejected (view b) (decode code ws) else []
+buffer_rejected b room code ws = whether letters_fit b room then rejected (view b) (decode code ws) else []
 
 -- what an ack of this consumer rejects
 abbrev pub ack_rejected : Id → Ack → Dest → List Entry
@@ -41,7 +41,7 @@ head_rejected id a d subs rows = ack_rejected id a (head_view d subs rows [] [])
 
 -- a persistent row with a sequence number of the span that is reserved for that consumer; of one that is present, with a delivery number of it
 unfoldable pub letter_row : Bool → Id → Span → Row → Bool
-letter_row gone id p w = (if gone then wants_row id p w else in_numbers p (at 6 w)) && (entry_of w).persistent
+letter_row gone id p w = (whether gone then wants_row id p w else in_numbers p (at 6 w)) && (entry_of w).persistent
 
 -- ---- where to
 

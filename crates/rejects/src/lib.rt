@@ -6,7 +6,7 @@ ghost use Rattle.std.proofs.Math.Option.{none};
 ghost use Rattle.std.proofs.Math.Seq.{slice};
 ghost use Rattle.entry.specs.Entry.{entry_of};
 ghost use Rattle.entry.specs.declared.Found.TheVariants.{At};
-ghost use Rattle.definition.specs.Base.{if◌then◌else◌, keep};
+ghost use Rattle.definition.specs.Base.{whether◌then◌else◌, keep};
 ghost use Rattle.definition.specs.Types as Def;
 ghost use Rattle.definition.specs.Layout.{held_at, view, lent};
 ghost use Rattle.definition_station.specs.Letters.{rejected_of};
@@ -116,7 +116,7 @@ fn of_ack(subs: &[SubRow], rows: &[Row], d: Head, id: Id, a: Ack, out: &mut [Row
 
 // Those of lent buffers; none where the numbers do not fit the tables, or the list is short.
 fn of_buffers(head: &[u64], subs: &[SubRow], rows: &[Row], id: Id, a: Ack, out: &mut [Row]) -> usize
-    ensures { Copied (if letters_fit (lent head.now subs.now rows.now) (length out.old) then ack_rejected id (ack_of a) (view (lent head.now subs.now rows.now)) else []) result out.old out.new }
+    ensures { Copied (whether letters_fit (lent head.now subs.now rows.now) (length out.old) then ack_rejected id (ack_of a) (view (lent head.now subs.now rows.now)) else []) result out.old out.new }
 {
     if head.len() < state::HEAD_WORDS {
         return 0;

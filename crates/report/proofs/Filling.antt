@@ -9,7 +9,7 @@ use native.Mathlib.Omega.{arith}
 use lib.ListN.{length, take, drop, get_or, set, length-map, length-append, length-drop, get_or-map}
 use lib.Seq.{sets, slice, drop-cons, drop-drop, drop-length, get_or-take, get_or-drop, length-take-le}
 use mir.Val.{bool_byte}
-use Rattle.words.specs.Pick.{if◌then◌else◌}
+use Rattle.words.specs.Pick.{whether◌then◌else◌}
 use Rattle.entry.specs.Entry.{entry_of}
 use Rattle.definition.specs.Types.{queue, Entry}
 use Rattle.definition.specs.Consumer.{is_browser}
@@ -50,7 +50,7 @@ module _ {A : Type 0} where
 -- ---- rows
 
 -- a mark as a word
-pub mark-word : (b : Bool) → bool_byte b ≡ (if b then 1 else 0)
+pub mark-word : (b : Bool) → bool_byte b ≡ (whether b then 1 else 0)
 mark-word true = refl
 mark-word false = refl
 
@@ -67,19 +67,19 @@ module _ (place : ℕ) (rows : List Row) (from n : ℕ) (b : from + n ≤ length
 
 -- ---- what is in flight, from consumer i on
 
-taken_here : (w : Row) (rows : List Row) (base : ℕ) (h : List Row) → let s = sub_at queue w (take (at 14 w) (drop base rows)) h in (if is_browser s then [] else flying s) ≡ map entry_of (take (if flag (at 6 w) then 0 else at 14 w) (drop base rows))
+taken_here : (w : Row) (rows : List Row) (base : ℕ) (h : List Row) → let s = sub_at queue w (take (at 14 w) (drop base rows)) h in (whether is_browser s then [] else flying s) ≡ map entry_of (take (whether flag (at 6 w) then 0 else at 14 w) (drop base rows))
 unfolding is_browser sub_at
 taken_here w rows base h =
-    ap₂ (λ (b : Bool) (l : List Entry). if b then [] else l) (browses (flag (at 6 w)) (map entry_of h)) (flying-rows (take (at 14 w) (drop base rows)))
+    ap₂ (λ (b : Bool) (l : List Entry). whether b then [] else l) (browses (flag (at 6 w)) (map entry_of h)) (flying-rows (take (at 14 w) (drop base rows)))
     ∙ pick (flag (at 6 w))
   where
-    pick : (b : Bool) → (if b then [] else map entry_of (take (at 14 w) (drop base rows))) ≡ map entry_of (take (if b then 0 else at 14 w) (drop base rows))
+    pick : (b : Bool) → (whether b then [] else map entry_of (take (at 14 w) (drop base rows))) ≡ map entry_of (take (whether b then 0 else at 14 w) (drop base rows))
     pick true = refl
     pick false = refl
 
 module _ (subs : List Row) (i n : ℕ) (b : n ≤ length subs) (rows : List Row) (base : ℕ) where
   pub taken-turn : i < n → let w = get_or subs i [] in taken (subs_at queue (slice i n subs) (drop base rows))
-      ≡ map entry_of (take (if flag (at 6 w) then 0 else at 14 w) (drop base rows)) ++ taken (subs_at queue (slice (i + 1) n subs) (drop (base + (at 14 w + at 15 w)) rows))
+      ≡ map entry_of (take (whether flag (at 6 w) then 0 else at 14 w) (drop base rows)) ++ taken (subs_at queue (slice (i + 1) n subs) (drop (base + (at 14 w + at 15 w)) rows))
   unfolding each_sub
   taken-turn h =
       let w = get_or subs i [] in
@@ -93,14 +93,14 @@ module _ (subs : List Row) (i n : ℕ) (b : n ≤ length subs) (rows : List Row)
   taken-end q = ap (λ (l : List Row). taken (subs_at queue l (drop base rows))) (part_end subs i n q)
 
   -- as blocks
-  module _ (h : i < n) (k : ℕ) (q : k ≡ (if flag (at 6 (get_or subs i [])) then 0 else at 14 (get_or subs i []))) where
+  module _ (h : i < n) (k : ℕ) (q : k ≡ (whether flag (at 6 (get_or subs i [])) then 0 else at 14 (get_or subs i []))) where
     pub blocks-turn : let w = get_or subs i [] in map (block_at 1) (taken (subs_at queue (slice i n subs) (drop base rows)))
         ≡ map (row_block 1) (take k (drop base rows)) ++ map (block_at 1) (taken (subs_at queue (slice (i + 1) n subs) (drop (base + (at 14 w + at 15 w)) rows)))
     blocks-turn =
         let w = get_or subs i [] in
         let r = taken (subs_at queue (slice (i + 1) n subs) (drop (base + (at 14 w + at 15 w)) rows)) in
         ap (map (block_at 1)) (taken-turn h)
-        ∙ map-append (block_at 1) (map entry_of (take (if flag (at 6 w) then 0 else at 14 w) (drop base rows))) r
+        ∙ map-append (block_at 1) (map entry_of (take (whether flag (at 6 w) then 0 else at 14 w) (drop base rows))) r
         ∙ ap (λ (l : List Block). l ++ map (block_at 1) r) (ap (λ (j : ℕ). map (block_at 1) (map entry_of (take j (drop base rows)))) (sym q) ∙ sym (rows-blocks 1 (take k (drop base rows))))
 
     pub taken-many : base + k ≤ length rows → let w = get_or subs i [] in length (taken (subs_at queue (slice i n subs) (drop base rows)))

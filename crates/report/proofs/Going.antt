@@ -10,7 +10,7 @@ use lib.Dec.{eqb}
 use lib.ListN.{length, take, get_or, set, length-append, length-take, take-append-drop}
 use lib.Seq.{sets, slice, take-take}
 use mir.Val.{bool_byte}
-use Rattle.definition.specs.Base.{if◌then◌else◌, keep, member}
+use Rattle.definition.specs.Base.{whether◌then◌else◌, keep, member}
 use Rattle.definition.specs.Words.{at}
 use Rattle.definition.proofs.Tests.{if-true, if-false}
 use Rattle.definition.proofs.Reorder.{keep-yes, keep-no, keep_append}

@@ -7,7 +7,7 @@ use native.Mathlib.Omega.{arith}
 use borrow.Author.Tests.{eq-eqb, ne_eqb}
 use lib.Dec.{eqb}
 use lib.ListN.{length, take}
-use Rattle.definition.specs.Base.{if◌then◌else◌}
+use Rattle.definition.specs.Base.{whether◌then◌else◌}
 use Rattle.definition.specs.Types.{Dest}
 use Rattle.definition.specs.Calls.{short, Result, refused}
 use Rattle.definition.specs.Queries.{is_queue}
@@ -142,7 +142,7 @@ module _ (c : Call) (n : ℕ) (b : Buffers) (events : List Row) (held left : Lis
         unfolding left_blocks all_leavers
         queue-leaves t =
             let bs = take n held ++ comes c.code c.words in
-            ap₂ (λ (x : Bool) (l : List Block). if x then [] else l)
+            ap₂ (λ (x : Bool) (l : List Block). whether x then [] else l)
             (ap (λ (x : Bool). eqb c.code 0 || not x) (dest-kind ∙ t) ∙ or-false (eqb c.code 0))
             (sym (leavers-gone c.code c.words q.dest bs) ∙ ap (λ (l : List Block). leavers_of c.code c.words l bs) holds-is)
 

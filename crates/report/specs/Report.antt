@@ -1,7 +1,7 @@
 -- A call with the account of a queue's blocks beside it, in two lent lists: those that the queue holds, and those that leave in the call. Assumes nothing.
 use Rattle.std.specs.Prelude.{ℕ, ◌+◌, ◌≤◌, ◌≡◌, Bool, true, not, ◌&&◌, ◌||◌, List, [], ◌++◌, map, leb, ltb, eqb, length, take, drop}
 use Rattle.entry.specs.Entry.{entry_of}
-use Rattle.definition.specs.Base.{if◌then◌else◌, keep, member}
+use Rattle.definition.specs.Base.{whether◌then◌else◌, keep, member}
 use Rattle.definition.specs.Calls.{state_short, Result, refused}
 use Rattle.definition.specs.Words.{at}
 use Rattle.definition.specs.Layout.{Row, Buffers, sub_rows, used_rows, view, lengths_of, sound_buffers, buffer_step}
@@ -25,7 +25,7 @@ lists_short n held left = ltb held 512 || (ltb left 513 || ltb 512 n)
 
 -- what a call gets with an event list and lists of so many places: 1 for short lists, too
 unfoldable pub noted_step : Buffers → ℕ → ℕ → ℕ → ℕ → Call → Result
-noted_step b events n held left c = if lists_short n held left then refused 1 (view b) else buffer_step b events c.code c.words
+noted_step b events n held left c = whether lists_short n held left then refused 1 (view b) else buffer_step b events c.code c.words
 
 abbrev pub is_accepted : Result → Bool
 is_accepted q = eqb q.refusal 0
@@ -44,10 +44,10 @@ list_with l bs = l ++ drop (length l) bs
 -- the state, the events and the answer are those of the call; beside a refusal both lists are as they were
 pub record NotedCall (q : Result) (c : Call) (n : ℕ) (b b' : Buffers) (events events' : List Row) (held held' left left' : List Block) (r : Noted) : Type 0 where
   pub called : Called q b b' events events' (outcome r.refusal r.answer r.events)
-  pub held-count : r.held ≡ (if is_accepted q then length (holds_now q) else n)
-  pub left-count : r.left ≡ (if is_accepted q then length (leaves_now q c n held) else 0)
-  pub holds : held' ≡ (if is_accepted q then list_with (holds_now q) held else held)
-  pub leaves : left' ≡ (if is_accepted q then list_with (leaves_now q c n held) left else left)
+  pub held-count : r.held ≡ (whether is_accepted q then length (holds_now q) else n)
+  pub left-count : r.left ≡ (whether is_accepted q then length (leaves_now q c n held) else 0)
+  pub holds : held' ≡ (whether is_accepted q then list_with (holds_now q) held else held)
+  pub leaves : left' ≡ (whether is_accepted q then list_with (leaves_now q c n held) left else left)
   pub held-few : q.refusal ≡ 0 → r.held ≤ 512
   pub left-few : r.left ≤ 513
   pub held-length : length held' ≡ length held
@@ -58,15 +58,15 @@ pub record NotedCall (q : Result) (c : Call) (n : ℕ) (b b' : Buffers) (events 
 -- 1 where the list has under 512 places or a buffer is short, 2 where the state is not sound, else 0
 unfoldable pub held_refusal : Buffers → ℕ → ℕ
 held_refusal b room =
-    if ltb room 512 || state_short (lengths_of b 0) then 1
-    else if sound_buffers b then 0
+    whether ltb room 512 || state_short (lengths_of b 0) then 1
+    else whether sound_buffers b then 0
     else 2
 
 unfoldable pub as_held : Buffers → ℕ → Listed
-as_held b room = let r = held_refusal b room in record { refusal = r; count = if eqb r 0 then length (account_of (view b)) else 0 }
+as_held b room = let r = held_refusal b room in record { refusal = r; count = whether eqb r 0 then length (account_of (view b)) else 0 }
 
 unfoldable pub held_list : Buffers → List Block → List Block
-held_list b bs = if eqb (held_refusal b (length bs)) 0 then list_with (account_of (view b)) bs else bs
+held_list b bs = whether eqb (held_refusal b (length bs)) 0 then list_with (account_of (view b)) bs else bs
 
 -- ---- the same of whatever words: the whole test of soundness is not made
 
@@ -77,8 +77,8 @@ counts_fit b = leb (at 12 b.head) 32 && leb (used_rows b) 512
 -- none where a list has under 512 places, a buffer is short, or the counts do not fit
 unfoldable pub blocks_in : Buffers → ℕ → List Block
 blocks_in b room =
-    if ltb room 512 || state_short (lengths_of b 0) then []
-    else if counts_fit b then account_of (view b)
+    whether ltb room 512 || state_short (lengths_of b 0) then []
+    else whether counts_fit b then account_of (view b)
     else []
 
 -- ---- what leaves, of any two lists
@@ -97,7 +97,7 @@ leavers_room bs start room = leb (start + length bs) room
 
 -- what is put into such a list: without that room, nothing
 unfoldable pub leavers_put : ℕ → List ℕ → List Block → List Block → ℕ → ℕ → List Block
-leavers_put code ws now bs start room = if leavers_room bs start room then leavers_of code ws now bs else []
+leavers_put code ws now bs start room = whether leavers_room bs start room then leavers_of code ws now bs else []
 
 -- ---- as the code goes
 
@@ -107,7 +107,7 @@ row_block place w = block_at place (entry_of w)
 
 -- those that leave, of a list and of the one that the call brought; none in an open
 unfoldable pub all_leavers : ℕ → List ℕ → List Block → List Block → List Block
-all_leavers code ws now bs = if eqb code 0 then [] else leavers_of code ws now (bs ++ comes code ws)
+all_leavers code ws now bs = whether eqb code 0 then [] else leavers_of code ws now (bs ++ comes code ws)
 
 -- the numbers of a queue, within the tables
 pub record HeldNumbers (d : Head) (subs rows : List Row) : Type 0 where

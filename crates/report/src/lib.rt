@@ -5,7 +5,7 @@ ghost use Rattle.std.specs.Prelude.{◌≡◌, false, [], map, ◌+◌, ◌≤�
 ghost use Rattle.std.proofs.lemmas.List.Edits.{sets};
 ghost use Rattle.std.proofs.Math.Seq.{slice};
 ghost use Rattle.entry.specs.Entry.{entry_of};
-ghost use Rattle.definition.specs.Base.{if◌then◌else◌, tally, member};
+ghost use Rattle.definition.specs.Base.{whether◌then◌else◌, tally, member};
 ghost use Rattle.definition.specs.Types.{queue};
 ghost use Rattle.definition.specs.Calls.{taken};
 ghost use Rattle.definition.specs.Words.{at};
@@ -130,7 +130,7 @@ fn gather(rows: &[Row], from: usize, n: usize, place: u64, out: &mut [Block], st
 
 // How many rows of a consumer are in flight; a browser's are copies.
 fn taken_of(w: SubRow) -> usize
-    ensures { result ≡ (if flag (at 6 w) then 0 else at 14 w) }
+    ensures { result ≡ (whether flag (at 6 w) then 0 else at 14 w) }
 {
     if w[BROWSER] != 0 {
         return 0;

@@ -9,7 +9,7 @@ use lib.Dec.{eqb}
 use lib.ListN.{length, take, drop}
 use lib.Seq.{take-append_seam}
 use Rattle.stats.specs.Counted.{more}
-use Rattle.definition.specs.Base.{if◌then◌else◌, tally}
+use Rattle.definition.specs.Base.{whether◌then◌else◌, tally}
 use Rattle.definition.specs.Types.{Dest}
 use Rattle.definition.specs.Calls.{short, Result}
 use Rattle.definition.specs.Words.{at, step}
@@ -57,7 +57,7 @@ none_more g = refl
 none-gone : none_gone ≡ gone_to []
 none-gone = refl
 
-pub counted : (anew : Bool) (bs l : List Block) (g : Gone) → g ≡ gone_to l → gone_after anew bs g ≡ gone_to ((if anew then [] else l) ++ bs)
+pub counted : (anew : Bool) (bs l : List Block) (g : Gone) → g ≡ gone_to l → gone_after anew bs g ≡ gone_to ((whether anew then [] else l) ++ bs)
 counted true bs l g e = ap (all_gone bs) none-gone ∙ all-gone bs []
 counted false bs l g e = ap (all_gone bs) e ∙ all-gone bs l
 
@@ -90,7 +90,7 @@ module _ (c : Call) (s : Noting) (b : Books) (h : s.lent.formed ≡ true) (k : K
     held = ap₂ (λ (m : ℕ) (bs : List Block). take m bs) (if-true _ _ e) (if-true _ _ e) ∙ take-append_seam (holds_now r) (drop (length (holds_now r)) s.held) ∙ ap (λ (x : Result). account_of x.dest) same;
     gone = ap₂ (λ (x : Bool) (bs : List Block). gone_after (eqb c.code 0 && x) bs s.kept.gone) e (if-true _ _ e ∙ left_so)
         ∙ counted (eqb c.code 0 && true) (left_blocks c.code c.words u.dest b.held) b.left s.kept.gone k.gone
-        ∙ ap (λ (x : Bool). gone_to ((if x then [] else b.left) ++ left_blocks c.code c.words u.dest b.held)) (and-true (eqb c.code 0));
+        ∙ ap (λ (x : Bool). gone_to ((whether x then [] else b.left) ++ left_blocks c.code c.words u.dest b.held)) (and-true (eqb c.code 0));
   }
 
   not_made : accepted r ≡ false → Keeps (noted c r s) b
@@ -144,7 +144,7 @@ module _ {S : Type 0} (one : Doing S) where
 
   -- what is left after a block that did this, and the blocks after it
   abbrev after : List (List ℕ) → ℕ → Run S → S
-  after bs number y = (if y.goes_on then along_blocks (work_block one) bs (more number) (after_run y) else silent false (after_run y)).state.lent
+  after bs number y = (whether y.goes_on then along_blocks (work_block one) bs (more number) (after_run y) else silent false (after_run y)).state.lent
 
   one-after : (x : List ℕ) (bs : List (List ℕ)) (number : ℕ) (s : RunState S) → (along_blocks (work_block one) (x ∷ bs) number s).state.lent ≡ after bs number (each_of_block one x s.index number s.lent)
   unfolding along_blocks work_block

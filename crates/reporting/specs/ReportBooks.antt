@@ -1,7 +1,7 @@
 -- What a report keeps along the calls of a file are the books of the account. Assumes nothing.
 use Rattle.std.specs.Prelude.{ℕ, min, ◌≡◌, true, List, [], ◌∷◌, ◌++◌, map, eqb, length}
 use Rattle.stats.specs.Counted.{top}
-use Rattle.definition.specs.Base.{if◌then◌else◌, tally}
+use Rattle.definition.specs.Base.{whether◌then◌else◌, tally}
 use Rattle.definition.specs.Types.{queue}
 use Rattle.definition.specs.Layout.{zero_dest}
 use Rattle.definition.specs.Orders.{Lent, result}
@@ -47,7 +47,7 @@ zero_books = record { dest = zero_dest; held = []; left = [] }
 -- the calls of its blocks, up to the first bad one
 unfoldable pub read_calls : List (List ℕ) → List Call
 read_calls [] = []
-read_calls (b ∷ bs) = if eqb (calls_in b (length b)) 0 then [] else block_calls 0 (calls_in b (length b)) b ++ read_calls bs
+read_calls (b ∷ bs) = whether eqb (calls_in b (length b)) 0 then [] else block_calls 0 (calls_in b (length b)) b ++ read_calls bs
 
 abbrev pub file_calls : List ℕ → List Call
 file_calls bytes = read_calls (cut_blocks bytes)

@@ -1,6 +1,6 @@
 -- What a whole report prints, from the bytes of a call file; and what the library's functions do along the pieces of one. Assumes nothing.
 use Rattle.std.specs.Prelude.{ℕ, ◌≤◌, ◌≡◌, Bool, true, false, ◌&&◌, List, [], ◌∷◌, ◌++◌, leb, length, take, drop, replicate}
-use Rattle.definition.specs.Base.{if◌then◌else◌}
+use Rattle.definition.specs.Base.{whether◌then◌else◌}
 use Rattle.definition.specs.Types.{Stats}
 use Rattle.definition.specs.Layout.{Row, Buffers, stats_at, lengths_of, zero_buffers}
 use Rattle.fates.specs.Blocks.{Block}
@@ -59,7 +59,7 @@ ReportsPiece at piece from b b' events events' held held' k block block' out out
 
 -- the line of a block that is not whole, and the last ones; none where more than 512 blocks are said to be held
 unfoldable pub last_report : Reading → Bool → List Block → Kept → Stats → List ℕ
-last_report at failed held k s = if leb k.count 512 then rest_line at failed ++ tail_lines held k s else []
+last_report at failed held k s = whether leb k.count 512 then rest_line at failed ++ tail_lines held k s else []
 
 -- ---- along pieces
 

@@ -1,6 +1,6 @@
 -- What a report of a call file prints, a call at a time, and what it keeps between two calls. Assumes nothing.
 use Rattle.std.specs.Prelude.{ℕ, ◌+◌, ◌≤◌, ◌≡◌, Bool, ◌&&◌, List, [], ◌++◌, eqb, length, take}
-use Rattle.definition.specs.Base.{if◌then◌else◌, tally}
+use Rattle.definition.specs.Base.{whether◌then◌else◌, tally}
 use Rattle.definition.specs.Calls.{Lengths, Result}
 use Rattle.definition.specs.Queries.{is_queue}
 use Rattle.definition.specs.Layout.{Row, Buffers}
@@ -35,12 +35,12 @@ ways_of bs = record { waiting = tally (is_at_place 0) bs; flying = tally (is_at_
 
 -- what leaves in a call; in a refused one nothing
 abbrev pub left_in : Call → Result → Noting → List Block
-left_in c r s = if accepted r then leaves_now r c s.kept.count s.held else []
+left_in c r s = whether accepted r then leaves_now r c s.kept.count s.held else []
 
 -- the counts after it: an accepted open begins anew
 abbrev pub kept_after : Call → Result → Noting → Kept
 kept_after c r s = record {
-  count = if accepted r then length (holds_now r) else s.kept.count;
+  count = whether accepted r then length (holds_now r) else s.kept.count;
   gone = gone_after (eqb c.code 0 && accepted r) (left_in c r s) s.kept.gone;
 }
 
@@ -48,7 +48,7 @@ kept_after c r s = record {
 unfoldable pub noted : Call → Result → Noting → Noting
 noted c r s = record {
   lent = left_by r s.lent;
-  held = if accepted r then list_with (holds_now r) s.held else s.held;
+  held = whether accepted r then list_with (holds_now r) s.held else s.held;
   kept = kept_after c r s;
 }
 

@@ -1,7 +1,7 @@
 -- The lines of a report, as bytes, and the counts of the blocks that are gone. Assumes nothing.
 use Rattle.std.specs.Prelude.{ℕ, Bool, not, ◌&&◌, List, [], ◌∷◌, ◌++◌, eqb}
 use Rattle.words.specs.Words.{signed}
-use Rattle.definition.specs.Base.{if◌then◌else◌}
+use Rattle.definition.specs.Base.{whether◌then◌else◌}
 use Rattle.definition.specs.Words.{at}
 use Rattle.stats.specs.Counted.{more}
 use Rattle.fates.specs.Blocks.{Block}
@@ -30,9 +30,9 @@ enqueue_line ws = 101 ∷ (field (at 0 ws) ++ (field (at 2 ws) ++ newline))
 -- what an accepted call brought: a join its consumer, an enqueue on a queue its block
 unfoldable pub brought_line : ℕ → ℕ → List ℕ → Bool → List ℕ
 brought_line refusal code ws on_queue =
-    if not (eqb refusal 0) then []
-    else if eqb code 2 then join_line ws
-    else if eqb code 1 && on_queue then enqueue_line ws
+    whether not (eqb refusal 0) then []
+    else whether eqb code 2 then join_line ws
+    else whether eqb code 1 && on_queue then enqueue_line ws
     else []
 
 -- ---- of blocks
@@ -40,13 +40,13 @@ brought_line refusal code ws on_queue =
 -- " waiting", " in-flight", " reserved", " dequeued", " expired", " discarded", " dead-lettered", " cleared"
 unfoldable pub place_name : ℕ → List ℕ
 place_name place =
-    if eqb place 0 then 32 ∷ 119 ∷ 97 ∷ 105 ∷ 116 ∷ 105 ∷ 110 ∷ 103 ∷ []
-    else if eqb place 1 then 32 ∷ 105 ∷ 110 ∷ 45 ∷ 102 ∷ 108 ∷ 105 ∷ 103 ∷ 104 ∷ 116 ∷ []
-    else if eqb place 2 then 32 ∷ 114 ∷ 101 ∷ 115 ∷ 101 ∷ 114 ∷ 118 ∷ 101 ∷ 100 ∷ []
-    else if eqb place 3 then 32 ∷ 100 ∷ 101 ∷ 113 ∷ 117 ∷ 101 ∷ 117 ∷ 101 ∷ 100 ∷ []
-    else if eqb place 4 then 32 ∷ 101 ∷ 120 ∷ 112 ∷ 105 ∷ 114 ∷ 101 ∷ 100 ∷ []
-    else if eqb place 5 then 32 ∷ 100 ∷ 105 ∷ 115 ∷ 99 ∷ 97 ∷ 114 ∷ 100 ∷ 101 ∷ 100 ∷ []
-    else if eqb place 6 then 32 ∷ 100 ∷ 101 ∷ 97 ∷ 100 ∷ 45 ∷ 108 ∷ 101 ∷ 116 ∷ 116 ∷ 101 ∷ 114 ∷ 101 ∷ 100 ∷ []
+    whether eqb place 0 then 32 ∷ 119 ∷ 97 ∷ 105 ∷ 116 ∷ 105 ∷ 110 ∷ 103 ∷ []
+    else whether eqb place 1 then 32 ∷ 105 ∷ 110 ∷ 45 ∷ 102 ∷ 108 ∷ 105 ∷ 103 ∷ 104 ∷ 116 ∷ []
+    else whether eqb place 2 then 32 ∷ 114 ∷ 101 ∷ 115 ∷ 101 ∷ 114 ∷ 118 ∷ 101 ∷ 100 ∷ []
+    else whether eqb place 3 then 32 ∷ 100 ∷ 101 ∷ 113 ∷ 117 ∷ 101 ∷ 117 ∷ 101 ∷ 100 ∷ []
+    else whether eqb place 4 then 32 ∷ 101 ∷ 120 ∷ 112 ∷ 105 ∷ 114 ∷ 101 ∷ 100 ∷ []
+    else whether eqb place 5 then 32 ∷ 100 ∷ 105 ∷ 115 ∷ 99 ∷ 97 ∷ 114 ∷ 100 ∷ 101 ∷ 100 ∷ []
+    else whether eqb place 6 then 32 ∷ 100 ∷ 101 ∷ 97 ∷ 100 ∷ 45 ∷ 108 ∷ 101 ∷ 116 ∷ 116 ∷ 101 ∷ 114 ∷ 101 ∷ 100 ∷ []
     else 32 ∷ 99 ∷ 108 ∷ 101 ∷ 97 ∷ 114 ∷ 101 ∷ 100 ∷ []
 
 -- `f` number place persistent
@@ -65,7 +65,7 @@ none_gone = record { dequeued = 0; expired = 0; discarded = 0; dead_lettered = 0
 
 -- one more at this place, up to the largest word
 abbrev pub more_at : ℕ → ℕ → ℕ → ℕ
-more_at place mine n = if eqb place mine then more n else n
+more_at place mine n = whether eqb place mine then more n else n
 
 unfoldable pub one_gone : ℕ → Gone → Gone
 one_gone place g = record {
@@ -83,7 +83,7 @@ all_gone (b ∷ bs) g = all_gone bs (one_gone (at 1 b) g)
 
 -- after a call; where an account begins anew, only these are
 abbrev pub gone_after : Bool → List Block → Gone → Gone
-gone_after anew bs g = all_gone bs (if anew then none_gone else g)
+gone_after anew bs g = all_gone bs (whether anew then none_gone else g)
 
 -- dequeued, expired, discarded, dead-lettered, cleared
 abbrev pub gone_fields : Gone → List ℕ

@@ -14,7 +14,7 @@ use Rattle.model.specs.declared.AckCount.TheVariants.{Uncounted, Dequeue, Expiry
 use Rattle.model.specs.declared.AckRule.{AckRule}
 use Rattle.model.specs.Model.{ack_rule}
 use Rattle.entry.specs.Entry.{entry_of}
-use Rattle.definition.specs.Base.{if◌then◌else◌, keep, tally, all}
+use Rattle.definition.specs.Base.{whether◌then◌else◌, keep, tally, all}
 use Rattle.definition.specs.Types.{Kind, Id, Entry, Held, Audit, Event, Dest, letter}
 use Rattle.definition.specs.Consumer.{◌⊕◌, Ack, add_dequeued, add_expired, add_discarded}
 use Rattle.definition.specs.Destination.{Out, letters, ack_reserved}
@@ -42,7 +42,7 @@ use Rattle.reserved.proofs.Types.{takes-reserved}
 
 letters-rows : (l : List Row) → letters (map (λ (h : Held). h.entry) (map held_at l)) ≡ row_letters false l
 letters-rows [] = refl
-letters-rows (r ∷ l) = ap (λ (x : List Event). if (entry_of r).persistent then letter (entry_of r).seq (entry_of r).redelivery false ∷ x else x) (letters-rows l)
+letters-rows (r ∷ l) = ap (λ (x : List Event). whether (entry_of r).persistent then letter (entry_of r).seq (entry_of r).redelivery false ∷ x else x) (letters-rows l)
 
 -- ---- told and counted
 

@@ -8,7 +8,7 @@ use Rattle.model.specs.declared.AckRange.{AckRange}
 use Rattle.model.specs.declared.AckRange.TheVariants.{Empty, Between, Cumulative, Last}
 use Rattle.model.specs.declared.AckCount.{AckCount}
 use Rattle.model.specs.declared.AckCount.TheVariants.{Uncounted, Dequeue, Expiry, DeadLetter}
-use Rattle.definition.specs.Base.{if◌then◌else◌, keep, tally, empty}
+use Rattle.definition.specs.Base.{whether◌then◌else◌, keep, tally, empty}
 use Rattle.definition.specs.Types.{Id, Entry, Held, Stats, Event, Dest, with_reserved}
 use Rattle.definition.specs.Consumer.{zero_stats, add_dequeued, add_expired, add_discarded, or0}
 use Rattle.definition.specs.Destination.{Out, count, held_by, letters}
@@ -26,7 +26,7 @@ any_held id l = not (empty (keep (λ w. held_by id (held_at w)) l))
 
 -- among the reserved rows, where they lie within the table
 unfoldable pub has_reserved : Head → Id → List Row → Bool
-has_reserved d id rows = if leb (first_waiting d) (length rows) then any_held id (slice (first_reserved d) (first_waiting d) rows) else false
+has_reserved d id rows = whether leb (first_waiting d) (length rows) then any_held id (slice (first_reserved d) (first_waiting d) rows) else false
 
 -- ---- by the rule
 

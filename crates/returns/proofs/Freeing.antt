@@ -7,7 +7,7 @@ use native.Mathlib.Omega.{arith}
 use lib.ListN.{length, take, drop, get_or, length-map, drop_of_length-le}
 use lib.Seq.{slice, slice-cons, length-slice, length-take-le, take-add, take_all, drop-drop, take_at, drop_at, drop-append-le, take-append-le, take-take}
 use Rattle.entry.specs.Entry.{entry_of}
-use Rattle.definition.specs.Base.{if◌then◌else◌, keep, empty, all}
+use Rattle.definition.specs.Base.{whether◌then◌else◌, keep, empty, all}
 use Rattle.definition.specs.Types.{Id, Entry, Held, Audit, Dest, with_reserved}
 use Rattle.definition.specs.Types as Def
 use Rattle.definition.specs.Consumer.{redelivered}
@@ -86,8 +86,8 @@ none-for i [] e = (refl, refl)
 none-for i (h ∷ l) e = go (held_by i h) (none-for i l) e
   where
     go : (b : Bool) → (empty (map (λ x. x.entry) (keep (held_by i) l)) ≡ true → (back l i ≡ []) × (stays l i ≡ l))
-        → empty (map (λ x. x.entry) (if b then h ∷ keep (held_by i) l else keep (held_by i) l)) ≡ true
-        → (map redelivered (map (λ x. x.entry) (if b then h ∷ keep (held_by i) l else keep (held_by i) l)) ≡ []) × ((if not b then h ∷ stays l i else stays l i) ≡ h ∷ l)
+        → empty (map (λ x. x.entry) (whether b then h ∷ keep (held_by i) l else keep (held_by i) l)) ≡ true
+        → (map redelivered (map (λ x. x.entry) (whether b then h ∷ keep (held_by i) l else keep (held_by i) l)) ≡ []) × ((whether not b then h ∷ stays l i else stays l i) ≡ h ∷ l)
     go true ih t = absurd (false≢true t)
     go false ih t = let r = ih t in (r.0, ap (λ (x : List Held). h ∷ x) r.1)
 

@@ -11,7 +11,7 @@ use lib.ListN.{length, take, drop, get_or, set}
 use Rattle.definition.specs.Layout.{Row}
 use Rattle.words.proofs.Tests.{by-test}
 use Rattle.entry.specs.Entry.{entry_of}
-use Rattle.definition.specs.Base.{if◌then◌else◌}
+use Rattle.definition.specs.Base.{whether◌then◌else◌}
 use Rattle.definition.specs.Types.{Entry}
 use Rattle.definition.specs.Destination.{insert}
 use Rattle.table.specs.Table.{place_from}
@@ -38,7 +38,7 @@ module _ (row : Row) (e : Entry) (is : entry_of row ≡ e) where
     where
       go : (b : Bool) → (b ≡ true → e.seq ≤ get_or r 0 0) → (b ≡ false → get_or r 0 0 < e.seq)
           → ((m : ℕ) → place_from (suc i) e.seq l ≡ suc i + m → (m < length l → get_or (get_or l m []) 0 0 ≡ e.seq → ⊥) → map entry_of (take m l ++ row ∷ drop m l) ≡ insert e (map entry_of l))
-          → (m : ℕ) → (if b then i else place_from (suc i) e.seq l) ≡ i + m
+          → (m : ℕ) → (whether b then i else place_from (suc i) e.seq l) ≡ i + m
           → (m < suc (length l) → get_or (get_or (r ∷ l) m []) 0 0 ≡ e.seq → ⊥) → map entry_of (take m (r ∷ l) ++ row ∷ drop m (r ∷ l)) ≡ insert e (map entry_of (r ∷ l))
       go true f g ih zero q u =
           let less : e.seq < get_or r 0 0 = by-test (eqb (get_or r 0 0) e.seq) (λ t. absurd (u (omega arith) (eqb-true (get_or r 0 0) e.seq t))) (λ t. omega (arith, f refl, eqb-false (get_or r 0 0) e.seq t)) in
@@ -57,7 +57,7 @@ module _ (row : Row) (e : Entry) (is : entry_of row ≡ e) where
     where
       go : (b : Bool) → (b ≡ true → e.seq ≤ get_or r 0 0) → (b ≡ false → get_or r 0 0 < e.seq)
           → ((m : ℕ) → place_from (suc i) e.seq l ≡ suc i + m → m < length l → get_or (get_or l m []) 0 0 ≡ e.seq → map entry_of (set l m row) ≡ insert e (map entry_of l))
-          → (m : ℕ) → (if b then i else place_from (suc i) e.seq l) ≡ i + m
+          → (m : ℕ) → (whether b then i else place_from (suc i) e.seq l) ≡ i + m
           → m < suc (length l) → get_or (get_or (r ∷ l) m []) 0 0 ≡ e.seq → map entry_of (set (r ∷ l) m row) ≡ insert e (map entry_of (r ∷ l))
       go b f g ih zero q h u = ap (λ (x : Entry). x ∷ map entry_of l) is ∙ sym (insert-over e (entry_of r) (map entry_of l) (sym u))
       go true f g ih (suc m) q h u = absurd (omega arith)

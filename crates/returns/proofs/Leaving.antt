@@ -11,7 +11,7 @@ use lib.IntN.{ℤ}
 use lib.ListN.{length, take, drop, get_or}
 use lib.Seq.{slice, length-slice, length-take-le, drop-drop, take-take, get_or-take}
 use Rattle.model.specs.Model.{id_of}
-use Rattle.definition.specs.Base.{if◌then◌else◌, all}
+use Rattle.definition.specs.Base.{whether◌then◌else◌, all}
 use Rattle.definition.specs.Types.{Kind, Id, Audit, Dest}
 use Rattle.definition.specs.Types as Def
 use Rattle.definition.specs.Consumer.{is_browser}
@@ -192,8 +192,8 @@ module _ (i : ℕ) (d : Head) (subs rows : List Row) (f : Fits subs d (length ro
         let count : d.consumers - 1 ≡ length (without (is_id id) (subs_at kind ws l)) =
         sym (ap length (sym all) ∙ subs-length kind (take (d.consumers - 1) subs') m
         ∙ length-take-le (d.consumers - 1) subs' (omega (arith, many, removed-length i d.consumers subs low many))) in
-        let turn : (if leb (d.consumers - 1) d.turn then 0 else d.turn) ≡ (if leb (length (without (is_id id) (subs_at kind ws l))) d.turn then 0 else d.turn) =
-        ap (λ (n : ℕ). if◌then◌else◌ {A = ℕ} (leb n d.turn) 0 d.turn) count in
+        let turn : (whether leb (d.consumers - 1) d.turn then 0 else d.turn) ≡ (whether leb (length (without (is_id id) (subs_at kind ws l))) d.turn then 0 else d.turn) =
+        ap (λ (n : ℕ). whether◌then◌else◌ {A = ℕ} (leb n d.turn) 0 d.turn) count in
         λ j. Def.with_rr (turn j) (Def.with_subs (all j) (Def.with_reserved (map held_at (rest-is l h j)) (gap_dest d subs l waits p u)))
 
     -- around its rows the destination is without it

@@ -11,7 +11,7 @@ use lib.Seq.{slice, take-suc, take-take, drop-drop, drop_at, get_or-take, get_or
 use Rattle.words.proofs.Tests.{by-test}
 use Rattle.model.specs.Model.{id_of, same_id}
 use Rattle.entry.specs.Entry.{entry_of}
-use Rattle.definition.specs.Base.{if◌then◌else◌}
+use Rattle.definition.specs.Base.{whether◌then◌else◌}
 use Rattle.definition.specs.Base as Base
 use Rattle.definition.specs.Types.{Kind, Id, Inflight}
 use Rattle.definition.specs.Types as Def
@@ -73,7 +73,7 @@ quiet-strict w f h s =
 -- ---- all consumers
 
 abbrev one : Id → Def.Sub → Def.Sub
-one id s = if is_id id s then no_tx s else s
+one id s = whether is_id id s then no_tx s else s
 
 module _ (id : Id) (n : ℕ) (subs rows₀ : List Row) where
   abbrev ws : List Row
@@ -123,7 +123,7 @@ module _ (id : Id) (d : Head) (subs rows₀ : List Row) (a : Fits subs d (length
     unmarking-room = omega (arith, next, rows_take us (suc i), a.rows-used, a.used)
 
     module _ (rows' : List Row)
-        (q : rows' ≡ (if same_id (id_of s.conn s.session s.value) id then map_rows unmark_row base (base + s.inflight) rows else rows))
+        (q : rows' ≡ (whether same_id (id_of s.conn s.session s.value) id then map_rows unmark_row base (base + s.inflight) rows else rows))
       where
         abbrev f : ℕ
         f = s.inflight

@@ -4,7 +4,7 @@ use Rattle.std.specs.Prelude.{◌≡◌, true, List, ◌++◌, map, ℕ, ◌+◌
 use Rattle.std.proofs.Math.Option.{none, some}
 use Rattle.std.proofs.Math.Seq.{slice}
 use Rattle.entry.specs.Entry.{entry_of}
-use Rattle.definition.specs.Base.{if◌then◌else◌, all}
+use Rattle.definition.specs.Base.{whether◌then◌else◌, all}
 use Rattle.definition.specs.Types.{Id, Entry, Audit, Dest}
 use Rattle.definition.specs.Destination.{insert}
 use Rattle.definition.specs.Words.{kind_by}
@@ -28,7 +28,7 @@ gap_dest d subs low waits producers audits = record {
   producers = producers;
   audits = audits;
   stats = d.stats;
-  idle = if d.idle then some d.idle_since else none;
+  idle = whether d.idle then some d.idle_since else none;
   reserved = map held_at (drop (sub_rows (take d.consumers subs)) low);
 }
 

@@ -1,7 +1,7 @@
 -- What returns to a queue: a consumer leaves, or what was reserved for one is released; both before the dispatch. Assumes nothing.
 use Rattle.std.specs.Prelude.{Bool, not, ◌&&◌, List, [], ◌∷◌, ◌++◌, map, ℕ, ◌-◌, ◌^◌, leb, ℤ}
 use Rattle.std.proofs.Math.Option.{Option, none, some}
-use Rattle.definition.specs.Base.{if◌then◌else◌, keep}
+use Rattle.definition.specs.Base.{whether◌then◌else◌, keep}
 use Rattle.definition.specs.Types.{Id, Entry, Inflight, Sub, Held, Dest, with_reserved}
 use Rattle.definition.specs.Consumer.{redelivered}
 use Rattle.definition.specs.Destination.{sub_of, reinsert, held_by, reserved_of, was_delivered, returned_from, reserved_from, drop_sub, returning}
@@ -24,7 +24,7 @@ freed now i t = reinsert now (map redelivered (reserved_of i t)) (with_reserved 
 
 -- an entry as it goes back to the queue
 abbrev pub given_back : ℤ → Entry → Entry
-given_back last e = if was_delivered last e then redelivered e else e
+given_back last e = whether was_delivered last e then redelivered e else e
 
 -- one more is reserved
 abbrev pub held_for : Id → Entry → Held
@@ -36,7 +36,7 @@ reserves h t = with_reserved (t.reserved ++ h ∷ []) t
 -- what one of the leaving consumer's entries in flight does: it is reserved for j, or it returns
 abbrev pub gives : ℕ → ℤ → Id → Inflight → Dest → Dest
 gives now last j i t =
-    if i.tx then reserves (held_for j i.entry) t
+    whether i.tx then reserves (held_for j i.entry) t
     else reinsert now (given_back last i.entry ∷ []) t
 
 -- and all of them
@@ -45,7 +45,7 @@ gives_all now last j is t = reinsert now (returned_from last is) (with_reserved 
 
 -- one consumer less, by value
 abbrev pub dropped_head : Head → Head
-dropped_head d = with_turn (if leb (d.consumers - 1) d.turn then 0 else d.turn) (with_consumers (d.consumers - 1) d)
+dropped_head d = with_turn (whether leb (d.consumers - 1) d.turn then 0 else d.turn) (with_consumers (d.consumers - 1) d)
 
 -- whether anything is done: the numbers fit, and the clock is no later than 2^62
 unfoldable pub in_bounds : ℕ → List Row → Head → ℕ → ℕ → Bool

@@ -5,7 +5,7 @@ ghost use Rattle.std.specs.Prelude.{◌≡◌, List, [], ◌∷◌, ◌+◌, ◌
 ghost use Rattle.model.specs.Model.{id_of, same_id};
 ghost use Rattle.model.specs.declared.Id as Model;
 ghost use Rattle.entry.specs.Entry.{entry_of, redelivered};
-ghost use Rattle.definition.specs.Base.{if◌then◌else◌, is_some};
+ghost use Rattle.definition.specs.Base.{whether◌then◌else◌, is_some};
 ghost use Rattle.definition.specs.Types.{Audit};
 ghost use Rattle.definition.specs.Destination.{sub_of, was_delivered, reinsert, unmarked};
 ghost use Rattle.definition.specs.Layout.{held_at, inflight_at, entry_strict};
@@ -267,7 +267,7 @@ pub fn leave(
 // The transaction is over for a consumer whose rows begin at base, if it has that identifier.
 fn unmark_one(rows: &mut [Row], base: usize, s: Sub, id: Id)
     requires { base + s.inflight ≤ 512 }
-    ensures { rows.new ≡ (if same_id (id_of s.conn s.session s.value) id then map_rows unmark_row base (base + s.inflight) rows.old else rows.old) }
+    ensures { rows.new ≡ (whether same_id (id_of s.conn s.session s.value) id then map_rows unmark_row base (base + s.inflight) rows.old else rows.old) }
 {
     if s.id().same(id) {
         table::unmark(rows, base, base + s.inflight);

@@ -8,7 +8,7 @@ use borrow.Author.Tests.{eq-eqb, lt-leb, le-leb}
 use lib.Dec.{eqb, ltb, leb}
 use lib.ListN.{length, take, drop, length-append, length-take, length-drop}
 use lib.Seq.{length-take-le, take_at, take-append_seam, drop-drop}
-use Rattle.definition.specs.Base.{if◌then◌else◌}
+use Rattle.definition.specs.Base.{whether◌then◌else◌}
 use Rattle.definition.proofs.Tests.{by-test, if-true, if-false}
 use Rattle.callfile.specs.Blocks.{good, calls_in}
 use Rattle.callfile.specs.declared.Reading.{Reading}
@@ -61,7 +61,7 @@ module _ {S : Type 0} (one : Doing S) (have number : ℕ) (block rest : List ℕ
   unfolding take_piece with_bytes
   begun-whole e = ap (λ (x : StepTaken (RunState S)). x.stage.begun) (if-false _ _ e)
 
-  stands : (goes : Bool) → take (if goes then length (begun goes) else have) (block_as goes have rest block) ≡ begun goes
+  stands : (goes : Bool) → take (whether goes then length (begun goes) else have) (block_as goes have rest block) ≡ begun goes
   unfolding take_piece
   stands false = refl
   stands true = by-test (ltb (length now) 512)
@@ -77,7 +77,7 @@ module _ {S : Type 0} (one : Doing S) (have number : ℕ) (block rest : List ℕ
       length-append (take have block) (part ++ drop (have + length part) block)
       ∙ (omega (arith, length-append part (drop (have + length part) block), length-drop (have + length part) block, length-take (512 - length (take have block)) rest))
 
-  unfilled-so : have < 512 → length (take have block) < 512 → (goes : Bool) → (if goes then length (begun goes) else have) < 512
+  unfilled-so : have < 512 → length (take have block) < 512 → (goes : Bool) → (whether goes then length (begun goes) else have) < 512
   unfilled-so h k false = h
   unfilled-so h k true = step_small (work_block one) (g true) k rest
 

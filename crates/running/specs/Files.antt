@@ -1,6 +1,6 @@
 -- What a whole run prints, from the bytes of a call file; and what the library's functions do along the pieces of one. Assumes nothing.
 use Rattle.std.specs.Prelude.{ℕ, ◌+◌, ◌-◌, ◌≤◌, ◌≡◌, Bool, true, false, not, ◌&&◌, ◌||◌, List, [], ◌∷◌, ◌++◌, eqb, leb, ltb, length, take, drop, replicate}
-use Rattle.definition.specs.Base.{if◌then◌else◌}
+use Rattle.definition.specs.Base.{whether◌then◌else◌}
 use Rattle.definition.specs.Types.{Stats}
 use Rattle.definition.specs.Calls.{Lengths}
 use Rattle.definition.specs.Layout.{Row, Buffers, stats_at, lengths_of, zero_buffers, zero_dest}
@@ -67,7 +67,7 @@ module _ {S : Type 0} where
   abbrev pub took_as : Bool → Reading → ℕ → StepTaken (RunState S) → Took
   took_as goes at from p = record {
     reading = record {
-      have = if goes then length p.stage.begun else at.have;
+      have = whether goes then length p.stage.begun else at.have;
       number = p.stage.number;
       index = p.stage.state.index;
       goes_on = p.stage.goes_on;
@@ -78,7 +78,7 @@ module _ {S : Type 0} where
 
 -- the block, in which the bytes that it lacked stand behind those that it had
 abbrev pub block_as : Bool → ℕ → List ℕ → List ℕ → List ℕ
-block_as goes have rest block = if goes then take have block ++ (lacked (take have block) rest ++ drop (have + length (lacked (take have block) rest)) block) else block
+block_as goes have rest block = whether goes then take have block ++ (lacked (take have block) rest ++ drop (have + length (lacked (take have block) rest)) block) else block
 
 -- the answer where nothing was taken
 unfoldable pub unread_as : Reading → ℕ → ℕ → Took
@@ -115,7 +115,7 @@ is_unfinished at failed = at.goes_on && (failed || not (eqb at.have 0))
 
 -- that is a bad one
 unfoldable pub rest_line : Reading → Bool → List ℕ
-rest_line at failed = if is_unfinished at failed then bad_line at.number else []
+rest_line at failed = whether is_unfinished at failed then bad_line at.number else []
 
 -- then the counters
 unfoldable pub last_lines : Reading → Bool → Stats → List ℕ

@@ -1,6 +1,6 @@
 -- What a run of a call file prints, a block at a time, and the state that it leaves. Assumes nothing.
 use Rattle.std.specs.Prelude.{◌≡◌, Bool, true, false, not, ◌&&◌, ◌||◌, List, [], ◌∷◌, ◌++◌, map, ℕ, zero, suc, ◌+◌, eqb, length, drop}
-use Rattle.definition.specs.Base.{if◌then◌else◌}
+use Rattle.definition.specs.Base.{whether◌then◌else◌}
 use Rattle.definition.specs.Types.{Dest}
 use Rattle.definition.specs.Calls.{Lengths, short, Result, refused}
 use Rattle.definition.specs.Words.{step}
@@ -36,7 +36,7 @@ accepted r = eqb r.refusal 0
 -- what it gets: `buffer_step`, by what it finds
 unfoldable pub step_on : Lengths → Call → LentState → Result
 step_on l c s =
-    if not (short l) && (not (eqb c.code 0) && not s.formed) then refused 2 s.dest
+    whether not (short l) && (not (eqb c.code 0) && not s.formed) then refused 2 s.dest
     else step l c.code c.words s.dest
 
 -- what it leaves: an accepted call leaves a state whose counts fit, and its events stand first in the list
@@ -89,7 +89,7 @@ module _ {S : Type 0} (one : Doing S) where
   -- those of a block; a bad block has its line, and ends the reading
   unfoldable pub each_of_block : List ℕ → ℕ → ℕ → S → Run S
   each_of_block block index number s =
-      if eqb (calls_in block (length block)) 0 then ends (bad_line number) index s
+      whether eqb (calls_in block (length block)) 0 then ends (bad_line number) index s
       else each_call (block_calls 0 (calls_in block (length block)) block) index s
 
 -- a run does this with each

@@ -11,7 +11,7 @@ use lib.ListN.{length, take, take-append-drop, get_or, set, replicate, get_or-re
 use lib.Seq.{slice, slice-cons, get_or-set_same, get_or-set_other, length-take-le}
 use Rattle.words.proofs.Tests.{by-test}
 use Rattle.words.proofs.Lists.{take_next}
-use Rattle.definition.specs.Base.{if◌then◌else◌, all, tally}
+use Rattle.definition.specs.Base.{whether◌then◌else◌, all, tally}
 use Rattle.definition.specs.Types.{Entry}
 use Rattle.definition.specs.Calls.{rows_from, within_share}
 use Rattle.definition.proofs.Thin.{tally-append, tally-length, tally-less}
@@ -66,7 +66,7 @@ within-swapped share l m n =
 -- entries, by their connections
 from-conns : (c : ℕ) (l : List Entry) → rows_from c l ≡ tally (eqb c) (conns l)
 from-conns c [] = refl
-from-conns c (e ∷ l) = ap (λ (n : ℕ). (if eqb c e.producer then 1 else 0) + n) (from-conns c l)
+from-conns c (e ∷ l) = ap (λ (n : ℕ). (whether eqb c e.producer then 1 else 0) + n) (from-conns c l)
 
 each-conns : (share : ℕ) (l m : List Entry) → all (λ e. leb (rows_from e.producer m) share) l ≡ all (λ x. leb (tally (eqb x) (conns m)) share) (conns l)
 each-conns share [] m = refl
@@ -77,7 +77,7 @@ within-conns share l = each-conns share l l
 
 -- ---- the loops, a turn at a time
 
-tally-next : (p : ℕ → Bool) (xs : List ℕ) (i : ℕ) → i < length xs → tally p (take (i + 1) xs) ≡ tally p (take i xs) + (if p (get_or xs i 0) then 1 else 0)
+tally-next : (p : ℕ → Bool) (xs : List ℕ) (i : ℕ) → i < length xs → tally p (take (i + 1) xs) ≡ tally p (take i xs) + (whether p (get_or xs i 0) then 1 else 0)
 tally-next p xs i h = ap (tally p) (take_next xs i 0 h) ∙ tally-append p (take i xs) (get_or xs i 0 ∷ []) ∙ by-test (p (get_or xs i 0)) (λ t. rw t (omega arith)) (λ t. rw t (omega arith))
 
 pub tally-hit : (p : ℕ → Bool) (xs : List ℕ) (i : ℕ) → i < length xs → p (get_or xs i 0) ≡ true → tally p (take (i + 1) xs) ≡ tally p (take i xs) + 1

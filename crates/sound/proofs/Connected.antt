@@ -7,7 +7,7 @@ use native.Mathlib.Numerals.{add-one}
 use native.Mathlib.Omega.{arith}
 use lib.ListN.{length, take, drop, get_or, set, length-append, length-take, length-drop, length-map}
 use lib.Seq.{slice, drop-drop, take-add, take-suc, take-suc-set, get_or-drop}
-use Rattle.words.specs.Pick.{if◌then◌else◌}
+use Rattle.words.specs.Pick.{whether◌then◌else◌}
 use Rattle.entry.specs.Entry.{entry_of}
 use Rattle.definition.specs.Types.{Kind, queue, Entry}
 use Rattle.definition.specs.Consumer.{is_browser}
@@ -53,22 +53,22 @@ conns-turn rows was out from start i h k e =
 
 -- one consumer's rows that are entries of the queue
 module _ (w : Row) (rows : List Row) (base : ℕ) where
-  taken_here : conns (let s = sub_at queue w (take (at 14 w) (drop base rows)) (take (at 15 w) (drop (at 14 w) (drop base rows))) in if is_browser s then [] else flying s)
-      ≡ conns_at (take (if flag (at 6 w) then 0 else at 14 w) (drop base rows))
+  taken_here : conns (let s = sub_at queue w (take (at 14 w) (drop base rows)) (take (at 15 w) (drop (at 14 w) (drop base rows))) in whether is_browser s then [] else flying s)
+      ≡ conns_at (take (whether flag (at 6 w) then 0 else at 14 w) (drop base rows))
   unfolding is_browser sub_at
   taken_here =
       let f : List Row = take (at 14 w) (drop base rows) in
-      ap₂ (λ (b : Bool) (l : List Entry). conns (if b then [] else l)) (browses (flag (at 6 w)) (map entry_of (take (at 15 w) (drop (at 14 w) (drop base rows))))) (flying-rows f)
+      ap₂ (λ (b : Bool) (l : List Entry). conns (whether b then [] else l)) (browses (flag (at 6 w)) (map entry_of (take (at 15 w) (drop (at 14 w) (drop base rows))))) (flying-rows f)
       ∙ pick (flag (at 6 w))
     where
-      pick : (b : Bool) → conns (if b then [] else map entry_of (take (at 14 w) (drop base rows))) ≡ conns_at (take (if b then 0 else at 14 w) (drop base rows))
+      pick : (b : Bool) → conns (whether b then [] else map entry_of (take (at 14 w) (drop base rows))) ≡ conns_at (take (whether b then 0 else at 14 w) (drop base rows))
       pick true = refl
       pick false = sym (conns-rows (take (at 14 w) (drop base rows)))
 
 -- a queue's entries in flight, from consumer i on
 module _ (subs : List Row) (i n : ℕ) (b : n ≤ length subs) (rows : List Row) (base : ℕ) where
   taken-turn : i < n → let w = get_or subs i [] in conns (taken (subs_at queue (slice i n subs) (drop base rows)))
-      ≡ conns_at (take (if flag (at 6 w) then 0 else at 14 w) (drop base rows)) ++ conns (taken (subs_at queue (slice (i + 1) n subs) (drop (base + (at 14 w + at 15 w)) rows)))
+      ≡ conns_at (take (whether flag (at 6 w) then 0 else at 14 w) (drop base rows)) ++ conns (taken (subs_at queue (slice (i + 1) n subs) (drop (base + (at 14 w + at 15 w)) rows)))
   unfolding each_sub
   taken-turn h =
       let w = get_or subs i [] in
@@ -76,12 +76,12 @@ module _ (subs : List Row) (i n : ℕ) (b : n ≤ length subs) (rows : List Row)
       let d : drop (at 15 w) (drop (at 14 w) (drop base rows)) ≡ drop (base + (at 14 w + at 15 w)) rows =
       drop-drop (at 15 w) (at 14 w) (drop base rows) ∙ drop-drop (at 14 w + at 15 w) base rows in
       ap (λ (l : List Row). conns (taken (subs_at queue l (drop base rows)))) (part-turn subs i n [] h b)
-      ∙ map-append (λ e. e.producer) (if is_browser s then [] else flying s) (taken (subs_at queue (slice (i + 1) n subs) (drop (at 15 w) (drop (at 14 w) (drop base rows)))))
+      ∙ map-append (λ e. e.producer) (whether is_browser s then [] else flying s) (taken (subs_at queue (slice (i + 1) n subs) (drop (at 15 w) (drop (at 14 w) (drop base rows)))))
       ∙ ap₂ (λ (l : List ℕ) (r : List Row). l ++ conns (taken (subs_at queue (slice (i + 1) n subs) r))) (taken_here w rows base) d
 
   module _ (was out next : List ℕ) (start end k : ℕ) (total : List ℕ)
       (e : take end out ++ conns (taken (subs_at queue (slice i n subs) (drop base rows))) ≡ total) where
-    pub taken_next : i < n → let w = get_or subs i [] in k ≡ (if flag (at 6 w) then 0 else at 14 w)
+    pub taken_next : i < n → let w = get_or subs i [] in k ≡ (whether flag (at 6 w) then 0 else at 14 w)
         → take (end + k) next ≡ take end out ++ conns_at (take k (drop base rows))
         → take (end + k) next ++ conns (taken (subs_at queue (slice (i + 1) n subs) (drop (base + (at 14 w + at 15 w)) rows))) ≡ total
     taken_next h q g =
@@ -105,9 +105,9 @@ unfolding each_sub sub_rows
 taken-count [] rows = omega arith
 taken-count (w ∷ ws) rows =
     let s = sub_at queue w (take (at 14 w) rows) (take (at 15 w) (drop (at 14 w) rows)) in
-    let mine : List Entry = if is_browser s then [] else flying s in
+    let mine : List Entry = whether is_browser s then [] else flying s in
     let rest : List Entry = taken (subs_at queue ws (drop (at 15 w) (drop (at 14 w) rows))) in
-    let k : ℕ = if flag (at 6 w) then 0 else at 14 w in
+    let k : ℕ = whether flag (at 6 w) then 0 else at 14 w in
     let here = ap length (taken_here w rows 0) ∙ length-map (take k rows) (at 3) ∙ length-take k rows in
     omega (arith, ap length (conns-append mine rest), length-append (conns mine) (conns rest), here, taken-small w, taken-count ws (drop (at 15 w) (drop (at 14 w) rows)))
 

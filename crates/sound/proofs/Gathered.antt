@@ -7,7 +7,7 @@ use native.Mathlib.Numerals.{add-one}
 use native.Mathlib.Omega.{arith}
 use lib.ListN.{length, take, drop, get_or, set, length-drop}
 use lib.Seq.{slice, drop-drop, take-suc, take-suc-set, get_or-drop}
-use Rattle.words.specs.Pick.{if◌then◌else◌}
+use Rattle.words.specs.Pick.{whether◌then◌else◌}
 use Rattle.entry.specs.Entry.{entry_of}
 use Rattle.definition.specs.Base.{distinct}
 use Rattle.definition.specs.Types.{queue, topic, Entry}
@@ -54,22 +54,22 @@ module _ (w : Row) (rows : List Row) (base : ℕ) where
   apart-here false = ap distinct (sym (seqs-of-sub w rows base topic))
 
   -- those that are entries of the queue
-  taken_here : seqs (let s = sub_at queue w (take (at 14 w) (drop base rows)) (take (at 15 w) (drop (at 14 w) (drop base rows))) in if is_browser s then [] else flying s)
-      ≡ seqs_at (take (if flag (at 6 w) then 0 else at 14 w) (drop base rows))
+  taken_here : seqs (let s = sub_at queue w (take (at 14 w) (drop base rows)) (take (at 15 w) (drop (at 14 w) (drop base rows))) in whether is_browser s then [] else flying s)
+      ≡ seqs_at (take (whether flag (at 6 w) then 0 else at 14 w) (drop base rows))
   unfolding is_browser sub_at
   taken_here =
       let f : List Row = take (at 14 w) (drop base rows) in
-      ap₂ (λ (b : Bool) (l : List Entry). seqs (if b then [] else l)) (browses (flag (at 6 w)) (map entry_of (take (at 15 w) (drop (at 14 w) (drop base rows))))) (flying-rows f)
+      ap₂ (λ (b : Bool) (l : List Entry). seqs (whether b then [] else l)) (browses (flag (at 6 w)) (map entry_of (take (at 15 w) (drop (at 14 w) (drop base rows))))) (flying-rows f)
       ∙ pick (flag (at 6 w))
     where
-      pick : (b : Bool) → seqs (if b then [] else map entry_of (take (at 14 w) (drop base rows))) ≡ seqs_at (take (if b then 0 else at 14 w) (drop base rows))
+      pick : (b : Bool) → seqs (whether b then [] else map entry_of (take (at 14 w) (drop base rows))) ≡ seqs_at (take (whether b then 0 else at 14 w) (drop base rows))
       pick true = refl
       pick false = sym (seqs-rows (take (at 14 w) (drop base rows)))
 
 -- a queue's entries in flight, from consumer i on
 module _ (subs : List Row) (i n : ℕ) (b : n ≤ length subs) (rows : List Row) (base : ℕ) where
   taken-turn : i < n → let w = get_or subs i [] in seqs (taken (subs_at queue (slice i n subs) (drop base rows)))
-      ≡ seqs_at (take (if flag (at 6 w) then 0 else at 14 w) (drop base rows)) ++ seqs (taken (subs_at queue (slice (i + 1) n subs) (drop (base + (at 14 w + at 15 w)) rows)))
+      ≡ seqs_at (take (whether flag (at 6 w) then 0 else at 14 w) (drop base rows)) ++ seqs (taken (subs_at queue (slice (i + 1) n subs) (drop (base + (at 14 w + at 15 w)) rows)))
   unfolding each_sub
   taken-turn h =
       let w = get_or subs i [] in
@@ -77,12 +77,12 @@ module _ (subs : List Row) (i n : ℕ) (b : n ≤ length subs) (rows : List Row)
       let d : drop (at 15 w) (drop (at 14 w) (drop base rows)) ≡ drop (base + (at 14 w + at 15 w)) rows =
       drop-drop (at 15 w) (at 14 w) (drop base rows) ∙ drop-drop (at 14 w + at 15 w) base rows in
       ap (λ (l : List Row). seqs (taken (subs_at queue l (drop base rows)))) (part-turn subs i n [] h b)
-      ∙ map-append (λ e. e.seq) (if is_browser s then [] else flying s) (taken (subs_at queue (slice (i + 1) n subs) (drop (at 15 w) (drop (at 14 w) (drop base rows)))))
+      ∙ map-append (λ e. e.seq) (whether is_browser s then [] else flying s) (taken (subs_at queue (slice (i + 1) n subs) (drop (at 15 w) (drop (at 14 w) (drop base rows)))))
       ∙ ap₂ (λ (l : List ℕ) (r : List Row). l ++ seqs (taken (subs_at queue (slice (i + 1) n subs) r))) (taken_here w rows base) d
 
   -- what was met, with theirs
   module _ (met total : List ℕ) (e : met ++ seqs (taken (subs_at queue (slice i n subs) (drop base rows))) ≡ total) where
-    pub taken_more : (k : ℕ) → i < n → let w = get_or subs i [] in k ≡ (if flag (at 6 w) then 0 else at 14 w)
+    pub taken_more : (k : ℕ) → i < n → let w = get_or subs i [] in k ≡ (whether flag (at 6 w) then 0 else at 14 w)
         → (met ++ seqs_at (take k (drop base rows))) ++ seqs (taken (subs_at queue (slice (i + 1) n subs) (drop (base + (at 14 w + at 15 w)) rows))) ≡ total
     taken_more k h q =
         let w = get_or subs i [] in
@@ -98,7 +98,7 @@ module _ (subs : List Row) (i n : ℕ) (b : n ≤ length subs) (rows : List Row)
 
   module _ (was out next : List ℕ) (start end k : ℕ) (total : List ℕ)
       (e : take end out ++ seqs (taken (subs_at queue (slice i n subs) (drop base rows))) ≡ total) where
-    pub taken_next : i < n → let w = get_or subs i [] in k ≡ (if flag (at 6 w) then 0 else at 14 w)
+    pub taken_next : i < n → let w = get_or subs i [] in k ≡ (whether flag (at 6 w) then 0 else at 14 w)
         → take (end + k) next ≡ take end out ++ seqs_at (take k (drop base rows))
         → take (end + k) next ++ seqs (taken (subs_at queue (slice (i + 1) n subs) (drop (base + (at 14 w + at 15 w)) rows))) ≡ total
     taken_next h q g =
@@ -108,9 +108,9 @@ module _ (subs : List Row) (i n : ℕ) (b : n ≤ length subs) (rows : List Row)
     pub taken-end : i ≡ n → take end out ≡ total
     taken-end q = taken-all (take end out) total e q
 
-pub taken-small : (w : Row) → (if flag (at 6 w) then 0 else at 14 w) ≤ at 14 w
+pub taken-small : (w : Row) → (whether flag (at 6 w) then 0 else at 14 w) ≤ at 14 w
 taken-small w = pick (flag (at 6 w))
   where
-    pick : (b : Bool) → (if b then 0 else at 14 w) ≤ at 14 w
+    pick : (b : Bool) → (whether b then 0 else at 14 w) ≤ at 14 w
     pick true = omega arith
     pick false = omega arith

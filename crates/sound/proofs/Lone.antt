@@ -7,7 +7,7 @@ use native.Mathlib.Omega.{arith}
 use borrow.Author.Tests.{eqb-true, leb-false, not-false}
 use lib.Dec.{eqb}
 use lib.ListN.{take, drop}
-use Rattle.words.specs.Pick.{if◌then◌else◌}
+use Rattle.words.specs.Pick.{whether◌then◌else◌}
 use Rattle.words.proofs.Tests.{by-test}
 use Rattle.entry.specs.Entry.{entry_of}
 use Rattle.definition.specs.Base.{all, tally, distinct}
@@ -43,22 +43,22 @@ module _ (most : ℕ) (w : Row) (rows : List Row) where
   abbrev s : Sub
   s = sub_at queue w (take (at 14 w) rows) (take (at 15 w) (drop (at 14 w) rows))
 
-  plain-sub : own_sound queue most s ≡ true → may_copy true w ≡ false → (if is_browser s then [] else flying s) ≡ rows_of s
+  plain-sub : own_sound queue most s ≡ true → may_copy true w ≡ false → (whether is_browser s then [] else flying s) ≡ rows_of s
   plain-sub o h = by-test (flag (at 6 w))
       (λ t.
       let e : (eqb (at 14 w) 0 && eqb (at 15 w) 0) ≡ true = not-false (eqb (at 14 w) 0 && eqb (at 15 w) 0) (sym (ap (λ (b : Bool). b && not (eqb (at 14 w) 0 && eqb (at 15 w) 0)) t) ∙ h) in
-      ap (λ (b : Bool). if b then [] else flying s) (browses-sub w (take (at 14 w) rows) (take (at 15 w) (drop (at 14 w) rows)) ∙ t) ∙ sym (no_rows queue w rows e))
+      ap (λ (b : Bool). whether b then [] else flying s) (browses-sub w (take (at 14 w) rows) (take (at 15 w) (drop (at 14 w) rows)) ∙ t) ∙ sym (no_rows queue w rows e))
       (λ t.
       let n : is_browser s ≡ false = browses-sub w (take (at 14 w) rows) (take (at 15 w) (drop (at 14 w) rows)) ∙ t in
-      ap (λ (b : Bool). if b then [] else flying s) n ∙ sym (plain_rows most s o n))
+      ap (λ (b : Bool). whether b then [] else flying s) n ∙ sym (plain_rows most s o n))
 
 -- ---- all of them
 
 module _ (q : Bool) (w : Row) (ws : List Row) where
   tally-none : tally (may_copy q) (w ∷ ws) ≡ 0 → (may_copy q w ≡ false) × (tally (may_copy q) ws ≡ 0)
   tally-none e = by-test (may_copy q w)
-      (λ t. absurd (omega (arith, sym (ap (λ (b : Bool). (if b then 1 else 0) + tally (may_copy q) ws) t) ∙ e)))
-      (λ t. (t, omega (arith, sym (ap (λ (b : Bool). (if b then 1 else 0) + tally (may_copy q) ws) t) ∙ e)))
+      (λ t. absurd (omega (arith, sym (ap (λ (b : Bool). (whether b then 1 else 0) + tally (may_copy q) ws) t) ∙ e)))
+      (λ t. (t, omega (arith, sym (ap (λ (b : Bool). (whether b then 1 else 0) + tally (may_copy q) ws) t) ∙ e)))
 
 taken-all : (most : ℕ) (ws rows : List Row) → all (own_sound queue most) (subs_at queue ws rows) ≡ true → tally (may_copy true) ws ≡ 0
     → taken (subs_at queue ws rows) ≡ consumer_rows (subs_at queue ws rows)
@@ -82,11 +82,11 @@ unfolding each_sub
 one-held [] rows a h = refl
 one-held (w ∷ ws) rows a h = by-test (may_copy false w)
     (λ t.
-    let e : tally (may_copy false) ws ≡ 0 = omega (arith, h, ap (λ (b : Bool). (if b then 1 else 0) + tally (may_copy false) ws) t) in
+    let e : tally (may_copy false) ws ≡ 0 = omega (arith, h, ap (λ (b : Bool). (whether b then 1 else 0) + tally (may_copy false) ws) t) in
     ap (λ (l : List Entry). distinct (seqs l)) (ap (λ (l : List Entry). rows_of x ++ l) (none-held ws rest e) ∙ append-nil (rows_of x)) ∙ and_left (apart_by topic x) _ a)
     (λ t.
     ap (λ (l : List Entry). distinct (seqs (l ++ consumer_rows (subs_at topic ws rest)))) (no_rows topic w rows (not-false (eqb (at 14 w) 0 && eqb (at 15 w) 0) t))
-    ∙ one-held ws rest (and_right (apart_by topic x) _ a) (omega (arith, h, ap (λ (b : Bool). (if b then 1 else 0) + tally (may_copy false) ws) t)))
+    ∙ one-held ws rest (and_right (apart_by topic x) _ a) (omega (arith, h, ap (λ (b : Bool). (whether b then 1 else 0) + tally (may_copy false) ws) t)))
   where
     rest : List Row
     rest = drop (at 15 w) (drop (at 14 w) rows)

@@ -10,7 +10,7 @@ use borrow.Author.Tests.{eq-eqb, ltb-true, leb-true, eqb-true, lt-ltb, le-leb}
 use lib.Dec.{leb, ltb, eqb}
 use lib.ListN.{length, take, drop, length-append, length-take, length-drop, length-map}
 use lib.Seq.{drop-drop, length-take-le, take-add}
-use Rattle.words.specs.Pick.{if◌then◌else◌}
+use Rattle.words.specs.Pick.{whether◌then◌else◌}
 use Rattle.words.proofs.Tests.{by-test}
 use Rattle.audit.specs.Audit as Ring
 use Rattle.audit.specs.declared.Audit as RingState
@@ -166,13 +166,13 @@ plain_rows most s e n =
 
 -- so its numbers differ where the queue's do
 queue-sub : (u : ℕ) (s : Sub) (rest : List Entry) → own_sound queue (bound u) s ≡ true → apart_by queue s ≡ true
-    → distinct (seqs ((if is_browser s then [] else flying s) ++ rest)) ≡ true → distinct (seqs (rows_of s)) ≡ true
+    → distinct (seqs ((whether is_browser s then [] else flying s) ++ rest)) ≡ true → distinct (seqs (rows_of s)) ≡ true
 queue-sub u s rest o a t = by-test (is_browser s)
     (λ c. sym (ap (λ (x : Bool). not x || distinct (seqs (rows_of s))) c) ∙ a)
     (λ c.
     ap (λ (l : List Entry). distinct (seqs l)) (plain_rows (bound u) s o c)
     ∙ distinct-left (seqs (flying s)) (seqs rest)
-    (ap distinct (sym (map-append (λ e. e.seq) (flying s) rest)) ∙ sym (ap (λ (x : Bool). distinct (seqs ((if x then [] else flying s) ++ rest))) c) ∙ t))
+    (ap distinct (sym (map-append (λ e. e.seq) (flying s) rest)) ∙ sym (ap (λ (x : Bool). distinct (seqs ((whether x then [] else flying s) ++ rest))) c) ∙ t))
 
 taken_apart : Kind → List Sub → Bool
 taken_apart queue ss = distinct (seqs (taken ss))
@@ -183,7 +183,7 @@ unfolding taken_apart
 own-subs queue u [] o a t = refl
 own-subs queue u (s ∷ ss) o a t =
     let os = and_left (own_sound queue (bound u) s) (all (own_sound queue (bound u)) ss) o in
-    let mine : List Entry = if is_browser s then [] else flying s in
+    let mine : List Entry = whether is_browser s then [] else flying s in
     let d = queue-sub u s (taken ss) os (and_left (apart_by queue s) (all (apart_by queue) ss) a) t in
     and_both (sub_sound queue u s) (all (sub_sound queue u) ss) (own-sub queue u s os d)
     (own-subs queue u ss (and_right (own_sound queue (bound u) s) (all (own_sound queue (bound u)) ss) o) (and_right (apart_by queue s) (all (apart_by queue) ss) a)

@@ -3,7 +3,7 @@
 
 ghost use Rattle.std.specs.Prelude.{◌≡◌, true, false, not, ◌&&◌, ◌||◌, [], ◌++◌, ℕ, ◌+◌, ◌-◌, ◌≤◌, ◌<◌, ltb, eqb, length, take, drop, get_or};
 ghost use Rattle.std.proofs.Math.Seq.{slice};
-ghost use Rattle.words.specs.Pick.{if◌then◌else◌};
+ghost use Rattle.words.specs.Pick.{whether◌then◌else◌};
 ghost use Rattle.definition.specs.Base.{all, member, distinct, rising, ascending};
 ghost use Rattle.definition.specs.Types.{queue};
 ghost use Rattle.definition.specs.Calls.{seqs, taken, state_short};
@@ -123,7 +123,7 @@ fn subs_apart(subs: &[SubRow], n: usize, rows: &[Row], on_queue: bool) -> bool
 
 // How many of a consumer's rows are a queue's entries: a browser's are copies.
 fn taken_of(w: SubRow) -> usize
-    ensures { result ≡ (if flag (at 6 w) then 0 else at 14 w) }
+    ensures { result ≡ (whether flag (at 6 w) then 0 else at 14 w) }
 {
     if w[6] != 0 {
         return 0;

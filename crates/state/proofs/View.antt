@@ -11,7 +11,7 @@ use lib.Dec.{eqb, leb, eqb-suc-zero}
 use lib.ListN.{length, take, drop, set, length-drop, length-set}
 use lib.Seq.{drop-drop, drop-set-lt, get_or-drop, get_or-set_same, get_or-set_other, set-get_or}
 use Rattle.words.proofs.Words.{flag-of-word}
-use Rattle.definition.specs.Base.{if◌then◌else◌, every, empty}
+use Rattle.definition.specs.Base.{whether◌then◌else◌, every, empty}
 use Rattle.definition.proofs.Tests.{by-if}
 use Rattle.definition.proofs.Thin.{every-all}
 use Rattle.definition.specs.Types.{Kind, Id, Audit, Dest}
@@ -103,7 +103,7 @@ module _ (subs rows : List Row) where
 -- `touch_idle` changes the mark and its clock alone
 pub touched-mark : (now : ℕ) (d : Head) → touched now d ≡ with_idle_mark (touched now d).idle (touched now d).idle_since d
 unfolding touched
-touched-mark now d = by-if (λ (x : Head). x ≡ with_idle_mark x.idle x.idle_since d) (eqb d.waiting 0 && (eqb d.consumers 0 && eqb d.producers 0)) (if d.idle then d else with_idle_mark true now d) (not_idle d)
+touched-mark now d = by-if (λ (x : Head). x ≡ with_idle_mark x.idle x.idle_since d) (eqb d.waiting 0 && (eqb d.consumers 0 && eqb d.producers 0)) (whether d.idle then d else with_idle_mark true now d) (not_idle d)
     (λ _. by-if (λ (x : Head). x ≡ with_idle_mark x.idle x.idle_since d) d.idle d (with_idle_mark true now d) (λ _. refl) (λ _. refl))
     (λ _. refl)
 
@@ -124,10 +124,10 @@ module _ (subs rows : List Row) (producers : List Id) (audits : List Audit) wher
 
   -- `touch_idle` by its tests: whether anything is left, and whether there is a mark
   touch-cases : (now : ℕ) (d : Head) (t b : Bool) → d.idle ≡ b
-      → viewed (if t then (if b then d else with_idle_mark true now d) else not_idle d)
-      ≡ (if t then Def.with_idle (idle_mark now (if b then some d.idle_since else none)) (viewed d) else Def.with_idle none (viewed d))
+      → viewed (whether t then (whether b then d else with_idle_mark true now d) else not_idle d)
+      ≡ (whether t then Def.with_idle (idle_mark now (whether b then some d.idle_since else none)) (viewed d) else Def.with_idle none (viewed d))
   unfolding head_view
-  touch-cases now d true true e = ap (λ (i : Option ℕ). Def.with_idle i (viewed d)) (ap (λ (b : Bool). if b then some d.idle_since else none) e)
+  touch-cases now d true true e = ap (λ (i : Option ℕ). Def.with_idle i (viewed d)) (ap (λ (b : Bool). whether b then some d.idle_since else none) e)
   touch-cases now d true false e = refl
   touch-cases now d false b e = refl
 
@@ -148,7 +148,7 @@ module _ (subs rows : List Row) (producers : List Id) (audits : List Audit) wher
   unfolding left head_view touched touch_idle
   touch-view now d hs hr hp =
       touch-cases now d (eqb d.waiting 0 && (eqb d.consumers 0 && eqb d.producers 0)) d.idle refl
-      ∙ ap (λ (b : Bool). if b then Def.with_idle (idle_mark now (viewed d).idle) (viewed d) else Def.with_idle none (viewed d)) (sym (left_is d hs hr hp))
+      ∙ ap (λ (b : Bool). whether b then Def.with_idle (idle_mark now (viewed d).idle) (viewed d) else Def.with_idle none (viewed d)) (sym (left_is d hs hr hp))
 
 pub is-queue : (b : Bool) → is_queue (kind_by b) ≡ b
 is-queue true = refl

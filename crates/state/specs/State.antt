@@ -2,7 +2,7 @@
 use Rattle.std.specs.Prelude.{ℕ, ◌+◌, ◌-◌, min, Bool, true, false, ◌&&◌, List, [], ◌∷◌, ◌++◌, map, eqb, ltb, length, take, drop, set}
 use Rattle.std.proofs.Math.Option.{none, some}
 use mir.Val.{bool_byte}
-use Rattle.words.specs.Pick.{if◌then◌else◌}
+use Rattle.words.specs.Pick.{whether◌then◌else◌}
 use Rattle.entry.specs.Entry.{entry_of}
 use Rattle.definition.specs.Types.{queue, Id, Audit, Dest}
 use Rattle.definition.specs.Consumer.{zero_stats}
@@ -63,7 +63,7 @@ no_head = record {
 
 -- the numbers of a head and a table of consumers
 unfoldable pub loaded : List ℕ → List Row → Head
-loaded h subs = if ltb (length h) 8347 then no_head else head_of h (used_of h subs)
+loaded h subs = whether ltb (length h) 8347 then no_head else head_of h (used_of h subs)
 
 -- the kind's word: 0 for a queue, 1 for a topic
 abbrev pub kind_word : Bool → ℕ
@@ -95,7 +95,7 @@ head_view d subs rows producers audits =
       producers = producers;
       audits = audits;
       stats = d.stats;
-      idle = if d.idle then some d.idle_since else none;
+      idle = whether d.idle then some d.idle_since else none;
       reserved = map held_at (take d.reserved others);
     }
 
@@ -146,7 +146,7 @@ not_idle d = with_idle_mark false 0 d
 -- `touch_idle`
 unfoldable pub touched : ℕ → Head → Head
 touched now d =
-    if eqb d.waiting 0 && (eqb d.consumers 0 && eqb d.producers 0) then (if d.idle then d else with_idle_mark true now d)
+    whether eqb d.waiting 0 && (eqb d.consumers 0 && eqb d.producers 0) then (whether d.idle then d else with_idle_mark true now d)
     else not_idle d
 
 -- the clock that entries expire by
@@ -177,8 +177,8 @@ rows_free d = 512 - d.used
 
 -- to a head of full size the first 17 words, and the last two
 unfoldable pub stored_head : Head → List ℕ → List ℕ
-stored_head d h = if ltb (length h) 8347 then h else set (set (head_words d ++ drop 17 h) 8345 d.allowance) 8346 d.share
+stored_head d h = whether ltb (length h) 8347 then h else set (set (head_words d ++ drop 17 h) 8345 d.allowance) 8346 d.share
 
 -- an event is appended, where there is room
 unfoldable pub pushed : Head → ℕ → Head
-pushed d room = if ltb d.events room then with_events (d.events + 1) d else d
+pushed d room = whether ltb d.events room then with_events (d.events + 1) d else d

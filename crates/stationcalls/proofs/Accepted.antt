@@ -10,7 +10,7 @@ use borrow.Author.Tests.{eqb-true, eqb-false}
 use lib.Dec.{eqb}
 use lib.ListN.{length, take, set, length-append, length-map, length-set}
 use lib.Seq.{set-set, get_or-set_same, get_or-set_other}
-use Rattle.definition.specs.Base.{if◌then◌else◌}
+use Rattle.definition.specs.Base.{whether◌then◌else◌}
 use Rattle.definition.specs.Types.{Entry, Event}
 use Rattle.definition.specs.Calls.{sound, Result}
 use Rattle.definition.specs.Words.{at, decode, step}
@@ -61,7 +61,7 @@ none-ran heads subs rows own events now name n h s = let b : StationBuffers = le
 -- ---- the own words after a destination's call: an accepted enqueue has taken a number
 
 abbrev pub own_after : ℕ → List ℕ → List ℕ
-own_after code own = if eqb code 1 then set own 16 (at 16 own + 1) else own
+own_after code own = whether eqb code 1 then set own 16 (at 16 own + 1) else own
 
 module _ (heads : List ℕ) (subs rows : List Row) (own : List ℕ) (events : List Row) (k code : ℕ) (ws : List ℕ) (a : AskedAt (lent_all heads subs rows own) k code (length events)) where
   abbrev b : StationBuffers

@@ -8,7 +8,7 @@ use native.Mathlib.Omega.{arith}
 use lib.ListN.{length, set, take, drop, length-set, length-map}
 use lib.Seq.{get_or-set_same, get_or-set_other, ext_get_or, take_at, length-take-le}
 use Rattle.entry.specs.Entry.{entry_of}
-use Rattle.definition.specs.Base.{if◌then◌else◌, all, up_from}
+use Rattle.definition.specs.Base.{whether◌then◌else◌, all, up_from}
 use Rattle.definition.specs.Types.{Entry}
 use Rattle.definition.specs.Calls.{seqs, clock_ok}
 use Rattle.definition.specs.Words.{at, entry_in}
@@ -47,8 +47,8 @@ module _ (heads : List ℕ) (subs rows : List Row) (own own' : List ℕ) (same :
   slot-own : (j : ℕ) → j < 8 → slot_at b' j ≡ slot_at b j
   unfolding slot_at part
   slot-own j h =
-      ap (λ (w : ℕ). if◌then◌else◌ {A = Option StationSlot} (flag w) (some (record { dest = view (part j b); name = at (name_word j) own' })) none) (same j (omega (arith, h)))
-      ∙ ap (λ (w : ℕ). if◌then◌else◌ {A = Option StationSlot} (flag (at j own)) (some (record { dest = view (part j b); name = w })) none) (same (name_word j) (omega (arith, h)))
+      ap (λ (w : ℕ). whether◌then◌else◌ {A = Option StationSlot} (flag w) (some (record { dest = view (part j b); name = at (name_word j) own' })) none) (same j (omega (arith, h)))
+      ∙ ap (λ (w : ℕ). whether◌then◌else◌ {A = Option StationSlot} (flag (at j own)) (some (record { dest = view (part j b); name = w })) none) (same (name_word j) (omega (arith, h)))
 
   pub slots-own : (station_view b').slots ≡ (station_view b).slots
   unfolding station_view

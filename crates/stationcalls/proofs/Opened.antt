@@ -9,7 +9,7 @@ use borrow.Author.Tests.{eqb-true, eqb-false, eq-eqb, lt-leb, le-leb}
 use lib.Dec.{leb, eqb}
 use lib.ListN.{length, drop, set, get_or, length-set}
 use lib.Seq.{get_or-set_same, get_or-set_other, ext_get_or}
-use Rattle.definition.specs.Base.{if◌then◌else◌, up_from}
+use Rattle.definition.specs.Base.{whether◌then◌else◌, up_from}
 use Rattle.definition.specs.Types.{Dest}
 use Rattle.definition.specs.Calls.{short, state_short, Result, refused}
 use Rattle.definition.specs.Words.{at, open_words, opened_by}
@@ -157,7 +157,7 @@ module _ (heads : List ℕ) (subs rows : List Row) (own : List ℕ) (events : Li
       slot-here : slot_at b₂ k ≡ there
       unfolding slot_at part
       slot-here =
-          ap (λ (w : ℕ). if◌then◌else◌ {A = Option StationSlot} (flag w) (some (record { dest = view (part k b₂); name = at (name_word k) own₁ })) none) mark-is
+          ap (λ (w : ℕ). whether◌then◌else◌ {A = Option StationSlot} (flag w) (some (record { dest = view (part k b₂); name = at (name_word k) own₁ })) none) mark-is
           ∙ ap (λ (w : ℕ). some (record { dest = view (part k b₂); name = w })) name-is
           ∙ ap (λ (t : Dest). some (record { dest = t; name = at 6 ws })) shown
         where
@@ -167,9 +167,9 @@ module _ (heads : List ℕ) (subs rows : List Row) (own : List ℕ) (events : Li
       slot-other : (i : ℕ) → i < 8 → (i ≡ k → ⊥) → slot_at b₂ i ≡ slot_at b i
       unfolding slot_at part
       slot-other i g ne =
-          ap (λ (p : Buffers). if◌then◌else◌ {A = Option StationSlot} (flag (at i own₁)) (some (record { dest = view p; name = at (name_word i) own₁ })) none) (n.elsewhere i g ne)
-          ∙ ap (λ (w : ℕ). if◌then◌else◌ {A = Option StationSlot} (flag w) (some (record { dest = view (part i b); name = at (name_word i) own₁ })) none) (others i ne (λ y. omega (arith, y, g)))
-          ∙ ap (λ (w : ℕ). if◌then◌else◌ {A = Option StationSlot} (flag (at i own)) (some (record { dest = view (part i b); name = w })) none) (others (8 + i) (λ y. omega (arith, y, h)) (λ y. ne (omega (arith, y))))
+          ap (λ (p : Buffers). whether◌then◌else◌ {A = Option StationSlot} (flag (at i own₁)) (some (record { dest = view p; name = at (name_word i) own₁ })) none) (n.elsewhere i g ne)
+          ∙ ap (λ (w : ℕ). whether◌then◌else◌ {A = Option StationSlot} (flag w) (some (record { dest = view (part i b); name = at (name_word i) own₁ })) none) (others i ne (λ y. omega (arith, y, g)))
+          ∙ ap (λ (w : ℕ). whether◌then◌else◌ {A = Option StationSlot} (flag (at i own)) (some (record { dest = view (part i b); name = w })) none) (others (8 + i) (λ y. omega (arith, y, h)) (λ y. ne (omega (arith, y))))
 
       slots-are : map (slot_at b₂) (up_from 0 8) ≡ set (map (slot_at b) (up_from 0 8)) k there
       unfolding station_view

@@ -10,7 +10,7 @@ use borrow.Author.Tests.{le-ltb}
 use lib.Dec.{eqb}
 use lib.ListN.{length, take, drop, length-map}
 use lib.Seq.{paste, paste-zero, length-paste, take-paste, drop-paste}
-use Rattle.definition.specs.Base.{if◌then◌else◌}
+use Rattle.definition.specs.Base.{whether◌then◌else◌}
 use Rattle.definition.specs.Types.{Dest}
 use Rattle.definition.specs.Calls.{Lengths, state_short, short, sound, Result, refused, used, Call, arguments_ok, own_refusal, perform, refusal, call}
 use Rattle.definition.specs.Words.{open_words, opened_by, decode, open_step, call_step, step}
@@ -28,27 +28,27 @@ use Rattle.stationcalls.proofs.Cycle.{sent-words}
 
 refusal-same : (l m : Lengths) (c : Call) (t : Dest) → short l ≡ short m → refusal l c t ≡ refusal m c t
 unfolding refusal
-refusal-same l m c t e = ap (λ (s : Bool). if◌then◌else◌ {A = ℕ} s 1 (if not (sound t) then 2 else if not (arguments_ok c) then 3 else if eqb t.calls_used t.call_limit then 9 else own_refusal t c)) e
+refusal-same l m c t e = ap (λ (s : Bool). whether◌then◌else◌ {A = ℕ} s 1 (whether not (sound t) then 2 else whether not (arguments_ok c) then 3 else whether eqb t.calls_used t.call_limit then 9 else own_refusal t c)) e
 
 pub call_same : (l m : Lengths) (c : Call) (t : Dest) → short l ≡ short m → call l c t ≡ call m c t
 unfolding call
 call_same l m c t e =
-    ap (λ (n : ℕ). if◌then◌else◌ {A = Result} (eqb n 0) (record { refusal = 0; answer = (perform t c).answer; events = (perform t c).events; dest = used (perform t c).dest }) (refused n t)) (refusal-same l m c t e)
+    ap (λ (n : ℕ). whether◌then◌else◌ {A = Result} (eqb n 0) (record { refusal = 0; answer = (perform t c).answer; events = (perform t c).events; dest = used (perform t c).dest }) (refused n t)) (refusal-same l m c t e)
 
 coded-same : (l m : Lengths) (t : Dest) (o : Option Call) → short l ≡ short m → call_step l t o ≡ call_step m t o
 unfolding call_step
-coded-same l m t none e = ap (λ (s : Bool). refused (if s then 1 else if sound t then 3 else 2) t) e
+coded-same l m t none e = ap (λ (s : Bool). refused (whether s then 1 else whether sound t then 3 else 2) t) e
 coded-same l m t (some c) e = call_same l m c t e
 
 open-same : (l m : Lengths) (ws : List ℕ) (t : Dest) → short l ≡ short m → open_step l ws t ≡ open_step m ws t
 unfolding open_step
-open-same l m ws t e = ap (λ (s : Bool). if◌then◌else◌ {A = Result} s (refused 1 t) (if open_words ws then record { refusal = 0; answer = 0; events = []; dest = opened_by ws } else refused 3 t)) e
+open-same l m ws t e = ap (λ (s : Bool). whether◌then◌else◌ {A = Result} s (refused 1 t) (whether open_words ws then record { refusal = 0; answer = 0; events = []; dest = opened_by ws } else refused 3 t)) e
 
 step_same : (l m : Lengths) (code : ℕ) (ws : List ℕ) (t : Dest) → short l ≡ short m → step l code ws t ≡ step m code ws t
 unfolding step
 step_same l m code ws t e =
-    ap (λ (r : Result). if◌then◌else◌ {A = Result} (eqb code 0) r (call_step l t (decode code ws))) (open-same l m ws t e)
-    ∙ ap (λ (r : Result). if◌then◌else◌ {A = Result} (eqb code 0) (open_step m ws t) r) (coded-same l m t (decode code ws) e)
+    ap (λ (r : Result). whether◌then◌else◌ {A = Result} (eqb code 0) r (call_step l t (decode code ws))) (open-same l m ws t e)
+    ∙ ap (λ (r : Result). whether◌then◌else◌ {A = Result} (eqb code 0) (open_step m ws t) r) (coded-same l m t (decode code ws) e)
 
 pub short-same : (p : Buffers) (n : ℕ) → 545 ≤ n → short (lengths_of p n) ≡ short (lengths_of p 545)
 unfolding short state_short
@@ -57,8 +57,8 @@ short-same p n h = ap (λ (x : Bool). state_short (lengths_of p 545) || x) (le-l
 pub longer-same : (p : Buffers) (n code : ℕ) (ws : List ℕ) → 545 ≤ n → buffer_step p n code ws ≡ buffer_step p 545 code ws
 unfolding buffer_step
 longer-same p n code ws h =
-    ap (λ (s : Bool). if◌then◌else◌ {A = Result} (not s && (not (eqb code 0) && not (formed p))) (refused 2 (view p)) (step (lengths_of p n) code ws (view p))) (short-same p n h)
-    ∙ ap (λ (r : Result). if◌then◌else◌ {A = Result} (not (short (lengths_of p 545)) && (not (eqb code 0) && not (formed p))) (refused 2 (view p)) r) (step_same (lengths_of p n) (lengths_of p 545) code ws (view p) (short-same p n h))
+    ap (λ (s : Bool). whether◌then◌else◌ {A = Result} (not s && (not (eqb code 0) && not (formed p))) (refused 2 (view p)) (step (lengths_of p n) code ws (view p))) (short-same p n h)
+    ∙ ap (λ (r : Result). whether◌then◌else◌ {A = Result} (not (short (lengths_of p 545)) && (not (eqb code 0) && not (formed p))) (refused 2 (view p)) r) (step_same (lengths_of p n) (lengths_of p 545) code ws (view p) (short-same p n h))
 
 -- ---- a refused call sends nothing
 

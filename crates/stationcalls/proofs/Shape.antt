@@ -8,7 +8,7 @@ use native.Mathlib.Omega.{arith}
 use borrow.Author.Tests.{not-true, not-false, eqb-true, ne_eqb, le-ltb, lt-ltb}
 use lib.Dec.{ltb, eqb}
 use lib.ListN.{length, drop}
-use Rattle.definition.specs.Base.{if◌then◌else◌, is_some}
+use Rattle.definition.specs.Base.{whether◌then◌else◌, is_some}
 use Rattle.definition.specs.Calls.{short, state_short, Result, refused, enqueuing, arguments_ok}
 use Rattle.definition.specs.Words.{at, entry_in, provided, ranged_call, read, decode, step}
 use Rattle.definition.specs.Layout.{Row, view, sound_buffers, lengths_of, buffer_step}
@@ -30,11 +30,11 @@ use Rattle.stationcalls.proofs.Tested.{all_sound}
 
 abbrev pub tree : {A : Type 0} → Bool → Bool → Bool → Bool → Bool → A → A → A → A → A → A
 tree s t z y l one ten two opens calls =
-    if not s && (not t && (not z && not l)) then two
-    else if s then one
-    else if t then ten
-    else if not z && not y then two
-    else if z then opens
+    whether not s && (not t && (not z && not l)) then two
+    else whether s then one
+    else whether t then ten
+    else whether not z && not y then two
+    else whether z then opens
     else calls
 
 module _ {A : Type 0} (s t z y l : Bool) (one ten two opens calls : A) where
@@ -50,7 +50,7 @@ module _ {A : Type 0} (s t z y l : Bool) (one ten two opens calls : A) where
   pub tree-two : s ≡ false → t ≡ false → z ≡ false → (l && y) ≡ false → tree s t z y l one ten two opens calls ≡ two
   tree-two h g e f = rw (h, g, e) (either l y f)
     where
-      either : (l y : Bool) → (l && y) ≡ false → (if not l then two else if not y then two else calls) ≡ two
+      either : (l y : Bool) → (l && y) ≡ false → (whether not l then two else whether not y then two else calls) ≡ two
       either false y f = refl
       either true false f = refl
       either true true f = absurd (true≢false f)
@@ -58,7 +58,7 @@ module _ {A : Type 0} (s t z y l : Bool) (one ten two opens calls : A) where
   pub tree-calls : s ≡ false → t ≡ false → z ≡ false → (l && y) ≡ true → tree s t z y l one ten two opens calls ≡ calls
   tree-calls h g e f = rw (h, g, e) (both l y f)
     where
-      both : (l y : Bool) → (l && y) ≡ true → (if not l then two else if not y then two else calls) ≡ calls
+      both : (l y : Bool) → (l && y) ≡ true → (whether not l then two else whether not y then two else calls) ≡ calls
       both true true f = refl
       both true false f = absurd (true≢false (sym f))
       both false y f = absurd (true≢false (sym f))

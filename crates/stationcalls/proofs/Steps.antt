@@ -7,7 +7,7 @@ use native.Mathlib.Omega.{arith}
 use borrow.Author.Tests.{eqb-true, eqb-false, eq-eqb, leb-true}
 use lib.Dec.{eqb, leb}
 use lib.ListN.{length, drop, set}
-use Rattle.definition.specs.Base.{if◌then◌else◌, all, up_from}
+use Rattle.definition.specs.Base.{whether◌then◌else◌, all, up_from}
 use Rattle.definition.specs.Types.{Entry, Dest}
 use Rattle.definition.specs.Calls.{Call, enqueuing, arguments_ok}
 use Rattle.definition.specs.Words.{at, entry_in, provided, ranged_call, read, decode}
@@ -68,7 +68,7 @@ words_are (a ∷ b ∷ c ∷ d ∷ f ∷ g ∷ h ∷ []) e = absurd (omega (arit
 words_are (a ∷ b ∷ c ∷ d ∷ f ∷ g ∷ h ∷ i ∷ []) e = refl
 words_are (a ∷ b ∷ c ∷ d ∷ f ∷ g ∷ h ∷ i ∷ j ∷ l) e = absurd (omega (arith, e))
 
-pub carried-words : (next n : ℕ) (ws : List ℕ) → n ≡ (if eqb (at 0 ws) 0 then next else 0) → length ws ≡ 8 → n ∷ at 1 ws ∷ at 2 ws ∷ at 3 ws ∷ at 4 ws ∷ at 5 ws ∷ at 6 ws ∷ at 7 ws ∷ [] ≡ carried_words next ws
+pub carried-words : (next n : ℕ) (ws : List ℕ) → n ≡ (whether eqb (at 0 ws) 0 then next else 0) → length ws ≡ 8 → n ∷ at 1 ws ∷ at 2 ws ∷ at 3 ws ∷ at 4 ws ∷ at 5 ws ∷ at 6 ws ∷ at 7 ws ∷ [] ≡ carried_words next ws
 carried-words next n ws e l = ap (λ (w : List ℕ). n ∷ w) (sym (words_are ws l)) ∙ ap (λ (m : ℕ). m ∷ drop 1 ws) e
 
 module _ (heads : List ℕ) (subs rows : List Row) (own : List ℕ) (events : List Row) (k code : ℕ) (ws : List ℕ) (a : AskedAt (lent_all heads subs rows own) k code (length events))

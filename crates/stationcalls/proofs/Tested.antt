@@ -6,7 +6,7 @@ use mathlib.Core.Option.{none, some}
 use Prim.Native.Nat.{ℕ, ◌^◌}
 use borrow.Author.Tests.{eqb-true}
 use lib.Dec.{leb, ltb, eqb}
-use Rattle.definition.specs.Base.{if◌then◌else◌, all, up_from}
+use Rattle.definition.specs.Base.{whether◌then◌else◌, all, up_from}
 use Rattle.definition.specs.Calls.{sound}
 use Rattle.definition.specs.Words.{at}
 use Rattle.definition.specs.Layout.{is_mark, view, formed, sound_buffers}
@@ -27,7 +27,7 @@ four true true false true = refl
 four true true true false = refl
 four true true true true = refl
 
-one_place : (x : StationSlot) (o m f : Bool) → ((m && (not o || f)) && slot_sound (if o then some x else none)) ≡ ((m && (not o || leb x.name 8)) && (not o || (f && sound x.dest)))
+one_place : (x : StationSlot) (o m f : Bool) → ((m && (not o || f)) && slot_sound (whether o then some x else none)) ≡ ((m && (not o || leb x.name 8)) && (not o || (f && sound x.dest)))
 one_place x true m f = four m f (sound x.dest) (leb x.name 8)
 one_place x false m f = refl
 

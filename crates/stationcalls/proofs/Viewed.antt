@@ -9,7 +9,7 @@ use borrow.Author.Tests.{eqb-true, eqb-false}
 use lib.Dec.{eqb}
 use lib.ListN.{get_or, set, length-set, get_or-eq_default}
 use lib.Seq.{get_or-set_same, get_or-set_other, ext_get_or}
-use Rattle.definition.specs.Base.{if◌then◌else◌, up_from}
+use Rattle.definition.specs.Base.{whether◌then◌else◌, up_from}
 use Rattle.definition.specs.Types.{Dest}
 use Rattle.definition.specs.Words.{at}
 use Rattle.definition.specs.Layout.{Row, Buffers, flag, view}
@@ -49,7 +49,7 @@ module _ (k : ℕ) (heads heads' : List ℕ) (subs subs' rows rows' : List Row) 
 
   slot_same : (j : ℕ) → part j b' ≡ part j b → slot_at b' j ≡ slot_at b j
   unfolding slot_at
-  slot_same j e = ap (λ (p : Buffers). if◌then◌else◌ {A = Option StationSlot} (flag (at j own)) (some (record { dest = view p; name = at (name_word j) own })) none) e
+  slot_same j e = ap (λ (p : Buffers). whether◌then◌else◌ {A = Option StationSlot} (flag (at j own)) (some (record { dest = view p; name = at (name_word j) own })) none) e
 
   -- one part of each buffer is changed: the view is the old one with that destination replaced
   pub view-put : (lost : ℕ) (t : Dest) → k < 8 → is_open k b ≡ true → view (part k b') ≡ t → ((j : ℕ) → j < 8 → (j ≡ k → ⊥) → part j b' ≡ part j b)

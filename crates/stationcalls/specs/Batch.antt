@@ -1,6 +1,6 @@
 -- Many calls on one lent station, one after another. Assumes nothing.
 use Rattle.std.specs.Prelude.{◌≡◌, Bool, true, not, ◌&&◌, List, [], ◌∷◌, ◌++◌, map, ℕ, zero, suc, ◌-◌, ◌/◌, ◌%◌, ◌<◌, eqb, length, take, drop}
-use Rattle.definition.specs.Base.{if◌then◌else◌, all}
+use Rattle.definition.specs.Base.{whether◌then◌else◌, all}
 use Rattle.definition.specs.Words.{at}
 use Rattle.definition.specs.Layout.{Row}
 use Rattle.engine.specs.declared.batch.Done.{Done}
@@ -25,7 +25,7 @@ listed_step l w s = station_step l (listed_place w) (listed_code w) (eight_words
 -- the own words after it, as `StationCalled` has them
 abbrev pub own_listed : Row → StationResult → List ℕ → List ℕ
 own_listed w r own =
-    if eqb r.refusal 0 then (if eqb (listed_code w) 0 then own_opened (listed_place w) (eight_words w) own else own_called r.station own)
+    whether eqb r.refusal 0 then (whether eqb (listed_code w) 0 then own_opened (listed_place w) (eight_words w) own else own_called r.station own)
     else own
 
 -- it is no open of this destination
@@ -62,11 +62,11 @@ station_batch l places [] s own = station_undone s own
 station_batch l zero (w ∷ ws) s own = station_undone s own
 station_batch l (suc n) (w ∷ ws) s own =
     let r = listed_step l w s in
-    if station_short l then station_undone s own else station_followed r (station_batch (fewer_events (length r.events) l) n ws r.station (own_listed w r own))
+    whether station_short l then station_undone s own else station_followed r (station_batch (fewer_events (length r.events) l) n ws r.station (own_listed w r own))
 
 -- on lent buffers: where they are not sound, none
 unfoldable pub buffer_station_batch : StationBuffers → ℕ → ℕ → List Row → StationBatch
-buffer_station_batch b events places ws = if sound_station b then station_batch (station_lengths_of b events) places ws (station_view b) b.own else station_undone (station_view b) b.own
+buffer_station_batch b events places ws = whether sound_station b then station_batch (station_lengths_of b events) places ws (station_view b) b.own else station_undone (station_view b) b.own
 
 -- outcomes, events, station and own words are q's, and what stands past them is as it was; a sound station stays sound, and where every call was refused the
 -- buffers are as they were. A destination that is not opened among the calls and shows what it showed has its part word for word as it

@@ -1,6 +1,6 @@
 -- Dead letters on lent buffers: storing one, and running some, while the station's other numbers stand still. Assumes nothing.
 use Rattle.std.specs.Prelude.{◌≡◌, Bool, true, false, List, [], ◌∷◌, ◌++◌, map, ℕ, ◌+◌, ◌*◌, ◌%◌, ◌≤◌, ◌<◌, ◌^◌, ltb, length, take, drop}
-use Rattle.definition.specs.Base.{if◌then◌else◌, is_some}
+use Rattle.definition.specs.Base.{whether◌then◌else◌, is_some}
 use Rattle.definition.specs.Types.{Entry}
 use Rattle.definition.specs.Words.{at, entry_in, decode}
 use Rattle.definition.specs.Layout.{Row, view, sound_buffers}
@@ -16,7 +16,7 @@ with_lost n s = record { slots = s.slots; next = s.next; lost = n }
 
 -- "the lost count stops at 2^63−1"
 abbrev pub one_more_lost : ℕ → ℕ
-one_more_lost n = if ltb (n + 1) (2 ^ 63) then n + 1 else n
+one_more_lost n = whether ltb (n + 1) (2 ^ 63) then n + 1 else n
 
 -- an event's words with its destination's number; its kind is below 256
 abbrev pub named : ℕ → Row → Row

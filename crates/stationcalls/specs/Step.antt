@@ -1,6 +1,6 @@
 -- What stands before an open destination is called, and the words that it gets. Assumes nothing.
 use Rattle.std.specs.Prelude.{ℕ, ◌<◌, ◌≡◌, Bool, true, false, not, ◌&&◌, ◌||◌, List, ◌∷◌, ltb, eqb, drop}
-use Rattle.definition.specs.Base.{if◌then◌else◌, all, up_from}
+use Rattle.definition.specs.Base.{whether◌then◌else◌, all, up_from}
 use Rattle.definition.specs.Words.{at}
 use Rattle.definition.specs.Layout.{flag}
 use Rattle.definition_station.specs.Types.{Station}
@@ -29,17 +29,17 @@ pub record Unstopped (b : StationBuffers) (k code events : ℕ) : Type 0 where
 
 -- a direct enqueue's words as its destination gets them: the next number. One that carries a number gets 0, which is no sequence number
 abbrev pub carried_words : ℕ → List ℕ → List ℕ
-carried_words next ws = (if eqb (at 0 ws) 0 then next else 0) ∷ drop 1 ws
+carried_words next ws = (whether eqb (at 0 ws) 0 then next else 0) ∷ drop 1 ws
 
 -- the words of any call as its destination gets them
 abbrev pub given_words : ℕ → List ℕ → Station → List ℕ
-given_words code ws s = if eqb code 1 then carried_words s.next ws else ws
+given_words code ws s = whether eqb code 1 then carried_words s.next ws else ws
 
 -- why a call without a code is refused before its destination is asked, 0 where it is not: of soundness the called destination apart
 unfoldable pub barred_as : StationBuffers → ℕ → ℕ → ℕ
 barred_as b events k =
-    if station_short (station_lengths_of b events) then 1
-    else if ltb 7 k || not (flag (at k b.own)) then 10
-    else if not (own_words_ok b.own) then 2
-    else if not (all (other_ok b k) (up_from 0 8)) then 2
+    whether station_short (station_lengths_of b events) then 1
+    else whether ltb 7 k || not (flag (at k b.own)) then 10
+    else whether not (own_words_ok b.own) then 2
+    else whether not (all (other_ok b k) (up_from 0 8)) then 2
     else 0

@@ -1,6 +1,6 @@
 -- What a call tells of its dead letters, in a lent list. Assumes nothing.
 use Rattle.std.specs.Prelude.{◌≡◌, List, ◌++◌, map, ℕ, eqb, length, take, drop}
-use Rattle.definition.specs.Base.{if◌then◌else◌}
+use Rattle.definition.specs.Base.{whether◌then◌else◌}
 use Rattle.definition.specs.Layout.{Row}
 use Rattle.definition_station.specs.Types.{Station}
 use Rattle.definition_station.specs.Station.{StationResult}
@@ -18,8 +18,8 @@ told_over rows told = take (length told) rows ++ drop (length rows) told
 
 -- of an accepted call, as far as the list goes, and how many there are; a refused one tells none, and the list is as it was
 pub record StationTells (q : StationResult) (rows told told' : List Row) (letters : ℕ) : Type 0 where
-  pub tells : told' ≡ (if eqb q.refusal 0 then told_over rows told else told)
-  pub many : letters ≡ (if eqb q.refusal 0 then length rows else 0)
+  pub tells : told' ≡ (whether eqb q.refusal 0 then told_over rows told else told)
+  pub many : letters ≡ (whether eqb q.refusal 0 then length rows else 0)
 
 -- an outcome without dead letters
 abbrev pub told_quiet : Outcome → ToldOutcome

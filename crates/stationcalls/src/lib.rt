@@ -3,7 +3,7 @@
 #![tactic(auto)]
 
 ghost use Rattle.std.specs.Prelude.{◌≡◌, not, ◌&&◌, ◌||◌, true, false, List, [], ◌≤◌, ◌<◌, ℕ, ltb, eqb, length};
-ghost use Rattle.definition.specs.Base.{if◌then◌else◌, all, up_from};
+ghost use Rattle.definition.specs.Base.{whether◌then◌else◌, all, up_from};
 ghost use Rattle.definition.specs.Words.{at, decode};
 ghost use Rattle.definition.specs.Layout.{flag, buffer_step};
 ghost use Rattle.definition_station.specs.Station.{station_short, station_start, opening_words, station_events};
@@ -212,7 +212,7 @@ fn sized(w: [u64; 8])
 
 // The number of a direct enqueue: the next one; of one that carries a number 0, which is none.
 fn number_of(carried: u64, next: u64) -> u64
-    ensures { result ≡ (if eqb carried 0 then next else 0) }
+    ensures { result ≡ (whether eqb carried 0 then next else 0) }
 {
     if carried == 0 {
         return next;

@@ -1,7 +1,7 @@
 -- The lines that a run of a station prints, as bytes: an event's line and that of the counters have their destination's number behind the letter, and one
 -- line is the station's own. Assumes nothing.
 use Rattle.std.specs.Prelude.{ℕ, ◌/◌, ◌%◌, List, [], ◌∷◌, ◌++◌, ltb, drop}
-use Rattle.definition.specs.Base.{if◌then◌else◌}
+use Rattle.definition.specs.Base.{whether◌then◌else◌}
 use Rattle.definition.specs.Types.{Stats}
 use Rattle.definition.specs.Words.{at}
 use Rattle.definition.specs.Layout.{Row}
@@ -18,7 +18,7 @@ plain_words ws = (at 0 ws % 256) ∷ drop 1 ws
 
 -- the line of an event in its six words: `x` D sequence redelivery cause, `d` D ID sequence redelivery, `n` D ID; words of another kind have none, nor have those with a number above 7
 unfoldable pub sent_words_line : List ℕ → List ℕ
-sent_words_line ws = if ltb (at 0 ws) 2048 then numbered_line (at 0 ws / 256) (words_line (plain_words ws)) else []
+sent_words_line ws = whether ltb (at 0 ws) 2048 then numbered_line (at 0 ws / 256) (words_line (plain_words ws)) else []
 
 -- a row's line for each, one after another
 unfoldable pub row_lines : (List ℕ → List ℕ) → List (List ℕ) → List ℕ

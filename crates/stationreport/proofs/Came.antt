@@ -9,7 +9,7 @@ use borrow.Author.Tests.{eq-eqb, ne_eqb}
 use lib.Dec.{eqb}
 use lib.ListN.{length, take, get_or, length-append}
 use lib.Seq.{sets, slice}
-use Rattle.definition.specs.Base.{if◌then◌else◌, keep}
+use Rattle.definition.specs.Base.{whether◌then◌else◌, keep}
 use Rattle.definition.specs.Words.{at}
 use Rattle.definition.specs.Layout.{Row}
 use Rattle.definition.proofs.Reorder.{keep-yes, keep-no}
@@ -41,7 +41,7 @@ module _ (j number code : ℕ) (ws : List ℕ) where
   -- its own, and then letters
   pub came-then : (told : List Row) → came_to j number code ws told ≡ came_to j number code ws [] ++ stored_to j told
   unfolding came_to
-  came-then told = ap (λ (l : List Block). l ++ stored_to j told) (sym (append-nil (if eqb number j then comes code ws else [])))
+  came-then told = ap (λ (l : List Block). l ++ stored_to j told) (sym (append-nil (whether eqb number j then comes code ws else [])))
 
   pub came-listed : (told : List Row) (n : ℕ) {list list₁ list₂ : List Block} {k₀ k : ℕ} → ListedFirst (came_to j number code ws []) 1 list k₀ list₁ → n + 1 ≤ length list → k ≤ k₀ + n
       → k ≡ k₀ + length (stored_to j (take n told)) → list₂ ≡ sets list₁ k₀ (stored_to j (take n told)) → ListedFirst (came_to j number code ws (take n told)) (n + 1) list k list₂

@@ -9,7 +9,7 @@ use borrow.Author.Tests.{le-ltb, not-true}
 use lib.Dec.{eqb}
 use lib.ListN.{length, take, length-take}
 use lib.Seq.{sets}
-use Rattle.definition.specs.Base.{if◌then◌else◌, keep}
+use Rattle.definition.specs.Base.{whether◌then◌else◌, keep}
 use Rattle.definition.specs.Words.{at}
 use Rattle.definition.specs.Layout.{Row}
 use Rattle.definition.proofs.Tests.{if-true, if-false, and_left, and_right}
@@ -107,7 +107,7 @@ module _ (j : ℕ) (c : Call) (s : LentStation) where
   unfolding came_to
   came-are told e =
       let letters = told_letters (file_place c) (file_code c) c.words s.station in
-      ap (λ (l : List Block). (if eqb (file_place c) j then comes (file_code c) (words_got c s) else []) ++ l)
+      ap (λ (l : List Block). (whether eqb (file_place c) j then comes (file_code c) (words_got c s) else []) ++ l)
       (ap (λ (l : List Row). map stored_row (keep (λ t. eqb (at 2 t) j) l)) e
       ∙ ap (map stored_row) (keep-map told_row (λ t. eqb (at 2 t) j) letters)
       ∙ map-map stored_row told_row (keep (is_at j) letters))

@@ -7,7 +7,7 @@ use mathlib.Core.List.{List, [], ◌∷◌, map}
 use borrow.Author.Tests.{eq-eqb, ne_eqb}
 use lib.Dec.{eqb}
 use lib.ListN.{length, take, drop}
-use Rattle.definition.specs.Base.{if◌then◌else◌}
+use Rattle.definition.specs.Base.{whether◌then◌else◌}
 use Rattle.definition.specs.Words.{at}
 use Rattle.definition.specs.Layout.{Row}
 use Rattle.definition.proofs.Tests.{by-test, if-true, if-false}
@@ -81,7 +81,7 @@ module _ (c : Call) (q : StationResult) (s : LentStation) (w : is_work c q ≡ f
 -- ---- a call
 
 -- the words that its destination gets
-pub got-words : (c : Call) (b : StationBuffers) (events : List Row) {ws : List ℕ} → ws ≡ (if eqb (file_code c) 1 then at 16 b.own ∷ drop 1 c.words else c.words) → ws ≡ words_got c (station_by b events)
+pub got-words : (c : Call) (b : StationBuffers) (events : List Row) {ws : List ℕ} → ws ≡ (whether eqb (file_code c) 1 then at 16 b.own ∷ drop 1 c.words else c.words) → ws ≡ words_got c (station_by b events)
 unfolding station_view
 got-words c b events e = e
 

@@ -10,7 +10,7 @@ use borrow.Author.Tests.{eqb-false, le-ltb, lt-leb}
 use lib.Dec.{eqb}
 use lib.ListN.{length, take, drop, get_or}
 use lib.Seq.{slice-cons, take-append_seam}
-use Rattle.definition.specs.Base.{if◌then◌else◌}
+use Rattle.definition.specs.Base.{whether◌then◌else◌}
 use Rattle.definition.specs.Calls.{Lengths, state_short, sound}
 use Rattle.definition.specs.Words.{at}
 use Rattle.definition.specs.Layout.{Row, Buffers, flag, is_mark, view, formed, sound_buffers, lengths_of, lent}
@@ -47,7 +47,7 @@ module _ (b : StationBuffers) (k : ℕ) where
 -- ---- what it holds
 
 -- a mark that is not 1 shows nothing
-unmarked : (n : ℕ) → (n ≡ 1 → ⊥) → (p : Bool) (x : StationSlot) → place_held (is_mark n && p) (if flag n then some x else none) ≡ []
+unmarked : (n : ℕ) → (n ≡ 1 → ⊥) → (p : Bool) (x : StationSlot) → place_held (is_mark n && p) (whether flag n then some x else none) ≡ []
 unfolding place_held
 unmarked n ne p x = by-test (eqb n 0)
     (λ z. rw z)
@@ -66,7 +66,7 @@ module _ (b : StationBuffers) (k : ℕ) (events : List Row) where
     unfolding part_formed slot_at
     holds-none ne = holds-here ∙ unmarked (at k b.own) ne _ _
 
-    pub holds-sound : at k b.own ≡ 1 → holds_at k (station_by b events) ≡ (if sound_buffers (part k b) then account_of (view (part k b)) else [])
+    pub holds-sound : at k b.own ≡ 1 → holds_at k (station_by b events) ≡ (whether sound_buffers (part k b) then account_of (view (part k b)) else [])
     unfolding place_held part_formed slot_at sound_buffers
     holds-sound e = holds-here ∙ rw e
 
@@ -83,7 +83,7 @@ pub listed-long : {l list list' : List Block} {most r : ℕ} → ListedFirst l m
 listed-long {l} {list} e h = ap length e.first ∙ as_long l list (omega (arith, e.count, e.few, h))
 
 abbrev soundly : Buffers → List Block
-soundly p = if sound_buffers p then account_of (view p) else []
+soundly p = whether sound_buffers p then account_of (view p) else []
 
 soundly-few : (p : Buffers) → length (soundly p) ≤ 512
 unfolding sound_buffers

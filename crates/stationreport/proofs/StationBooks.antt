@@ -10,7 +10,7 @@ use borrow.Author.Tests.{eqb-true, eqb-false, eq-eqb}
 use lib.Dec.{ltb, eqb}
 use lib.ListN.{length, get_or, set, replicate, get_or-replicate}
 use Rattle.stats.specs.Counted.{more}
-use Rattle.definition.specs.Base.{if◌then◌else◌, every, find, is_some}
+use Rattle.definition.specs.Base.{whether◌then◌else◌, every, find, is_some}
 use Rattle.definition.specs.Types.{queue}
 use Rattle.definition.specs.Queries.{is_queue}
 use Rattle.definition.specs.Words.{at, kind_of, read, decode}
@@ -168,7 +168,7 @@ module _ (j : ℕ) (c : Call) (r : StationResult) (s : StationNoting) (t : taken
   more-gone e o l g =
       gone_at
       ∙ ap gone_row (counted (anew_at j c) (left_at j c r s.lent) l (gone_by_words (get_or s.gone j [])) (ap gone_by_words g))
-      ∙ ap (λ (v : Bool). gone_row (gone_to ((if v then [] else l) ++ left_at j c r s.lent))) (ap₂ ◌||◌ e o)
+      ∙ ap (λ (v : Bool). gone_row (gone_to ((whether v then [] else l) ++ left_at j c r s.lent))) (ap₂ ◌||◌ e o)
 
 -- ---- a call
 

@@ -1,7 +1,7 @@
 -- What the functions of a report leave, as the code goes: blocks gathered before a call, those that came, those that left, and the counts. Assumes nothing.
 use Rattle.std.specs.Prelude.{ℕ, ◌+◌, ◌*◌, ◌≤◌, ◌<◌, ◌≡◌, Bool, true, false, ◌||◌, List, [], ◌∷◌, ◌++◌, map, eqb, length, take}
 use Rattle.std.proofs.Math.Seq.{slice}
-use Rattle.definition.specs.Base.{if◌then◌else◌, keep}
+use Rattle.definition.specs.Base.{whether◌then◌else◌, keep}
 use Rattle.definition.specs.Words.{at}
 use Rattle.definition.specs.Layout.{Row}
 use Rattle.fates.specs.Blocks.{Block, comes}
@@ -23,7 +23,7 @@ pub record ListedFirst (l : List Block) (most : ℕ) (list : List Block) (r : �
 
 -- what the buffers of a place hold, by their counts
 unfoldable pub part_blocks : StationBuffers → ℕ → List Block
-part_blocks b k = if is_open k b then blocks_in (part k b) 512 else []
+part_blocks b k = whether is_open k b then blocks_in (part k b) 512 else []
 
 -- of each place, in a list with 512 places for each: no place has more
 pub record FewHeld (lists : List Block) (counts : List ℕ) : Type 0 where
@@ -40,7 +40,7 @@ abbrev pub stored_row : Row → Block
 stored_row t = at 1 t ∷ 0 ∷ 1 ∷ []
 
 unfoldable pub came_to : ℕ → ℕ → ℕ → List ℕ → List Row → List Block
-came_to j k code ws told = (if eqb k j then comes code ws else []) ++ map stored_row (keep (λ t. eqb (at 2 t) j) told)
+came_to j k code ws told = (whether eqb k j then comes code ws else []) ++ map stored_row (keep (λ t. eqb (at 2 t) j) told)
 
 -- what left a place, by the buffers after the call
 unfoldable pub part_gone : ℕ → ℕ → List ℕ → StationBuffers → List Block → List Block → List Block
@@ -69,10 +69,10 @@ abbrev pub begins_anew : ℕ → Bool
 begins_anew code = eqb code 16 || eqb code 0
 
 abbrev pub rest_text : ℕ → (ℕ → List Block) → List ℕ
-rest_text code left = if begins_anew code then [] else left_text left
+rest_text code left = whether begins_anew code then [] else left_text left
 
 abbrev pub rest_counts : ℕ → ℕ → (ℕ → List Block) → List Row → List Row
-rest_counts code k left gone = if begins_anew code then counts_anew k (eqb code 16) 0 gone else counts_by left 0 gone
+rest_counts code k left gone = whether begins_anew code then counts_anew k (eqb code 16) 0 gone else counts_by left 0 gone
 
 -- after a call with its dead letters told: the answer; their rows stand first in a list of 512; and an accepted call that is neither an open nor a start finds and leaves a sound station
 pub record CallAndTold (q : StationResult) (c : Call) (b b' : StationBuffers) (events events' told' : List Row) (r : ToldOutcome) : Type 0 where

@@ -1,7 +1,7 @@
 -- What a whole report of a station's call file prints, from the file's bytes; and what the library's functions do along the pieces of one. Assumes nothing.
 use Rattle.std.specs.Prelude.{ℕ, ◌≡◌, Bool, false, not, ◌&&◌, List, [], ◌++◌, eqb, length, get_or, replicate}
 use Rattle.std.proofs.Math.Option.{Option, none, some}
-use Rattle.definition.specs.Base.{if◌then◌else◌}
+use Rattle.definition.specs.Base.{whether◌then◌else◌}
 use Rattle.definition.specs.Layout.{Row}
 use Rattle.fates.specs.Blocks.{Block}
 use Rattle.definition_station.specs.Types.{StationSlot, slot_of}
@@ -68,7 +68,7 @@ ReportTakesStep at piece from b b' events events' gone gone' block block' out ou
 
 -- the line of a block that is not whole, and the last ones; none where the buffers are short
 unfoldable pub last_station_report : StationLengths → Reading → Bool → StationNoting → List ℕ
-last_station_report l at failed s = if station_short l then [] else rest_line at failed ++ station_report_tail s
+last_station_report l at failed s = whether station_short l then [] else rest_line at failed ++ station_report_tail s
 
 -- ---- along pieces
 

@@ -1,7 +1,7 @@
 -- What a report of a station's call file prints, a call at a time, and what it keeps between two calls. Assumes nothing.
 use Rattle.std.specs.Prelude.{ℕ, zero, suc, ◌≡◌, Bool, false, not, ◌&&◌, ◌||◌, List, [], ◌∷◌, ◌++◌, map, eqb, get_or}
 use Rattle.std.proofs.Math.Option.{Option, none, some}
-use Rattle.definition.specs.Base.{if◌then◌else◌, member}
+use Rattle.definition.specs.Base.{whether◌then◌else◌, member}
 use Rattle.definition.specs.Calls.{sound}
 use Rattle.definition.specs.Queries.{is_queue}
 use Rattle.definition.specs.Words.{at}
@@ -37,7 +37,7 @@ each_place f j (g ∷ gs) = f j g ∷ each_place f (suc j) gs
 -- what a place holds: nothing where it is not open, or is no sound destination
 unfoldable pub place_held : Bool → Option StationSlot → List Block
 place_held fits none = []
-place_held fits (some x) = if fits && sound x.dest then account_of x.dest else []
+place_held fits (some x) = whether fits && sound x.dest then account_of x.dest else []
 
 abbrev pub holds_at : ℕ → LentStation → List Block
 holds_at j s = place_held (get_or s.fits j false) (slot_of j s.station)
@@ -69,7 +69,7 @@ words_got c s = carried (file_code c) c.words s.station
 
 -- what became of its dead letters
 unfoldable pub told_in : Call → StationResult → LentStation → List Row
-told_in c r s = if is_work c r then told_rows (file_place c) (file_code c) c.words s.station else []
+told_in c r s = whether is_work c r then told_rows (file_place c) (file_code c) c.words s.station else []
 
 -- what left a place in it: of the blocks that it held, and of those that came, those that it does not hold now
 unfoldable pub slot_gone : ℕ → List ℕ → List Block → List Block → Option StationSlot → List Block
@@ -78,7 +78,7 @@ slot_gone code ws bs came (some y) = blocks_gone code ws y.dest bs came
 
 unfoldable pub left_at : ℕ → Call → StationResult → LentStation → List Block
 left_at j c r s =
-    if is_work c r then slot_gone (file_code c) (words_got c s) (holds_at j s) (blocks_came j (file_place c) (file_code c) c.words s.station) (slot_of j r.station)
+    whether is_work c r then slot_gone (file_code c) (words_got c s) (holds_at j s) (blocks_came j (file_place c) (file_code c) c.words s.station) (slot_of j r.station)
     else []
 
 -- the counts after it: an accepted open begins its place's account anew, a start all
@@ -90,13 +90,13 @@ counts_after c r s = each_place (λ j g. gone_row (gone_after (anew_at j c) (lef
 
 -- what it leaves: a refused one everything
 unfoldable pub station_noted : Call → StationResult → StationNoting → StationNoting
-station_noted c r s = record { lent = left_station c r s.lent; gone = if taken_by r then counts_after c r s.lent 0 s.gone else s.gone }
+station_noted c r s = record { lent = left_station c r s.lent; gone = whether taken_by r then counts_after c r s.lent 0 s.gone else s.gone }
 
 -- ---- its lines
 
 -- that of another queue at which letters were stored: what it holds now
 abbrev pub other_line : ℕ → List Row → LentStation → ℕ → List ℕ
-other_line k told u j = if not (eqb j k) && (member j (map (at 2) told) && slot_is_queue (slot_of j u.station)) then ways_line j (ways_of (holds_at j u)) else []
+other_line k told u j = whether not (eqb j k) && (member j (map (at 2) told) && slot_is_queue (slot_of j u.station)) then ways_line j (ways_of (holds_at j u)) else []
 
 -- its own line, the other queues, what it brought, what was sent in six words each, and what became of its dead letters; u is what it left
 unfoldable pub head_text : ℕ → ℕ → ℕ → List ℕ → ℕ → LentStation → List Row → List Row → List ℕ

@@ -4,7 +4,7 @@
 #![tactic(auto)]
 
 ghost use Rattle.std.specs.Prelude.{◌≡◌, true, false, ◌&&◌, [], ◌∷◌, ◌+◌, ◌≤◌, eqb, leb, length, get_or, take, drop};
-ghost use Rattle.definition.specs.Base.{if◌then◌else◌};
+ghost use Rattle.definition.specs.Base.{whether◌then◌else◌};
 ghost use Rattle.definition_station.specs.Station.{station_short};
 ghost use Rattle.definition_station.specs.Layout.{station_lengths_of, sound_station};
 ghost use Rattle.callfile.specs.Placed.{Puts, PutLine};
@@ -38,7 +38,7 @@ pub const LAST: usize = 528640;
 
 // The words of a call as its destination gets them: an enqueue has the number that is next.
 fn words_got(code: u64, words: [u64; 8], next: u64) -> [u64; 8]
-    ensures { result ≡ (if eqb code 1 then next ∷ drop 1 words else words) }
+    ensures { result ≡ (whether eqb code 1 then next ∷ drop 1 words else words) }
 {
     if code != Call::ENQUEUE {
         return words;

@@ -9,7 +9,7 @@ use borrow.Author.Tests.{eqb-true, leb-true, leb-false, ltb-true, ltb-false, eq-
 use lib.Dec.{eqb, ltb, leb}
 use lib.ListN.{length, take, drop, length-take, length-drop, drop_of_length-le}
 use lib.Seq.{length-take-le, take_all}
-use Rattle.definition.specs.Base.{if◌then◌else◌}
+use Rattle.definition.specs.Base.{whether◌then◌else◌}
 use Rattle.definition.proofs.Tests.{by-if, by-test, if-true, if-false, and_left, and_right}
 use Rattle.stats.specs.Counted.{more}
 use Rattle.calls.specs.declared.Call.{Call}
@@ -289,11 +289,11 @@ module _ {S : Type 0} (one : Doing S) (most : ℕ) (fit : Bool) (at : StationRea
 
 -- the calls that a whole block can still have
 abbrev calls-ahead : ℕ → ℕ → ℕ
-calls-ahead have run = if eqb have 512 then 7 - run else 0
+calls-ahead have run = whether eqb have 512 then 7 - run else 0
 
 -- what falls with each step, with so many bytes left
 abbrev pub ahead : StationReading → ℕ → ℕ
-ahead at left = if at.reading.goes_on then 1 + (8 * left + calls-ahead at.reading.have at.run) else 0
+ahead at left = whether at.reading.goes_on then 1 + (8 * left + calls-ahead at.reading.have at.run) else 0
 
 seven-ahead : (have run : ℕ) → calls-ahead have run ≤ 7
 seven-ahead have run = by-if (λ (k : ℕ). k ≤ 7) (eqb have 512) (7 - run) 0 (λ _. omega arith) (λ _. omega arith)
@@ -359,7 +359,7 @@ module _ {S : Type 0} (one : Doing S) (at : StationReading) (piece : List ℕ) (
 
       call-falls : Falls true (next_call one at.run g₁)
       unfolding next_call
-      call-falls = by-if (Falls true) (leb count at.run) (no_call (bad_line at.reading.number) 0 (block_over false g₁) 0) (if ltb (at.run + 1) count then did_call t (call_done t g₁) (at.run + 1) else did_call t (block_over true (call_done t g₁)) 0)
+      call-falls = by-if (Falls true) (leb count at.run) (no_call (bad_line at.reading.number) 0 (block_over false g₁) 0) (whether ltb (at.run + 1) count then did_call t (call_done t g₁) (at.run + 1) else did_call t (block_over true (call_done t g₁)) 0)
           (λ _. ends-here true (no_call (bad_line at.reading.number) 0 (block_over false g₁) 0) refl)
           (λ e. by-if (Falls true) (ltb (at.run + 1) count) (did_call t (call_done t g₁) (at.run + 1)) (did_call t (block_over true (call_done t g₁)) 0) same-falls (λ _. last-falls e))
 

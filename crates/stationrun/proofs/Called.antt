@@ -10,7 +10,7 @@ use borrow.Author.Tests.{eqb-true, eqb-false, eq-eqb, ne_eqb, ltb-true, ltb-fals
 use lib.Dec.{eqb, ltb}
 use lib.ListN.{length, set, take, drop, get_or, replicate, length-set, length-map, length-take, length-append, take-append-drop}
 use lib.Seq.{get_or-set_same, get_or-set_other, ext_get_or, take-append_seam}
-use Rattle.definition.specs.Base.{if◌then◌else◌, all, every, up_from}
+use Rattle.definition.specs.Base.{whether◌then◌else◌, all, every, up_from}
 use Rattle.definition.specs.Calls.{sound}
 use Rattle.definition.specs.Words.{at}
 use Rattle.definition.specs.Layout.{Row, Buffers, flag, is_mark, view, formed, sound_buffers}
@@ -161,14 +161,14 @@ module _ (c : Call) (b b' : StationBuffers) (events events' : List Row) (o : Out
     abbrev x : StationResult
     x = buffer_station_step b (length events) (file_place c) (file_code c) c.words
 
-    fits-so : map (part_formed b') eight ≡ (if taken_by x then fits_after c (map (part_formed b) eight) else map (part_formed b) eight)
+    fits-so : map (part_formed b') eight ≡ (whether taken_by x then fits_after c (map (part_formed b) eight) else map (part_formed b) eight)
     fits-so = by-test (taken_by x)
         (λ z. let y = eqb-true x.refusal 0 z in by-test (eqb (file_code c) 0)
         (λ e. open-fits b b' events events' (file_place c) (file_code c) c.words o.refusal o.answer o.events t y (eqb-true (file_code c) 0 e) ∙ sym (if-true _ _ z ∙ if-true _ _ e))
         (λ e. call_fits b b' events events' (file_place c) (file_code c) c.words o.refusal o.answer o.events t y (above (file_code c) e) ∙ sym (if-true _ _ z ∙ if-false _ _ e)))
         (λ z. ap (λ (w : StationBuffers). map (part_formed w) eight) (t.kept (eqb-false x.refusal 0 z)).0 ∙ sym (if-false _ _ z))
 
-    own-so : b'.own ≡ (if taken_by x then own_words_after c x b.own else b.own)
+    own-so : b'.own ≡ (whether taken_by x then own_words_after c x b.own else b.own)
     own-so = by-test (taken_by x)
         (λ z. let y = eqb-true x.refusal 0 z in by-test (eqb (file_code c) 0)
         (λ e. t.own-opened y (eqb-true (file_code c) 0 e) ∙ sym (if-true _ _ z ∙ if-false _ _ (ne_eqb (file_code c) 16 not_start) ∙ if-true _ _ e))

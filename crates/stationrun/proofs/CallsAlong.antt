@@ -8,7 +8,7 @@ use borrow.Author.Tests.{ltb-true, ltb-false, leb-true, leb-false, lt-leb, lt-lt
 use lib.Dec.{ltb, leb}
 use lib.ListN.{length, take, drop, length-append, length-take, length-drop}
 use lib.Seq.{length-take-le, take-append_seam}
-use Rattle.definition.specs.Base.{if◌then◌else◌}
+use Rattle.definition.specs.Base.{whether◌then◌else◌}
 use Rattle.definition.proofs.Tests.{by-test, by-if, if-true, if-false}
 use Rattle.stats.specs.Counted.{more}
 use Rattle.callfile.specs.declared.Reading.{Reading}
@@ -30,7 +30,7 @@ module _ {S : Type 0} (one : Doing S) where
   unfoldable pub calls_from : ℕ → List ℕ → ℕ → ℕ → S → Run S
   calls_from run block index number s =
       let count = calls_in block (length block) in
-      if leb count run then ends (bad_line number) index s else each_call one (block_calls run (count - run) block) index s
+      whether leb count run then ends (bad_line number) index s else each_call one (block_calls run (count - run) block) index s
 
   -- then the other blocks
   abbrev before : Run S → ℕ → List ℕ → Did (RunState S)
@@ -39,7 +39,7 @@ module _ {S : Type 0} (one : Doing S) where
   -- what is to come, with these bytes
   unfoldable pub from_call : ℕ → Stage (RunState S) → List ℕ → Did (RunState S)
   from_call run g later =
-      if g.goes_on then (if ltb (length g.begun) 512 then from_stage work g later else before (calls_from run g.begun g.state.index g.number g.state.lent) g.number later)
+      whether g.goes_on then (whether ltb (length g.begun) 512 then from_stage work g later else before (calls_from run g.begun g.state.index g.number g.state.lent) g.number later)
       else silent false g.state
 
   -- from the first call on, a block
@@ -216,17 +216,17 @@ module _ {S : Type 0} (one : Doing S) where
     unfolding step_file next_call
     stands = by-if (λ (x : CallStep S). Stands x.taken) (ltb (length (take at.have block)) 512) (no_call [] (length new) (block_has (take at.have block ++ new) g₁) 0) (next_call one run g₁)
         (λ _. record { bytes = now-stands; small = omega (arith, length-append (take at.have block) new, had, few) })
-        (λ _. by-if (λ (x : CallStep S). Stands x.taken) (leb (calls_in (take at.have block) (length (take at.have block))) run) (no_call (bad_line at.number) 0 (block_over false g₁) 0) (if ltb (run + 1) (calls_in (take at.have block) (length (take at.have block))) then did_call t₁ (call_done t₁ g₁) (run + 1) else did_call t₁ (block_over true (call_done t₁ g₁)) 0)
+        (λ _. by-if (λ (x : CallStep S). Stands x.taken) (leb (calls_in (take at.have block) (length (take at.have block))) run) (no_call (bad_line at.number) 0 (block_over false g₁) 0) (whether ltb (run + 1) (calls_in (take at.have block) (length (take at.have block))) then did_call t₁ (call_done t₁ g₁) (run + 1) else did_call t₁ (block_over true (call_done t₁ g₁)) 0)
         (λ _. record { bytes = refl; small = omega arith })
         (λ _. by-if (λ (x : CallStep S). Stands x.taken) (ltb (run + 1) (calls_in (take at.have block) (length (take at.have block)))) (did_call t₁ (call_done t₁ g₁) (run + 1)) (did_call t₁ (block_over true (call_done t₁ g₁)) 0)
         (λ _. record { bytes = take-append_seam (take at.have block) (new ++ drop (at.have + length new) block); small = omega (arith, had) })
         (λ _. record { bytes = refl; small = omega arith })))
 
-    pub bytes-stand : (goes : Bool) → take (if goes then length (p goes).stage.begun else at.have) (block' goes) ≡ (p goes).stage.begun
+    pub bytes-stand : (goes : Bool) → take (whether goes then length (p goes).stage.begun else at.have) (block' goes) ≡ (p goes).stage.begun
     unfolding step_file
     bytes-stand false = refl
     bytes-stand true = stands.bytes
 
-    pub bytes-few : (goes : Bool) → (if goes then length (p goes).stage.begun else at.have) ≤ 512
+    pub bytes-few : (goes : Bool) → (whether goes then length (p goes).stage.begun else at.have) ≤ 512
     bytes-few false = filled
     bytes-few true = stands.small

@@ -9,7 +9,7 @@ use mathlib.Core.Option.{Option, none, some}
 use borrow.Author.Tests.{ne_eqb, leb-true, ltb-true, le-leb, lt-leb, not-true}
 use lib.Dec.{leb, ltb}
 use lib.ListN.{length, take, drop, length-append}
-use Rattle.definition.specs.Base.{if◌then◌else◌, all, every, member, up_from}
+use Rattle.definition.specs.Base.{whether◌then◌else◌, all, every, member, up_from}
 use Rattle.definition.specs.Types.{Entry, Dest, Stats}
 use Rattle.definition.specs.Calls.{state_short, seqs, all_rows, entry_ok, signed_within, word, sound, Lengths}
 use Rattle.definition.specs.Words.{at}
@@ -112,7 +112,7 @@ entry-size e h =
 bytes-few : (es : List Entry) → all entry_ok es ≡ true → bytes_of es ≤ 4294967296 * length es
 bytes-few [] h = omega arith
 bytes-few (e ∷ es) h =
-    let one : (if member e.seq (seqs es) then 0 else e.size) ≤ 4294967296 = by-if (λ (n : ℕ). n ≤ 4294967296) (member e.seq (seqs es)) 0 e.size (λ _. omega arith) (λ _. entry-size e (and_left (entry_ok e) (all entry_ok es) h)) in
+    let one : (whether member e.seq (seqs es) then 0 else e.size) ≤ 4294967296 = by-if (λ (n : ℕ). n ≤ 4294967296) (member e.seq (seqs es)) 0 e.size (λ _. omega arith) (λ _. entry-size e (and_left (entry_ok e) (all entry_ok es) h)) in
     omega (arith, one, bytes-few es (and_right (entry_ok e) (all entry_ok es) h))
 
 held-few : (t : Dest) → sound t ≡ true → bytes_held t ≤ 2199023255552
@@ -179,7 +179,7 @@ module _ (most : ℕ) (b : StationBuffers) (events : List Row) (at : Reading) (f
   lines n = rest_line at failed ++ (own-lines ++ station n)
 
   abbrev lasts : List ℕ
-  lasts = if station_short l then [] else lines (station_bytes (station_by b events))
+  lasts = whether station_short l then [] else lines (station_bytes (station_by b events))
 
   pub no-last-room : length out < most → PutLine most lasts 0 out 0 out
   no-last-room h = no_room lasts out 0 (lt-leb (0 + most) (length out) (omega arith))

@@ -7,7 +7,7 @@ use mathlib.Core.List.{List, [], ◌∷◌, ◌++◌, map}
 use borrow.Author.Tests.{eqb-true, eqb-false, eq-eqb, ne_eqb, lt-ltb, le-ltb}
 use lib.Dec.{eqb, ltb}
 use lib.ListN.{length, set, drop, replicate, length-drop}
-use Rattle.definition.specs.Base.{if◌then◌else◌, up_from}
+use Rattle.definition.specs.Base.{whether◌then◌else◌, up_from}
 use Rattle.definition.specs.Layout.{Row}
 use Rattle.definition.proofs.Tests.{by-if, by-test, if-true, if-false}
 use Rattle.definition_station.specs.Types.{Station, started}
@@ -49,7 +49,7 @@ module _ (b : StationBuffers) (events : List Row) (k : ℕ) (ws : List ℕ) wher
   as-above s h = refused-so 10 (omega arith) (if-false _ _ s ∙ if-true _ _ (lt-ltb 7 k h))
 
   module _ (s : station_short l ≡ false) (h : k ≤ 7) where
-    within : q ≡ (if eqb k 0 && no_words ws then station_start l (station_view b) else station_refused 3 (station_view b))
+    within : q ≡ (whether eqb k 0 && no_words ws then station_start l (station_view b) else station_refused 3 (station_view b))
     unfolding start_on
     within = if-false _ _ s ∙ if-false _ _ (le-ltb 7 k h)
 
@@ -127,11 +127,11 @@ module _ (c : Call) (b : StationBuffers) (events : List Row) (is-start : file_co
     d : (station_short (station_lengths_of b (length events)) ≡ false) × (r.station ≡ started)
     d = done b events (file_place c) c.words (eqb-true r.refusal 0 z)
 
-    fits-so : map (part_formed b₁) (up_from 0 8) ≡ (if taken_by r then fits_after c s.fits else s.fits)
+    fits-so : map (part_formed b₁) (up_from 0 8) ≡ (whether taken_by r then fits_after c s.fits else s.fits)
     fits-so = fit ∙ sym (if-true (fits_after c s.fits) s.fits z ∙ if-false (set s.fits (file_place c) true) (replicate 8 true) not-open)
 
-    own-so : own_started b.own ≡ (if taken_by r then own_words_after c r s.own else s.own)
-    own-so = sym (if-true (own_words_after c r s.own) s.own z ∙ if-true (own_started b.own) (if eqb (file_code c) 0 then own_opened (file_place c) c.words b.own else own_called r.station b.own) (eq-eqb (file_code c) 16 is-start))
+    own-so : own_started b.own ≡ (whether taken_by r then own_words_after c r s.own else s.own)
+    own-so = sym (if-true (own_words_after c r s.own) s.own z ∙ if-true (own_started b.own) (whether eqb (file_code c) 0 then own_opened (file_place c) c.words b.own else own_called r.station b.own) (eq-eqb (file_code c) 16 is-start))
 
     starts : FileCalled r c b b₁ events events
     starts = record {

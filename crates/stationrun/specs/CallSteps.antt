@@ -1,7 +1,7 @@
 -- A call file taken a call at a time: a block that is whole stays until its calls are done, one in each step. What is done with a call is the program's
 -- own. Assumes nothing.
 use Rattle.std.specs.Prelude.{ℕ, ◌+◌, ◌≤◌, ◌<◌, ◌≡◌, Bool, true, false, ◌&&◌, ◌||◌, List, [], ◌∷◌, ◌++◌, eqb, leb, ltb, length, take, drop}
-use Rattle.definition.specs.Base.{if◌then◌else◌}
+use Rattle.definition.specs.Base.{whether◌then◌else◌}
 use Rattle.stats.specs.Counted.{more}
 use Rattle.callfile.specs.declared.Reading.{Reading}
 use Rattle.callfile.specs.declared.Took.{Took}
@@ -45,15 +45,15 @@ module _ {S : Type 0} (one : Doing S) where
   next_call run g =
       let count = calls_in g.begun (length g.begun) in
       let t = one g.state.index (call_at run g.begun) g.state.lent in
-      if leb count run then no_call (bad_line g.number) 0 (block_over false g) 0
-      else if ltb (run + 1) count then did_call t (call_done t g) (run + 1)
+      whether leb count run then no_call (bad_line g.number) 0 (block_over false g) 0
+      else whether ltb (run + 1) count then did_call t (call_done t g) (run + 1)
       else did_call t (block_over true (call_done t g)) 0
 
   -- a step on what is left of a piece: bytes for a block that is not whole, else a call of it. Where reading has ended, all bytes are used up
   unfoldable pub step_file : List ℕ → ℕ → Stage (RunState S) → CallStep S
   step_file rest run g =
       let t = lacked g.begun rest in
-      if g.goes_on then (if ltb (length g.begun) 512 then no_call [] (length t) (block_has (g.begun ++ t) g) 0 else next_call run g)
+      whether g.goes_on then (whether ltb (length g.begun) 512 then no_call [] (length t) (block_has (g.begun ++ t) g) 0 else next_call run g)
       else no_call [] (length rest) g run
 
 -- ---- in lent buffers
@@ -102,7 +102,7 @@ next_block at index on = record { reading = record { have = 0; number = more at.
 abbrev pub reading_after : StationReading → ℕ → StationReading
 reading_after at count =
     let index = more at.reading.index in
-    if ltb (at.run + 1) count then record { reading = record { have = 512; number = at.reading.number; index = index; goes_on = true }; run = at.run + 1 }
+    whether ltb (at.run + 1) count then record { reading = record { have = 512; number = at.reading.number; index = index; goes_on = true }; run = at.run + 1 }
     else next_block at index true
 
 -- the answer where the block has no such call

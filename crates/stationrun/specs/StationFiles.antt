@@ -1,7 +1,7 @@
 -- What a whole run of a station's call file prints, from the file's bytes; and what the library's functions do along the pieces of one. Assumes nothing.
 use Rattle.std.specs.Prelude.{ℕ, suc, ◌+◌, ◌≡◌, Bool, true, false, ◌&&◌, List, [], ◌∷◌, ◌++◌, length, replicate}
 use Rattle.std.proofs.Math.Option.{Option, none, some}
-use Rattle.definition.specs.Base.{if◌then◌else◌, every}
+use Rattle.definition.specs.Base.{whether◌then◌else◌, every}
 use Rattle.definition.specs.Layout.{Row}
 use Rattle.definition.specs.Queries.{bytes_held}
 use Rattle.definition_station.specs.Types.{StationSlot}
@@ -40,11 +40,11 @@ slots_bytes (o ∷ l) = slot_bytes o + slots_bytes l
 
 -- where the station is sound, else 0
 abbrev pub station_bytes : LentStation → ℕ
-station_bytes s = if every s.fits && station_sound s.station then slots_bytes s.station.slots else 0
+station_bytes s = whether every s.fits && station_sound s.station then slots_bytes s.station.slots else 0
 
 -- of lent buffers; 0 where they are short
 abbrev pub held_bytes : StationLengths → LentStation → ℕ
-held_bytes l s = if station_short l then 0 else station_bytes s
+held_bytes l s = whether station_short l then 0 else station_bytes s
 
 -- the last lines: the counters, then the station's own line, whose flag is 0 until limits come (document 02 §14)
 unfoldable pub station_tail : LentStation → List ℕ
@@ -82,7 +82,7 @@ StationTakesStep at piece from b b' events events' block block' out out' r =
 
 -- the line of a block that is not whole, and the last ones; none where the buffers are short
 unfoldable pub last_station : StationLengths → Reading → Bool → LentStation → List ℕ
-last_station l at failed s = if station_short l then [] else rest_line at failed ++ station_tail s
+last_station l at failed s = whether station_short l then [] else rest_line at failed ++ station_tail s
 
 -- ---- along pieces
 

@@ -1,6 +1,6 @@
 -- What a run of a station's call file prints, a call at a time, and what it leaves. Assumes nothing.
 use Rattle.std.specs.Prelude.{ℕ, ◌/◌, ◌%◌, ◌≤◌, ◌≡◌, Bool, true, false, not, ◌&&◌, List, ◌++◌, map, eqb, ltb, length, set, drop, replicate}
-use Rattle.definition.specs.Base.{if◌then◌else◌, every, up_from}
+use Rattle.definition.specs.Base.{whether◌then◌else◌, every, up_from}
 use Rattle.definition.specs.Words.{at}
 use Rattle.definition.specs.Layout.{Row}
 use Rattle.definition_station.specs.Types.{Station}
@@ -40,21 +40,21 @@ no_words ws = eqb (at 0 ws) 0 && (eqb (at 1 ws) 0 && (eqb (at 2 ws) 0 && (eqb (a
 -- a start: its number is 0, and so are its words
 unfoldable pub start_on : StationLengths → ℕ → List ℕ → Station → StationResult
 start_on l k ws s =
-    if station_short l then station_refused 1 s
-    else if ltb 7 k then station_refused 10 s
-    else if eqb k 0 && no_words ws then station_start l s
+    whether station_short l then station_refused 1 s
+    else whether ltb 7 k then station_refused 10 s
+    else whether eqb k 0 && no_words ws then station_start l s
     else station_refused 3 s
 
 -- any other: `buffer_station_step`, by what it finds
 unfoldable pub station_on : StationLengths → ℕ → ℕ → List ℕ → LentStation → StationResult
 station_on l k code ws s =
-    if not (station_short l) && (not (not_there k code s.station) && (not (eqb code 0) && not (every s.fits))) then station_refused 2 s.station
+    whether not (station_short l) && (not (not_there k code s.station) && (not (eqb code 0) && not (every s.fits))) then station_refused 2 s.station
     else station_step l k code ws s.station
 
 -- what a call of a file gets: code 16 is a start
 unfoldable pub file_call : StationLengths → Call → LentStation → StationResult
 file_call l c s =
-    if eqb (file_code c) 16 then start_on l (file_place c) c.words s.station
+    whether eqb (file_code c) 16 then start_on l (file_place c) c.words s.station
     else station_on l (file_place c) (file_code c) c.words s
 
 -- whether it is accepted
@@ -63,21 +63,21 @@ taken_by r = eqb r.refusal 0
 
 -- what fits after an accepted call: an open looks at its own place alone, and any other call leaves all so
 abbrev pub fits_after : Call → List Bool → List Bool
-fits_after c fs = if eqb (file_code c) 0 then set fs (file_place c) true else replicate 8 true
+fits_after c fs = whether eqb (file_code c) 0 then set fs (file_place c) true else replicate 8 true
 
 -- the own words after it
 abbrev pub own_words_after : Call → StationResult → List ℕ → List ℕ
 own_words_after c r own =
-    if eqb (file_code c) 16 then own_started own
-    else if eqb (file_code c) 0 then own_opened (file_place c) c.words own
+    whether eqb (file_code c) 16 then own_started own
+    else whether eqb (file_code c) 0 then own_opened (file_place c) c.words own
     else own_called r.station own
 
 -- what a call leaves: a refused one everything, an accepted one its events first in the list
 abbrev pub left_station : Call → StationResult → LentStation → LentStation
 left_station c r s = record {
-  fits = if taken_by r then fits_after c s.fits else s.fits;
+  fits = whether taken_by r then fits_after c s.fits else s.fits;
   station = r.station;
-  own = if taken_by r then own_words_after c r s.own else s.own;
+  own = whether taken_by r then own_words_after c r s.own else s.own;
   events = map sent_words r.events ++ drop (length r.events) s.events;
 }
 

@@ -17,7 +17,7 @@ use denote.Shadow.{shadow}
 use denote.Array.{each}
 use borrow.Author.Rules.{elem_Fits}
 use Rattle.words.specs.Words.{signed, int, is_int}
-use Rattle.words.specs.Pick.{if◌then◌else◌}
+use Rattle.words.specs.Pick.{whether◌then◌else◌}
 use Rattle.words.proofs.Tests.{by-test}
 use Rattle.entry.specs.Entry.{entry_of}
 use Rattle.definition.specs.Base.{all, tally}
@@ -162,8 +162,8 @@ unfolding flying_ok
 flying-cons least count next freed w l =
     let t : ℕ = tally (λ v. flag (at 7 v)) l in
     let u : Bool = upward (suc (at 6 w)) (map (at 6) l ++ next ∷ []) in
-    let e : (if flag (at 7 w) then 1 else 0) ≡ bool_byte (flag (at 7 w)) = sym (one (flag (at 7 w))) in
-    let f : count + ((if flag (at 7 w) then 1 else 0) + t) ≡ (count + bool_byte (flag (at 7 w))) + t = rw e (sym (add_assoc count (bool_byte (flag (at 7 w))) t)) in
+    let e : (whether flag (at 7 w) then 1 else 0) ≡ bool_byte (flag (at 7 w)) = sym (one (flag (at 7 w))) in
+    let f : count + ((whether flag (at 7 w) then 1 else 0) + t) ≡ (count + bool_byte (flag (at 7 w))) + t = rw e (sym (add_assoc count (bool_byte (flag (at 7 w))) t)) in
     rw (add-one, f) (three (flight_ok w) (all flight_ok l) (leb least (at 6 w)) u (eqb freed ((count + bool_byte (flag (at 7 w))) + t)))
   where
     three : (a b c d f : Bool) → ((a && b) && ((c && d) && f)) ≡ ((a && c) && (b && (d && f)))

@@ -10,7 +10,7 @@ use borrow.Author.Tests.{le-leb, lt-leb}
 use lib.Dec.{leb, ltb, eqb, leb-zero}
 use lib.ListN.{length, take, drop, get_or, length-drop}
 use lib.Seq.{slice, drop-drop, take-add}
-use Rattle.words.specs.Pick.{if◌then◌else◌}
+use Rattle.words.specs.Pick.{whether◌then◌else◌}
 use Rattle.words.proofs.Tests.{by-test}
 use Rattle.model.specs.Model.{same_id}
 use Rattle.entry.specs.Entry.{entry_of}
@@ -44,7 +44,7 @@ dseqs-rows (w ∷ f) = ap (λ (l : List ℕ). at 6 w ∷ l) (dseqs-rows f)
 
 freed-rows : (f : List Row) → tally (λ w. flag (at 7 w)) f ≡ tally (λ i. i.freed) (map inflight_at f)
 freed-rows [] = refl
-freed-rows (w ∷ f) = ap (λ (n : ℕ). (if flag (at 7 w) then 1 else 0) + n) (freed-rows f)
+freed-rows (w ∷ f) = ap (λ (n : ℕ). (whether flag (at 7 w) then 1 else 0) + n) (freed-rows f)
 
 pub rows_ok : (l : List Row) → all row_ok l ≡ (all entry_ok (map entry_of l) && all entry_strict l)
 rows_ok [] = refl
@@ -108,10 +108,10 @@ topic-shown : (b : Bool) (l : List Entry) → empty (shown (browser_at topic b l
 topic-shown true l = refl
 topic-shown false l = refl
 
-pub optional-test : (p : ℕ → Bool) (a b : ℕ) → optional p (if flag a then some b else none) ≡ (eqb a 0 || p b)
+pub optional-test : (p : ℕ → Bool) (a b : ℕ) → optional p (whether flag a then some b else none) ≡ (eqb a 0 || p b)
 optional-test p a b = by-test (eqb a 0) (λ t. rw t) (λ t. rw t)
 
-pull-test : (most a b : ℕ) → optional (λ g. leb g most) (if flag a then some b else none) ≡ (eqb a 0 || leb b most)
+pull-test : (most a b : ℕ) → optional (λ g. leb g most) (whether flag a then some b else none) ≡ (eqb a 0 || leb b most)
 pull-test most a b = optional-test (λ g. leb g most) a b
 
 -- the parts that the code tests, for a queue's consumer and a topic's

@@ -1,7 +1,7 @@
 -- The tests of consumers and rows one by one, on the words of lent buffers, as the code makes them. Assumes nothing.
 use Rattle.std.specs.Prelude.{◌≡◌, ℕ, suc, ◌+◌, ◌^◌, Bool, true, false, not, ◌&&◌, ◌||◌, List, [], ◌∷◌, ◌++◌, map, leb, ltb, eqb, length, take, drop}
 use Rattle.words.specs.Words.{is_int}
-use Rattle.words.specs.Pick.{if◌then◌else◌}
+use Rattle.words.specs.Pick.{whether◌then◌else◌}
 use Rattle.entry.specs.Entry.{entry_of}
 use Rattle.model.specs.Model.{same_id}
 use Rattle.definition.specs.Base.{all, every, tally, ascending}
@@ -110,11 +110,11 @@ ids_apart (w ∷ ws) = all (λ v. not (same_id (id_at v) (id_at w))) ws && ids_a
 
 -- how many rows there are, or 513 for more than 512
 abbrev pub rows_up_to : ℕ → ℕ
-rows_up_to n = if leb n 512 then n else 513
+rows_up_to n = whether leb n 512 then n else 513
 
 -- those of the first n consumers; 513 too where there are fewer consumers
 abbrev pub rows_counted : ℕ → List Row → ℕ
-rows_counted n subs = if leb n (length subs) then rows_up_to (sub_rows (take n subs)) else 513
+rows_counted n subs = whether leb n (length subs) then rows_up_to (sub_rows (take n subs)) else 513
 
 abbrev pub reserved_at : ℕ → ℕ → List Row → List Row
 reserved_at others reserved rows = take reserved (drop others rows)

@@ -11,7 +11,7 @@ use borrow.Author.Tests.{le-leb, lt-leb, leb-true}
 use lib.Dec.{leb}
 use lib.ListN.{length, take, drop, get_or, set, length-append, length-drop, take-append-drop}
 use lib.Seq.{take-nil, take-suc, drop-cons, append_snoc, set_at, slice, length-take-le, drop-append-le, get_or-append-add, get_or-drop, drop-append-add, drop-drop, take-append-add, take-append-le, take-take, take_at, drop_at}
-use Rattle.words.specs.Pick.{if◌then◌else◌}
+use Rattle.words.specs.Pick.{whether◌then◌else◌}
 
 -- a test behind another
 pub and-on : (a b : Bool) → a ≡ true → (a && b) ≡ b
@@ -22,41 +22,41 @@ and-off a b t = rw t
 
 -- what is meant within two bounds, and outside either
 module _ {ℓ} {A : Type ℓ} (a b c d : ℕ) (x y : A) where
-  pub both_hold : a ≤ b → c ≤ d → (if leb a b && leb c d then x else y) ≡ x
+  pub both_hold : a ≤ b → c ≤ d → (whether leb a b && leb c d then x else y) ≡ x
   both_hold h k = rw (le-leb a b h, le-leb c d k)
 
-  pub first-fails : b < a → (if leb a b && leb c d then x else y) ≡ y
+  pub first-fails : b < a → (whether leb a b && leb c d then x else y) ≡ y
   first-fails h = rw (lt-leb a b h)
 
-  pub second-fails : d < c → (if leb a b && leb c d then x else y) ≡ y
+  pub second-fails : d < c → (whether leb a b && leb c d then x else y) ≡ y
   second-fails h = rw (lt-leb c d h, and-false)
 
 module _ {ℓ} {A : Type ℓ} (a b c d : ℕ) (x y : A) where
-  pub three-hold : a ≤ b → b ≤ c → c ≤ d → (if (leb a b && leb b c) && leb c d then x else y) ≡ x
+  pub three-hold : a ≤ b → b ≤ c → c ≤ d → (whether (leb a b && leb b c) && leb c d then x else y) ≡ x
   three-hold h k l = rw (le-leb a b h, le-leb b c k, le-leb c d l)
 
-  pub one-fails : b < a → (if (leb a b && leb b c) && leb c d then x else y) ≡ y
+  pub one-fails : b < a → (whether (leb a b && leb b c) && leb c d then x else y) ≡ y
   one-fails h = rw (lt-leb a b h)
 
-  pub two-fails : c < b → (if (leb a b && leb b c) && leb c d then x else y) ≡ y
+  pub two-fails : c < b → (whether (leb a b && leb b c) && leb c d then x else y) ≡ y
   two-fails h = rw (lt-leb b c h, and-false)
 
-  pub three-fails : d < c → (if (leb a b && leb b c) && leb c d then x else y) ≡ y
+  pub three-fails : d < c → (whether (leb a b && leb b c) && leb c d then x else y) ≡ y
   three-fails h = rw (lt-leb c d h, and-false)
 
 -- what holds within the bounds and of the other answer too
-pub guarded {ℓ κ} : {A : Type ℓ} (P : A → Type κ) (a b c d : ℕ) (x y : A) → (a ≤ b → c ≤ d → P x) → P y → P (if leb a b && leb c d then x else y)
+pub guarded {ℓ κ} : {A : Type ℓ} (P : A → Type κ) (a b c d : ℕ) (x y : A) → (a ≤ b → c ≤ d → P x) → P y → P (whether leb a b && leb c d then x else y)
 guarded {A} P a b c d x y f g = go (leb a b) (leb c d) (leb-true a b) (leb-true c d)
   where
-    go : (u v : Bool) → (u ≡ true → a ≤ b) → (v ≡ true → c ≤ d) → P (if u && v then x else y)
+    go : (u v : Bool) → (u ≡ true → a ≤ b) → (v ≡ true → c ≤ d) → P (whether u && v then x else y)
     go true true h k = f (h refl) (k refl)
     go true false h k = g
     go false v h k = g
 
-pub guarded₃ {ℓ κ} : {A : Type ℓ} (P : A → Type κ) (a b c d : ℕ) (x y : A) → (a ≤ b → b ≤ c → c ≤ d → P x) → P y → P (if (leb a b && leb b c) && leb c d then x else y)
+pub guarded₃ {ℓ κ} : {A : Type ℓ} (P : A → Type κ) (a b c d : ℕ) (x y : A) → (a ≤ b → b ≤ c → c ≤ d → P x) → P y → P (whether (leb a b && leb b c) && leb c d then x else y)
 guarded₃ {A} P a b c d x y f g = go (leb a b) (leb b c) (leb c d) (leb-true a b) (leb-true b c) (leb-true c d)
   where
-    go : (u v w : Bool) → (u ≡ true → a ≤ b) → (v ≡ true → b ≤ c) → (w ≡ true → c ≤ d) → P (if (u && v) && w then x else y)
+    go : (u v w : Bool) → (u ≡ true → a ≤ b) → (v ≡ true → b ≤ c) → (w ≡ true → c ≤ d) → P (whether (u && v) && w then x else y)
     go true true true h k l = f (h refl) (k refl) (l refl)
     go true true false h k l = g
     go true false w h k l = g

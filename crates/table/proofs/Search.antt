@@ -11,7 +11,7 @@ use lib.ListN.{length, get_or}
 use lib.Seq.{slice, length-slice, get_or-take, get_or-drop}
 use Rattle.definition.specs.Layout.{Row}
 use Rattle.words.proofs.Tests.{by-test}
-use Rattle.definition.specs.Base.{if◌then◌else◌}
+use Rattle.definition.specs.Base.{whether◌then◌else◌}
 use Rattle.entry.specs.declared.Found.{Found}
 use Rattle.entry.specs.declared.Found.TheVariants.{At, Nothing}
 use Rattle.table.specs.Table.{find_from, find_seq, place_from, place_of}
@@ -24,7 +24,7 @@ find-from-at i seq j [] e = absurd (let z : ◌≡◌ {A = ℕ} 0 1 = cc in omeg
 find-from-at i seq j (r ∷ s) e = go (eqb (get_or r 0 0) seq) (eqb-true (get_or r 0 0) seq) (find-from-at (suc i) seq j s) e
   where
     go : (b : Bool) → (b ≡ true → get_or r 0 0 ≡ seq) → (find_from (suc i) seq s ≡ At j → (suc i ≤ j) × (j < suc i + length s) × (get_or (get_or s (j - suc i) []) 0 0 ≡ seq))
-        → (if b then At i else find_from (suc i) seq s) ≡ At j → (i ≤ j) × (j < i + suc (length s)) × (get_or (get_or (r ∷ s) (j - i) []) 0 0 ≡ seq)
+        → (whether b then At i else find_from (suc i) seq s) ≡ At j → (i ≤ j) × (j < i + suc (length s)) × (get_or (get_or (r ∷ s) (j - i) []) 0 0 ≡ seq)
     go true h ih q =
         let u : i ≡ j = cc in
         let v : j - i ≡ 0 = omega arith in

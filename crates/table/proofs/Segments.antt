@@ -10,7 +10,7 @@ use lib.ListN.{length, take, drop, get_or, set, length-map}
 use lib.Seq.{slice, slice_empty, length-slice, set-get_or}
 use Rattle.definition.specs.Layout.{Row}
 use Rattle.words.proofs.Tests.{by-test}
-use Rattle.definition.specs.Base.{if◌then◌else◌, keep, tally}
+use Rattle.definition.specs.Base.{whether◌then◌else◌, keep, tally}
 use Rattle.definition.proofs.Reorder.{keep_append}
 use Rattle.definition.proofs.Thin.{tally-append}
 pub use Rattle.definition.proofs.Sums.{kept-length}
@@ -23,7 +23,7 @@ use Rattle.table.proofs.Lists.{slice-take, slice_snoc, written, written_none, wr
 module _ {A B : Type 0} (g : A → B) (p : B → Bool) where
   pub tally-map : (l : List A) → tally p (map g l) ≡ tally (λ x. p (g x)) l
   tally-map [] = refl
-  tally-map (x ∷ l) = ap (λ (n : ℕ). (if p (g x) then 1 else 0) + n) (tally-map l)
+  tally-map (x ∷ l) = ap (λ (n : ℕ). (whether p (g x) then 1 else 0) + n) (tally-map l)
 
   pub keep-map : (l : List A) → keep p (map g l) ≡ map g (keep (λ x. p (g x)) l)
   keep-map [] = refl
@@ -36,16 +36,16 @@ module _ (p : Row → Bool) where
     pub tally-most : from ≤ i → i ≤ length rs → from + tally p (slice from i rs) ≤ i
     tally-most h b = omega (arith, kept-length p (slice from i rs), length-slice from i rs b)
 
-    pub tally-turn : (x : Row) → from ≤ i → i < length rs → x ≡ get_or rs i [] → tally p (slice from (i + 1) rs) ≡ tally p (slice from i rs) + (if p x then 1 else 0)
+    pub tally-turn : (x : Row) → from ≤ i → i < length rs → x ≡ get_or rs i [] → tally p (slice from (i + 1) rs) ≡ tally p (slice from i rs) + (whether p x then 1 else 0)
     tally-turn x h b e =
         ap (tally p) (slice_snoc from i rs [] h b ∙ ap (λ (r : Row). slice from i rs ++ (r ∷ [])) (sym e))
         ∙ tally-append p (slice from i rs) (x ∷ [])
-        ∙ ap (λ (n : ℕ). tally p (slice from i rs) + n) (add-zero (if p x then 1 else 0))
+        ∙ ap (λ (n : ℕ). tally p (slice from i rs) + n) (add-zero (whether p x then 1 else 0))
 
     -- a turn whose row passes the test by what b says, and one whose row does not
-    pub count_turn : (x : Row) (b : Bool) (n v : ℕ) → from ≤ i → i < length rs → x ≡ get_or rs i [] → p x ≡ b → v ≡ (if b then 1 else 0) → n ≡ tally p (slice from i rs)
+    pub count_turn : (x : Row) (b : Bool) (n v : ℕ) → from ≤ i → i < length rs → x ≡ get_or rs i [] → p x ≡ b → v ≡ (whether b then 1 else 0) → n ≡ tally p (slice from i rs)
         → n + v ≡ tally p (slice from (i + 1) rs)
-    count_turn x b n v h k e t u q = ap₂ (λ (y z : ℕ). y + z) q (u ∙ ap (λ (a : Bool). if a then 1 else 0) (sym t)) ∙ sym (tally-turn x h k e)
+    count_turn x b n v h k e t u q = ap₂ (λ (y z : ℕ). y + z) q (u ∙ ap (λ (a : Bool). whether a then 1 else 0) (sym t)) ∙ sym (tally-turn x h k e)
 
     pub count-miss : (x : Row) (n : ℕ) → from ≤ i → i < length rs → x ≡ get_or rs i [] → p x ≡ false → n ≡ tally p (slice from i rs)
         → n ≡ tally p (slice from (i + 1) rs)
@@ -152,7 +152,7 @@ module _ (p : Row → Bool) where
     unfolding compacted
     compacted-gone t =
         let e : i - tally p (slice from i rs) ≡ i + 1 - tally p (slice from (i + 1) rs) =
-        omega (arith, tally-turn p from i rs (get_or now i []) h b compacted-at, ap (λ (a : Bool). if◌then◌else◌ {A = ℕ} a 1 0) t) in
+        omega (arith, tally-turn p from i rs (get_or now i []) h b compacted-at, ap (λ (a : Bool). whether◌then◌else◌ {A = ℕ} a 1 0) t) in
         let m : left (slice from i rs) ≡ left (slice from (i + 1) rs) = sym (ap left grows ∙ left-same (slice from i rs) (get_or now i []) t) in
         q ∙ ap₂ (λ (l : List Row) (n : ℕ). take from rs ++ (l ++ drop n rs)) m e
 
@@ -164,7 +164,7 @@ module _ (p : Row → Bool) where
         let j : ℕ = i - tally p s in
         let v : i - g ≡ j = ap (λ (n : ℕ). i - n) u in
         let e : j + 1 ≡ i + 1 - tally p (slice from (i + 1) rs) =
-        omega (arith, tally-most p from i rs h (omega arith), tally-turn p from i rs x h b compacted-at, ap (λ (a : Bool). if◌then◌else◌ {A = ℕ} a 1 0) t) in
+        omega (arith, tally-most p from i rs h (omega arith), tally-turn p from i rs x h b compacted-at, ap (λ (a : Bool). whether◌then◌else◌ {A = ℕ} a 1 0) t) in
         ap (λ (n : ℕ). set now n x) v
         ∙ ap (λ (l : List Row). set l j x) q
         ∙ written-more from j (left s) rs (left-length from i rs h (omega arith)) x (omega arith)

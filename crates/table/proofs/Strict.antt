@@ -13,7 +13,7 @@ use borrow.Author.Tests.{le-leb}
 use Rattle.entry.specs.declared.Entry.{Entry}
 use Rattle.entry.specs.Entry.{one_more, row_of}
 use Rattle.entry.proofs.Redelivery.{one_more-fits}
-use Rattle.definition.specs.Base.{if◌then◌else◌}
+use Rattle.definition.specs.Base.{whether◌then◌else◌}
 use Rattle.definition.specs.Layout.{is_mark, entry_strict, flying_strict, Row}
 use Rattle.definition.proofs.Tests.{and_left, and_right, and_both}
 use Rattle.table.specs.Table.{dseq_between, freed_row, mark_row, raised_row, redeliver_row, unmark_row, flown_row}
@@ -85,13 +85,13 @@ raised-strict w s =
 pub mark-strict : (first last : ℕ) (tx : Bool) (w : Row) → flying_strict w ≡ true → flying_strict (mark_row first last tx w) ≡ true
 mark-strict first last tx w s = by (dseq_between first last w)
   where
-    by : (b : Bool) → flying_strict (if b then freed_row tx w else w) ≡ true
+    by : (b : Bool) → flying_strict (whether b then freed_row tx w else w) ≡ true
     by true = freed-strict tx w s
     by false = s
 
 pub redeliver-strict : (first last : ℕ) (w : Row) → flying_strict w ≡ true → flying_strict (redeliver_row first last w) ≡ true
 redeliver-strict first last w s = by (dseq_between first last w)
   where
-    by : (b : Bool) → flying_strict (if b then raised_row w else w) ≡ true
+    by : (b : Bool) → flying_strict (whether b then raised_row w else w) ≡ true
     by true = raised-strict w s
     by false = s

@@ -4,7 +4,7 @@
 ghost use Rattle.std.specs.Prelude.{◌≡◌, not, ◌&&◌, ◌-◌, ◌≤◌, leb, length};
 ghost use Rattle.std.proofs.Math.Seq.{slice};
 ghost use Rattle.entry.specs.Entry.{expired_row};
-ghost use Rattle.definition.specs.Base.{if◌then◌else◌, tally};
+ghost use Rattle.definition.specs.Base.{whether◌then◌else◌, tally};
 ghost use Rattle.table.specs.Table.{closed, close_gap, insert_row, lifted, open_gap, find_seq, has_seq_in, place_from, place_of};
 ghost use Rattle.table.specs.Table.{dseq_between, is_freed, has_seq, count_rows, map_rows, freed_row, mark_row, raised_row, redeliver_row, unmark_row, flown_row};
 ghost use Rattle.table.specs.Table.{compacted, remove_rows, removed_rows, removed_range};
@@ -233,7 +233,7 @@ fn hit(dseq: u64, first: u64, last: u64) -> bool
 }
 
 fn counted(yes: bool) -> usize
-    ensures { (result ≡ (if yes then 1 else 0)) × (result ≤ 1) }
+    ensures { (result ≡ (whether yes then 1 else 0)) × (result ≤ 1) }
 {
     if yes { 1 } else { 0 }
 }

@@ -1,6 +1,6 @@
 -- The lines of a text, the calls of the good ones, and what is said of the bad ones. Assumes nothing.
 use Rattle.std.specs.Prelude.{ℕ, Bool, ◌&&◌, List, [], ◌∷◌, ◌++◌, map, eqb, leb, ltb, length, take}
-use Rattle.words.specs.Pick.{if◌then◌else◌}
+use Rattle.words.specs.Pick.{whether◌then◌else◌}
 use Rattle.stats.specs.Counted.{more}
 use Rattle.calls.specs.declared.Call.{Call}
 use Rattle.callfile.specs.Lines.{field}
@@ -11,7 +11,7 @@ use Rattle.calltext.specs.Faults.{fault_word}
 -- parted at each end of a line; the last line needs none
 unfoldable pub lines_of : List ℕ → List (List ℕ)
 lines_of [] = []
-lines_of (b ∷ bs) = if eqb b 10 then [] ∷ lines_of bs else onto b (lines_of bs)
+lines_of (b ∷ bs) = whether eqb b 10 then [] ∷ lines_of bs else onto b (lines_of bs)
 
 -- what a line is: 0 a call, 1 empty, from 2 on a bad one
 abbrev pub text_line_kind : List ℕ → ℕ
@@ -26,7 +26,7 @@ is_bad line = ltb 1 (text_line_kind line)
 -- the calls of some lines
 unfoldable pub line_calls : List (List ℕ) → List Call
 line_calls [] = []
-line_calls (l ∷ ls) = if is_call l then (line_call l).call ∷ line_calls ls else line_calls ls
+line_calls (l ∷ ls) = whether is_call l then (line_call l).call ∷ line_calls ls else line_calls ls
 
 -- `: unknown call: `, `: not a number of 64 bits: `, `: more than eight arguments: `, `: not a destination's number: `, `: no call's name after: `, each before
 -- the word at fault
@@ -47,15 +47,15 @@ no_name = 58 ∷ 32 ∷ 110 ∷ 111 ∷ 32 ∷ 99 ∷ 97 ∷ 108 ∷ 108 ∷ 39 
 
 unfoldable pub complaint : ℕ → List ℕ
 complaint kind =
-    if eqb kind 2 then unknown_call else if eqb kind 3 then no_number else if eqb kind 4 then too_many else if eqb kind 5 then no_destination else no_name
+    whether eqb kind 2 then unknown_call else whether eqb kind 3 then no_number else whether eqb kind 4 then too_many else whether eqb kind 5 then no_destination else no_name
 
 -- a byte of a word, if it is printable ASCII; else a question mark
 abbrev pub shown_byte : ℕ → ℕ
-shown_byte b = if leb 32 b && leb b 126 then b else 63
+shown_byte b = whether leb 32 b && leb b 126 then b else 63
 
 -- the end of a line, after `..` where a word was cut
 abbrev pub cut_end : List ℕ → List ℕ
-cut_end word = if leb (length word) 40 then 10 ∷ [] else 46 ∷ 46 ∷ 10 ∷ []
+cut_end word = whether leb (length word) 40 then 10 ∷ [] else 46 ∷ 46 ∷ 10 ∷ []
 
 -- a word up to its 40th byte
 unfoldable pub shown_word : List ℕ → List ℕ
@@ -71,7 +71,7 @@ marked_line n line = eqb n 1 && has_mark line
 
 -- what is wrong with line n
 unfoldable pub wrong_with : ℕ → List ℕ → List ℕ
-wrong_with n line = if marked_line n line then mark_complaint else complaint (text_line_kind line) ++ shown_word (fault_word line)
+wrong_with n line = whether marked_line n line then mark_complaint else complaint (text_line_kind line) ++ shown_word (fault_word line)
 
 -- `line` and a line's number
 abbrev pub line_number : ℕ → List ℕ
@@ -87,4 +87,4 @@ long_message n = line_number n ++ (58 ∷ 32 ∷ 108 ∷ 111 ∷ 110 ∷ 103 ∷
 -- the messages of the bad lines, the first line having the number n; lines are counted up to 2^64 - 1
 unfoldable pub messages : ℕ → List (List ℕ) → List ℕ
 messages n [] = []
-messages n (l ∷ ls) = if is_bad l then message n l ++ messages (more n) ls else messages (more n) ls
+messages n (l ∷ ls) = whether is_bad l then message n l ++ messages (more n) ls else messages (more n) ls

@@ -1,6 +1,6 @@
 -- A text line by line: what one call of the library takes of it. Assumes nothing.
 use Rattle.std.specs.Prelude.{ℕ, suc, ◌+◌, ◌-◌, ◌≡◌, List, [], ◌∷◌, eqb, leb, length, replicate, take, drop}
-use Rattle.words.specs.Pick.{if◌then◌else◌}
+use Rattle.words.specs.Pick.{whether◌then◌else◌}
 use Rattle.stats.specs.Counted.{more}
 use Rattle.callblocks.specs.Packed.{with_call, sealed}
 use Rattle.calltext.specs.declared.Parsed.{Parsed}
@@ -25,22 +25,22 @@ filling block k at ls = record { block = block; count = k; at = at; rest = ls }
 
 -- a line's call goes into the block, as call k
 abbrev pub with_parsed : ℕ → Parsed → List ℕ → List ℕ
-with_parsed k p block = if eqb p.kind 0 then with_call k p.call block else block
+with_parsed k p block = whether eqb p.kind 0 then with_call k p.call block else block
 
 abbrev pub count_parsed : ℕ → Parsed → ℕ
-count_parsed k p = if eqb p.kind 0 then k + 1 else k
+count_parsed k p = whether eqb p.kind 0 then k + 1 else k
 
 -- so do the calls of lines, until it has seven
 unfoldable pub fill_from : List ℕ → ℕ → ℕ → List (List ℕ) → Filling
 fill_from block k at [] = filling block k at []
-fill_from block k at (l ∷ ls) = if leb 7 k then filling block k at (l ∷ ls) else fill_from (with_parsed k (line_call l) block) (count_parsed k (line_call l)) (after_line at l) ls
+fill_from block k at (l ∷ ls) = whether leb 7 k then filling block k at (l ∷ ls) else fill_from (with_parsed k (line_call l) block) (count_parsed k (line_call l)) (after_line at l) ls
 
 -- a block without calls begins with zeros, and one with seven is sealed
 abbrev pub begun : ℕ → List ℕ → List ℕ
-begun k block = if eqb k 0 then replicate (length block) 0 else block
+begun k block = whether eqb k 0 then replicate (length block) 0 else block
 
 abbrev pub ended : ℕ → List ℕ → List ℕ
-ended k block = if eqb k 7 then sealed 7 block else block
+ended k block = whether eqb k 7 then sealed 7 block else block
 
 abbrev pub sealing : Filling → Filling
 sealing f = filling (ended f.count f.block) f.count f.at f.rest
@@ -62,11 +62,11 @@ bad_nowhere n at = record { kind = 0; line = n; from = at; to = at; at = at }
 -- the first bad line; without one the kind is 0, and the number that of the line after the last
 unfoldable pub first_bad : ℕ → ℕ → List (List ℕ) → Bad
 first_bad n at [] = bad_nowhere n at
-first_bad n at (l ∷ ls) = if is_bad l then bad_at (text_line_kind l) n at l else first_bad (more n) (after_line at l) ls
+first_bad n at (l ∷ ls) = whether is_bad l then bad_at (text_line_kind l) n at l else first_bad (more n) (after_line at l) ls
 
 -- what is said of it, by the text that it stands in, and the number of the line after it
 abbrev pub said : List ℕ → Bad → List ℕ
-said text b = if eqb b.kind 0 then [] else message b.line (take (b.to - b.from) (drop b.from text))
+said text b = whether eqb b.kind 0 then [] else message b.line (take (b.to - b.from) (drop b.from text))
 
 abbrev pub next_line : Bad → ℕ
-next_line b = if eqb b.kind 0 then b.line else more b.line
+next_line b = whether eqb b.kind 0 then b.line else more b.line

@@ -1,6 +1,6 @@
 -- A line of text in words. Assumes nothing.
 use Rattle.std.specs.Prelude.{ℕ, suc, Bool, true, false, not, ◌||◌, ◌&&◌, List, [], ◌∷◌, eqb, take}
-use Rattle.words.specs.Pick.{if◌then◌else◌}
+use Rattle.words.specs.Pick.{whether◌then◌else◌}
 use Rattle.textwords.specs.declared.Stop.{Stop}
 use Rattle.textwords.specs.declared.Stop.TheVariants.{Blank, Word, Remark, LineEnd}
 
@@ -18,7 +18,7 @@ stops LineEnd b = eqb b 10
 -- how many bytes stand before the first such
 unfoldable pub run : Stop → List ℕ → ℕ
 run s [] = 0
-run s (b ∷ bs) = if stops s b then 0 else suc (run s bs)
+run s (b ∷ bs) = whether stops s b then 0 else suc (run s bs)
 
 -- a byte before the first of some words
 abbrev pub onto : ℕ → List (List ℕ) → List (List ℕ)
@@ -28,7 +28,7 @@ onto b (w ∷ ws) = (b ∷ w) ∷ ws
 -- parted at each blank
 unfoldable pub pieces : List ℕ → List (List ℕ)
 pieces [] = [] ∷ []
-pieces (b ∷ bs) = if blank b then [] ∷ pieces bs else onto b (pieces bs)
+pieces (b ∷ bs) = whether blank b then [] ∷ pieces bs else onto b (pieces bs)
 
 -- those that are not empty
 unfoldable pub full : List (List ℕ) → List (List ℕ)

@@ -9,7 +9,7 @@ use lib.Dec.{eqb}
 use lib.ListN.{length, take}
 use Rattle.stats.specs.declared.Stats.{Stats}
 use Rattle.stats.specs.Counted.{with_expired_by, with_discarded_by}
-use Rattle.definition.specs.Base.{if◌then◌else◌}
+use Rattle.definition.specs.Base.{whether◌then◌else◌}
 use Rattle.definition.specs.Types.{Dest}
 use Rattle.definition.specs.Consumer.{◌⊕◌, add_expired, add_discarded}
 use Rattle.definition.specs.Destination.{count}
@@ -180,16 +180,16 @@ module _ (c : Call) (ok : arguments_ok c ≡ true) (free : (t : Dest) → own_re
       counted-done : Called q b (lent (stored_head (counted (with_counters x d)) h) subs rows) events events (outcome 0 0 d.events)
       counted-done = performed-called h subs rows events roomy whole c q (bare-done c ok free b (length events) z) (bare-leaves c ok free b (length events) z) (done_as 0 (with_counters x d)) subs rows events performs refl
 
-      pub counted-called : (a : Answer) → a ≡ done_as 0 (with_counters x d) → (r : Outcome) → r ≡ finished a → (h' : List ℕ) → h' ≡ (if eqb a.refusal 0 then stored_head (counted a.head) h else h)
+      pub counted-called : (a : Answer) → a ≡ done_as 0 (with_counters x d) → (r : Outcome) → r ≡ finished a → (h' : List ℕ) → h' ≡ (whether eqb a.refusal 0 then stored_head (counted a.head) h else h)
           → Called q b (lent h' subs rows) events events r
       counted-called a e r f h' g =
-          subst⁻¹ (λ (k : List ℕ). Called q b (lent k subs rows) events events r) (subst (λ (y : Answer). h' ≡ (if eqb y.refusal 0 then stored_head (counted y.head) h else h)) e g)
+          subst⁻¹ (λ (k : List ℕ). Called q b (lent k subs rows) events events r) (subst (λ (y : Answer). h' ≡ (whether eqb y.refusal 0 then stored_head (counted y.head) h else h)) e g)
           (subst⁻¹ (λ (o : Outcome). Called q b (lent (stored_head (counted (with_counters x d)) h) subs rows) events events o) (f ∙ ap finished e) counted-done)
 
 -- ---- the two calls
 
 module _ (h : List ℕ) (subs rows events : List Row) (z : bare_refusal (lent h subs rows) (length events) ≡ 0) (d x : Head) (is : d ≡ loaded h subs) (a : Answer) (e : a ≡ done_as 0 x)
-    (r : Outcome) (f : r ≡ finished a) (h' : List ℕ) (g : h' ≡ (if eqb a.refusal 0 then stored_head (counted a.head) h else h))
+    (r : Outcome) (f : r ≡ finished a) (h' : List ℕ) (g : h' ≡ (whether eqb a.refusal 0 then stored_head (counted a.head) h else h))
   where
     pub discarded-called : x ≡ with_counters (with_discarded_by d.stats 1) d → Called (buffer_call (lent h subs rows) (length events) discarding) (lent h subs rows) (lent h' subs rows) events events r
     unfolding arguments_ok own_refusal perform

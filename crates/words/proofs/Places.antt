@@ -6,7 +6,7 @@ use mathlib.Core.Bool.{true, not, true≢false}
 use mathlib.Core.List.{List, [], ◌∷◌, ◌++◌}
 use lib.Dec.{leb}
 use borrow.Author.Tests.{leb-true}
-use Rattle.words.specs.Pick.{if◌then◌else◌, all}
+use Rattle.words.specs.Pick.{whether◌then◌else◌, all}
 use Rattle.words.specs.Places.{CheckPlace, passes, Comes, Exact}
 use Rattle.words.proofs.Tests.{if-true, if-false, by-test, and_left, and_right, and_both}
 
@@ -14,7 +14,7 @@ use Rattle.words.proofs.Tests.{if-true, if-false, by-test, and_left, and_right, 
 
 abbrev pub first_of : List CheckPlace → ℕ
 first_of [] = 0
-first_of (p ∷ ps) = if p.test then p.number else first_of ps
+first_of (p ∷ ps) = whether p.test then p.number else first_of ps
 
 comes : (ps : List CheckPlace) (n : ℕ) → 1 ≤ n → first_of ps ≡ n → Comes n ps
 comes [] n h e = absurd (omega (arith, h, e))

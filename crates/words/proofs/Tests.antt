@@ -6,17 +6,17 @@ use Prim.Native.Nat.{ℕ, ◌+◌, ◌-◌, ◌≤◌}
 use native.Mathlib.Omega.{arith}
 use borrow.Author.Tests.{eqb-true, eqb-false, eq-eqb, ne_eqb, leb-true, leb-false, le-leb, lt-leb}
 use lib.Dec.{eqb, leb}
-use Rattle.words.specs.Pick.{if◌then◌else◌}
+use Rattle.words.specs.Pick.{whether◌then◌else◌}
 
 pub by-test {ℓ} : {P : Type ℓ} (b : Bool) → (b ≡ true → P) → (b ≡ false → P) → P
 by-test true f g = f refl
 by-test false f g = g refl
 
 module _ {ℓ} {A : Type ℓ} where
-  pub if-true : {b : Bool} (x y : A) → b ≡ true → if◌then◌else◌ b x y ≡ x
+  pub if-true : {b : Bool} (x y : A) → b ≡ true → whether◌then◌else◌ b x y ≡ x
   if-true x y e = rw e
 
-  pub if-false : {b : Bool} (x y : A) → b ≡ false → if◌then◌else◌ b x y ≡ y
+  pub if-false : {b : Bool} (x y : A) → b ≡ false → whether◌then◌else◌ b x y ≡ y
   if-false x y e = rw e
 
 -- ---- tests joined

@@ -2,10 +2,10 @@
 use Rattle.std.specs.Prelude.{ℕ, Bool, true, false, ◌&&◌, List, [], ◌∷◌, eqb}
 
 module _ {ℓ} {A : Type ℓ} where
-  infixr 10 if◌then◌else◌
-  abbrev pub if◌then◌else◌ : Bool → A → A → A
-  if true then x else y = x
-  if false then x else y = y
+  infixr 10 whether◌then◌else◌
+  abbrev pub whether◌then◌else◌ : Bool → A → A → A
+  whether true then x else y = x
+  whether false then x else y = y
 
   -- each passes a test
   abbrev pub all : (A → Bool) → List A → Bool

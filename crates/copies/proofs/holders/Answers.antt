@@ -3,7 +3,7 @@ use mathlib.Core.List.{[]}
 use Prim.Native.Nat.{◌-◌}
 use lib.ListN.{get_or}
 use mir.Val.{bool_byte}
-use Rattle.words.specs.Pick.{if◌then◌else◌}
+use Rattle.words.specs.Pick.{whether◌then◌else◌}
 use Rattle.words.proofs.Words.{flag_small}
 use Rattle.definition.specs.Layout.{Row}
 use Rattle.copies.specs.Copies.{may_copy}
@@ -21,7 +21,7 @@ loop-i-preserved c =
     let subs = a.subs.now in
     let h = c.loop-i-test.true in
     let w : Row = get_or subs c.loop-i.i [] in
-    let e : bool_byte c.holds.result ≡ (if may_copy a.on_queue w then 1 else 0) = ap bool_byte c.holds.ensures ∙ one (may_copy a.on_queue w) in
+    let e : bool_byte c.holds.result ≡ (whether may_copy a.on_queue w then 1 else 0) = ap bool_byte c.holds.ensures ∙ one (may_copy a.on_queue w) in
     (omega arith, omega (arith, flag_small c.holds.result), omega (arith, e, tally-turn subs c.loop-i.i a.n c.requires (may_copy a.on_queue) h))
 
 pub returns : goal.returns

@@ -1,6 +1,6 @@
 use mathlib.Core.Path.{sym, ap, ◌∙◌}
 use mathlib.Core.Bool.{Bool}
-use Rattle.words.specs.Pick.{if◌then◌else◌}
+use Rattle.words.specs.Pick.{whether◌then◌else◌}
 use Rattle.queries.proofs.added.Goals as goal
 
 pub known-requires : goal.known-requires
@@ -10,9 +10,9 @@ known-requires c =
 pub returns-then-known : goal.returns-then-known
 returns-then-known c =
     let a = c.args in
-    ap (λ (b : Bool). if b then 0 else a.size) (sym c.if-known.true ∙ c.known.ensures)
+    ap (λ (b : Bool). whether b then 0 else a.size) (sym c.if-known.true ∙ c.known.ensures)
 
 pub returns : goal.returns
 returns c =
     let a = c.args in
-    ap (λ (b : Bool). if b then 0 else a.size) (sym c.if-known.false ∙ c.known.ensures)
+    ap (λ (b : Bool). whether b then 0 else a.size) (sym c.if-known.false ∙ c.known.ensures)
