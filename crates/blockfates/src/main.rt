@@ -1,6 +1,7 @@
 // Runs a call file, from standard input or from the file that its one argument names, and says where each block of its queue is or how it left. Here is only reading and
 // writing: `reporting` says what is printed, wherever the file is cut.
 #![tactic(auto)]
+
 ghost use Rattle.std.specs.Prelude.{◌≡◌, length};
 
 use callfile::Reading;

@@ -1,6 +1,7 @@
 // Runs a station's call file, document 02 §1's program: from standard input, or from the file that its one argument names. Here is only reading and
 // writing: `stationrun` says what is printed, wherever the file is cut.
 #![tactic(auto)]
+
 ghost use Rattle.std.specs.Prelude.{◌≡◌, length};
 
 use callfile::Reading;
@@ -100,7 +101,18 @@ fn next_piece(
             written: true,
         };
     }
-    run_piece(rt, heads, subs, rows, own, events, block, at, &piece[..n], out)
+    run_piece(
+        rt,
+        heads,
+        subs,
+        rows,
+        own,
+        events,
+        block,
+        at,
+        &piece[..n],
+        out,
+    )
 }
 
 // All pieces, up to the end, a read that fails or a bad block.
@@ -125,7 +137,9 @@ fn run_all(
     let mut at = StationReading { reading, run: 0 };
     let mut turns = 18446744073709551615u64;
     while 0 < turns {
-        let r = next_piece(rt, from, heads, subs, rows, own, events, block, at, piece, out);
+        let r = next_piece(
+            rt, from, heads, subs, rows, own, events, block, at, piece, out,
+        );
         if !r.goes_on {
             return r;
         }
