@@ -241,8 +241,7 @@ pub extern "C" fn destination_counters(head: &[u64], subs: &[SubRow], rows: &[Ro
 }
 
 // A page of the entries that wait, into a lent list: how many wait, and how many lines were written. The lines past them stay, and beside a refusal
-// nothing is written. `queries::plan` says which rows are listed, `queries::line_at` makes a line of a row: both are covered. The list is a slice of
-// structs, so this is a walk by hand.
+// nothing is written. `queries::plan` says which rows are listed, `queries::line_at` makes a line of a row.
 #[unsafe(no_mangle)]
 pub extern "C" fn destination_page(
     head: &[u64],

@@ -18,8 +18,7 @@ pub extern "C" fn destination_outlook_lines() -> usize
 }
 
 // What waits on the queue by two readings of the clock, and those between two times into a lent list. The lines past them stay, and beside a refusal
-// nothing is written. `outlooks::plan` says which rows are listed, `outlooks::line_of` makes a line of a row: both are covered. The list is a slice of
-// structs, so this is a walk by hand.
+// nothing is written. `outlooks::plan` says which rows are listed, `outlooks::line_of` makes a line of a row.
 #[unsafe(no_mangle)]
 pub extern "C" fn destination_outlook(
     head: &[u64],
