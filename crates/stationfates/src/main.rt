@@ -1,6 +1,7 @@
 // Runs a station's call file, from standard input or from the file that its one argument names, and says where each block of its queues is or how it left, and
 // what became of each dead letter. Here is only reading and writing: `stationreport` says what is printed, wherever the file is cut.
 #![tactic(auto)]
+
 ghost use Rattle.std.specs.Prelude.{◌≡◌, length};
 
 use callfile::Reading;
