@@ -1,4 +1,4 @@
-# What the scripts `run` of examples/destination and examples/station share. They set `libraries` (the archives that their programs are linked with), `c` and `rust` (the compilers' options).
+# What the scripts `run` of the examples and `.ci/run` share. Those of examples/destination and examples/station set `libraries` (the archives that their programs are linked with), `c` and `rust` (the compilers' options).
 # Nothing is built again that is up to date. That goes by contents and not by times: FILE.sum holds a sum over all that FILE was made from, the
 # tools among it, and over FILE itself.
 
@@ -12,7 +12,7 @@ crates_of() {
             m = split(needs[n], a, " ")
             for (k = 1; k <= m; k++) visit(a[k])
         }
-        { sub(/#.*/, ""); i = index($0, ":"); n = substr($0, 1, i - 1); gsub(/[ \t]/, "", n); if (i) needs[n] = substr($0, i + 1) }
+        { sub(/#.*/, ""); i = index($0, ":"); split($0, a, /[ \t:]+/); if (i) needs[a[1]] = substr($0, i + 1) }
         END { visit(wanted) }' crates.txt
 }
 
@@ -21,7 +21,7 @@ library_sum() {
     local folders
     folders=$(crates_of "$1" | grep . | sed 's|^|crates/|') || return
     # shellcheck disable=SC2086
-    { rt version && uname -m && sha256sum crates.txt && find $folders -type f | sort | xargs sha256sum; } | sha256sum
+    { rt version && uname -m && sha256sum crates.txt && find $folders -name out -prune -o -type f -print | sort | xargs sha256sum; } | sha256sum
 }
 
 # SOURCE: the sum of what a C program is made from, the headers of the system too.
@@ -45,6 +45,13 @@ made() {
     rm -f "$file.sum"
     "$@"
     echo "$sum $(sha256sum <"$file")" >"$file.sum"
+}
+
+# [--after-ci] CRATE: its archive in target/staticlib, by tools/build.
+archive() {
+    local crate=${!#} sum
+    sum=$(library_sum "$crate") || return
+    made "target/staticlib/lib${crate%_c}.a" "$sum" tools/build "$@"
 }
 
 # PROGRAM EXPECTED
