@@ -1,6 +1,6 @@
 /* Duplicate detection for the numbers of one producer: the last 1,024 are remembered.
  *
- * Link with libaudit.a (rt staticlib audit; x86-64). No memory is allocated and nothing is kept between calls: the
+ * Link with libaudit.a (tools/build audit_c; x86-64). No memory is allocated and nothing is kept between calls: the
  * caller owns a window of words and a struct audit, and passes both to each call.
  *
  * A window is an array of at least 1,024 uint64_t (8,192 bytes). What stands in it at the beginning does not matter, so

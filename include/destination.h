@@ -5,7 +5,7 @@
  * A consumer has room for as many entries as its prefetch says, and an acknowledgement makes room again. A browser is a
  * consumer that is sent copies of what waits on a queue when it joins, then a null.
  *
- * Link with libdestination.a (rt staticlib destination; x86-64). Nothing is allocated, nothing is kept between calls, there is
+ * Link with libdestination.a (tools/build destination; x86-64). Nothing is allocated, nothing is kept between calls, there is
  * no clock and no thread: each call gets the state, an event list and the time, and writes the events into the list. The
  * host does what they say. docs/LIBRARY.md is a first tour, examples/destination has programs in C and Rust.
  *

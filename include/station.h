@@ -6,7 +6,7 @@
  * most, and is then lost; so it is where none is named, and where the named one is not open. station_call_told says of each letter which number it had, which it
  * got, and where it is stored.
  *
- * Link with libstation.a (rt staticlib station; x86-64), and for the queries of one destination with libdestination.a too. This header needs destination.h
+ * Link with libstation.a (tools/build station; x86-64), and for the queries of one destination with libdestination.a too. This header needs destination.h
  * beside it: requests, identifiers, entries, outcomes and refusals are that one's, and what it says of memory, alignment, overlap and signed numbers
  * holds here too. docs/LIBRARY.md has a section on stations, examples/station programs in C and Rust.
  *

@@ -110,7 +110,7 @@ def expired(now, e):
 
 
 def one_more(r):
-    return r + 1 if pick("oneMore", r < 2147483647, "rises", "stays") else r
+    return r + 1 if pick("one_more", r < 2147483647, "rises", "stays") else r
 
 
 def redelivered(e):
@@ -123,7 +123,7 @@ def selects(word, s):
 
 def ack_type(k):
     name = ACK_TYPES[k] if k < len(ACK_TYPES) else "Other"
-    hit("ackType", name)
+    hit("ack_type", name)
     return name
 
 
@@ -140,7 +140,7 @@ def is_browser(s):
 
 
 def has_credit(s):
-    if pick("hasCredit", s.prefetch == 0, "prefetch 0", "prefetch above 0"):
+    if pick("has_credit", s.prefetch == 0, "prefetch 0", "prefetch above 0"):
         return s.pull is not None
     return window(s) < s.prefetch
 
@@ -160,10 +160,10 @@ def sent(s, e):
 
 
 def by_seq(s, q):
-    if pick("bySeq", q is None, "none", "some"):
+    if pick("by_seq", q is None, "none", "some"):
         return None
     found = next((i.dseq for i in s.inflight if i.entry.seq == q), None)
-    pick("dseqOf", found is None, "none", "some")
+    pick("dseq_of", found is None, "none", "some")
     return found
 
 
@@ -172,7 +172,7 @@ def or0(first):
 
 
 def ack_range(s, a, cumulative):
-    first = None if pick("ackRange", cumulative, "cumulative", "from the first number") else by_seq(s, a.first)
+    first = None if pick("ack_range", cumulative, "cumulative", "from the first number") else by_seq(s, a.first)
     last = by_seq(s, a.last)
     if pick("ranged", last is None, "none", "some"):
         return lambda i: False
@@ -182,13 +182,13 @@ def ack_range(s, a, cumulative):
 
 def ack_last(s, a):
     k = by_seq(s, a.last)
-    pick("isDseq", k is None, "none", "some")
+    pick("is_dseq", k is None, "none", "some")
     return lambda i: i.dseq == k
 
 
 def free(test, tx, s):
     def freed_as(i):
-        return replace(i, freed=True, tx=tx or i.tx) if pick("freedAs", test(i), "passes", "as it was") else i
+        return replace(i, freed=True, tx=tx or i.tx) if pick("freed_as", test(i), "passes", "as it was") else i
 
     more = sum(test(i) and not i.freed for i in s.inflight)
     return replace(s, inflight=tuple(map(freed_as, s.inflight)), freed=s.freed + more)
@@ -210,16 +210,16 @@ def dead_letters(cause, flights):
     return [
         ("x", i.entry.seq, i.entry.redelivery, int(cause))
         for i in flights
-        if pick("deadLetters", i.entry.persistent, "persistent", "not persistent")
+        if pick("dead_letters", i.entry.persistent, "persistent", "not persistent")
     ]
 
 
 def unless_browser(s, k):
-    return 0 if pick("unlessBrowser", is_browser(s), "browser", "counted") else k
+    return 0 if pick("unless_browser", is_browser(s), "browser", "counted") else k
 
 
 def ack_transacted(a, s, kind):
-    hit("ackTransacted", kind)
+    hit("ack_transacted", kind)
     test = ack_last(s, a) if kind == "Individual" else ack_range(s, a, kind in ("Standard", "Unmatched"))
     return free(test, kind != "Delivered", s)
 
@@ -230,7 +230,7 @@ def took(test, name, s, t):
 
 
 def ack_plain(a, s, kind, t):
-    hit("ackPlain", kind)
+    hit("ack_plain", kind)
     if kind == "Delivered":
         return free(ack_range(s, a, False), False, s), []
     if kind in ("Standard", "Unmatched"):
@@ -240,7 +240,7 @@ def ack_plain(a, s, kind, t):
     if kind == "Poison":
         test = ack_range(s, a, False)
         t.count("discarded", unless_browser(s, sum(test(i) and not i.entry.persistent for i in s.inflight)))
-        if pick("ackPlain Poison", is_browser(s), "browser", "letters"):
+        if pick("ack_plain Poison", is_browser(s), "browser", "letters"):
             return remove_inflight(test, s), []
         return remove_inflight(test, s), dead_letters(a.cause, [i for i in s.inflight if test(i)])
     if kind == "Redelivered":
@@ -251,19 +251,19 @@ def ack_plain(a, s, kind, t):
 
 
 def ack_sub(a, s, t):
-    if pick("ackSub", a.transacted, "transacted", "untransacted"):
+    if pick("ack_sub", a.transacted, "transacted", "untransacted"):
         return ack_transacted(a, s, ack_type(a.type)), []
     return ack_plain(a, s, ack_type(a.type), t)
 
 
 def serve_topic(now, s, t, events):
     while True:
-        if not pick("drainTopic", bool(s.tpending), "an entry", "empty"):
+        if not pick("drain_topic", bool(s.tpending), "an entry", "empty"):
             return s
-        if not pick("drainTopic", has_credit(s), "credit", "no credit"):
+        if not pick("drain_topic", has_credit(s), "credit", "no credit"):
             return s
         e, s = s.tpending[0], replace(s, tpending=s.tpending[1:])
-        if pick("meetTopic", expired(now, e), "expired", "sent"):
+        if pick("meet_topic", expired(now, e), "expired", "sent"):
             t.count("expired", 1)
         else:
             t.count("dispatched", 1)
@@ -273,10 +273,10 @@ def serve_topic(now, s, t, events):
 
 def meet_browser(now, e, s, t, events):
     s = replace(s, browser=s.browser[1:])
-    if pick("meetBrowser", expired(now, e), "expired", "sent"):
+    if pick("meet_browser", expired(now, e), "expired", "sent"):
         kept = tuple(f for f in t.pending if f.seq != e.seq)
         t.count("expired", len(t.pending) - len(kept))
-        pick("meetBrowser expired", len(kept) < len(t.pending), "it still waits", "it is gone")
+        pick("meet_browser expired", len(kept) < len(t.pending), "it still waits", "it is gone")
         t.pending = kept
         return s
     events.append(sent(s, e))
@@ -284,18 +284,18 @@ def meet_browser(now, e, s, t, events):
 
 
 def close_browser(s, events):
-    if pick("closeBrowser", s.finished, "finished", "closing null"):
+    if pick("close_browser", s.finished, "finished", "closing null"):
         return s
     events.append(("n",) + s.id)
     return replace(s, finished=True, pull=None)
 
 
 def dispatch_browser(now, s, t, events):
-    while pick("drainBrowser", bool(s.browser), "an entry", "empty"):
-        if not pick("drainBrowser an entry", has_credit(s), "credit", "no credit"):
+    while pick("drain_browser", bool(s.browser), "an entry", "empty"):
+        if not pick("drain_browser an entry", has_credit(s), "credit", "no credit"):
             return s
         s = meet_browser(now, s.browser[0], s, t, events)
-    return close_browser(s, events) if pick("drainBrowser empty", has_credit(s), "credit", "no credit") else s
+    return close_browser(s, events) if pick("drain_browser empty", has_credit(s), "credit", "no credit") else s
 
 
 # ---- Destination
@@ -338,10 +338,10 @@ def look(now, s, entries):
 
 def visit(now, i, t, events):
     """Whether the consumer at i took an entry."""
-    if not pick("visitAt", i < len(t.subs), "some", "none"):
+    if not pick("visit_at", i < len(t.subs), "some", "none"):
         return False
     s = t.subs[i]
-    if pick("visitAt some", is_browser(s) or not has_credit(s), "browser or no credit", "looks"):
+    if pick("visit_at some", is_browser(s) or not has_credit(s), "browser or no credit", "looks"):
         return False
     t.pending, e, cursor, gone = look(now, s, t.pending)
     t.count("expired", gone)
@@ -375,7 +375,7 @@ def rounds(now, t, events):
 
 def dispatch_queue(now, t):
     events = []
-    if pick("dispatchQueue", not t.subs, "no consumers", "consumers"):
+    if pick("dispatch_queue", not t.subs, "no consumers", "consumers"):
         return events
     for k in range(len(t.subs)):
         if pick("browsers", is_browser(t.subs[k]), "browser", "no browser"):
@@ -386,7 +386,7 @@ def dispatch_queue(now, t):
 
 def dispatch_topic(now, t):
     events = []
-    t.subs = tuple([serve_topic(now, s, t, events) for s in each("serveAll", t.subs)])
+    t.subs = tuple([serve_topic(now, s, t, events) for s in each("serve_all", t.subs)])
     return events
 
 
@@ -397,12 +397,12 @@ def due(now, t):
 
 def dispatch(now, t):
     by = due(now, t)
-    return dispatch_queue(by, t) if pick("dispatchBy", t.kind == "queue", "queue", "topic") else dispatch_topic(by, t)
+    return dispatch_queue(by, t) if pick("dispatch_by", t.kind == "queue", "queue", "topic") else dispatch_topic(by, t)
 
 
 def touch_idle(now, t):
-    if pick("touchIdle", not t.pending and not t.subs and not t.producers, "unused", "in use"):
-        t.idle = now if pick("idleMark", t.idle is None, "none", "some") else t.idle
+    if pick("touch_idle", not t.pending and not t.subs and not t.producers, "unused", "in use"):
+        t.idle = now if pick("idle_mark", t.idle is None, "none", "some") else t.idle
     else:
         t.idle = None
 
@@ -426,19 +426,19 @@ def trim(now, limit, entries, t):
 
 
 def fan_out(now, limit, e, s, t):
-    if not pick("fanOut", accepts(s, e), "accepted", "refused"):
+    if not pick("fan_out", accepts(s, e), "accepted", "refused"):
         return s
     return replace(s, tpending=trim(now, limit, insert(e, s.tpending), t))
 
 
 def enqueue(now, e, t):
     t.count("enqueued", 1)
-    if pick("enqueueBy", t.kind == "queue", "queue", "topic"):
+    if pick("enqueue_by", t.kind == "queue", "queue", "topic"):
         t.subs = tuple(hold_back(e.seq, s) for s in t.subs)
         t.pending = insert(e, t.pending)
         t.idle = None
         return dispatch_queue(due(now, t), t)
-    t.subs = tuple([fan_out(due(now, t), t.topic_limit, e, s, t) for s in each("fanOutAll", t.subs)])
+    t.subs = tuple([fan_out(due(now, t), t.topic_limit, e, s, t) for s in each("fan_out_all", t.subs)])
     return dispatch_topic(due(now, t), t)
 
 
@@ -460,13 +460,13 @@ def add_sub(now, p, t):
 
 def set_prefetch(now, i, p, t):
     s = sub_of(i, t)
-    if pick("prefetchAt", s is not None, "some", "none"):
+    if pick("prefetch_at", s is not None, "some", "none"):
         put_sub(i, replace(s, prefetch=room(p)), t)
     return dispatch(now, t)
 
 
 def hold_back_all(entries, s):
-    for e in each("holdBackAll", entries):
+    for e in each("hold_back_all", entries):
         s = hold_back(e.seq, s)
     return s
 
@@ -475,7 +475,7 @@ def reinsert(now, entries, t):
     live = [e for e in entries if not expired(due(now, t), e)]
     pick("reinsert", len(live) < len(entries), "some have expired", "all live")
     t.count("expired", len(entries) - len(live))
-    for e in each("insertAll", live):
+    for e in each("insert_all", live):
         t.pending = insert(e, t.pending)
     t.subs = tuple(hold_back_all(live, s) for s in t.subs)
 
@@ -485,18 +485,18 @@ def reserved_of(i, t):
 
 
 def reserved_hit(first, last, e, kind):
-    hit("reservedHit", kind)
+    hit("reserved_hit", kind)
     if kind in ("Standard", "Unmatched"):
         return e.seq <= last
     if kind == "Individual":
         return e.seq == last
     if kind in ("Poison", "Expired"):
-        return e.seq <= last and (True if pick("atLeast", first is None, "none", "some") else first <= e.seq)
+        return e.seq <= last and (True if pick("at_least", first is None, "none", "some") else first <= e.seq)
     return False
 
 
 def reserved_counts(taken, kind, t):
-    hit("reservedCounts", kind)
+    hit("reserved_counts", kind)
     if kind == "Poison":
         t.count("discarded", sum(not e.persistent for e in taken))
     else:
@@ -508,20 +508,20 @@ def letters(taken):
 
 
 def ack_reserved(i, a, t):
-    if pick("ackReserved", a.last is None, "none", "some"):
+    if pick("ack_reserved", a.last is None, "none", "some"):
         return []
     kind = ack_type(a.type)
     taken = [e for e in reserved_of(i, t) if reserved_hit(a.first, a.last, e, kind)]
     t.reserved = tuple((h, e) for h, e in t.reserved if not (h == i and e in taken))
     reserved_counts(taken, kind, t)
-    hit("reservedEvents", kind)
+    hit("reserved_events", kind)
     return letters(taken) if kind == "Poison" else []
 
 
 def ack(now, i, a, t):
     s = sub_of(i, t)
-    if pick("ackAt", s is None, "none", "some"):
-        if pick("ackAt none", a.transacted or not reserved_of(i, t), "ignored", "reserved"):
+    if pick("ack_at", s is None, "none", "some"):
+        if pick("ack_at none", a.transacted or not reserved_of(i, t), "ignored", "reserved"):
             return []
         first = ack_reserved(i, a, t)
     else:
@@ -533,9 +533,9 @@ def ack(now, i, a, t):
 
 def pull(now, i, timeout, t):
     s = sub_of(i, t)
-    if pick("pullAt", s is None, "none", "some"):
+    if pick("pull_at", s is None, "none", "some"):
         return 0, []
-    if pick("pullAt some", s.prefetch > 0, "prefetch above 0", "prefetch 0"):
+    if pick("pull_at some", s.prefetch > 0, "prefetch above 0", "prefetch 0"):
         return 0, []
     put_sub(i, replace(s, pull=s.generation + 1, generation=s.generation + 1), t)
     events = dispatch(now, t)
@@ -552,7 +552,7 @@ def pull(now, i, timeout, t):
 
 def pull_timeout(i, generation, t):
     s = sub_of(i, t)
-    if pick("timeoutAt", s is None, "none", "some"):
+    if pick("timeout_at", s is None, "none", "some"):
         return []
     if pick("fired", s.pull is None, "none", "some"):
         return []
@@ -563,19 +563,19 @@ def pull_timeout(i, generation, t):
 
 
 def was_delivered(last, e):
-    return True if pick("wasDelivered", last < 0, "below 0", "from 0") else e.seq <= last
+    return True if pick("was_delivered", last < 0, "below 0", "from 0") else e.seq <= last
 
 
 def returned_from(last, flights):
     found = []
     for i in flights:
-        if not pick("returnedFrom", i.tx, "marked", "returns"):
-            found.append(redelivered(i.entry) if pick("returnedFrom returns", was_delivered(last, i.entry), "delivered", "not delivered") else i.entry)
+        if not pick("returned_from", i.tx, "marked", "returns"):
+            found.append(redelivered(i.entry) if pick("returned_from returns", was_delivered(last, i.entry), "delivered", "not delivered") else i.entry)
     return found
 
 
 def reserved_from(holder, flights):
-    return tuple((holder, i.entry) for i in flights if pick("reservedFrom", i.tx, "marked", "returns"))
+    return tuple((holder, i.entry) for i in flights if pick("reserved_from", i.tx, "marked", "returns"))
 
 
 def returning(now, s, last, t):
@@ -597,10 +597,10 @@ def without(i, subs):
 
 def remove_sub(now, i, last, t):
     s = sub_of(i, t)
-    if pick("removeAt", s is None, "none", "some"):
+    if pick("remove_at", s is None, "none", "some"):
         return 0, []
     t.subs = without(i, t.subs)
-    t.rr = 0 if pick("dropSub", len(t.subs) <= t.rr, "turn 0", "turn stays") else t.rr
+    t.rr = 0 if pick("drop_sub", len(t.subs) <= t.rr, "turn 0", "turn stays") else t.rr
     returning(now, s, last, t)
     touch_idle(now, t)
     return 1, dispatch(now, t)
@@ -615,7 +615,7 @@ def unmarked(i, t):
 
 def return_reserved(now, i, t):
     held = reserved_of(i, t)
-    if pick("returnReserved", not held, "none reserved", "returned"):
+    if pick("return_reserved", not held, "none reserved", "returned"):
         return []
     t.reserved = tuple((h, e) for h, e in t.reserved if h != i)
     reinsert(now, [redelivered(e) for e in held], t)
@@ -638,9 +638,9 @@ def soonest(now, entries):
 
 def sweep_list(budget, now, entries):
     gone = 0
-    while pick("sweepList", gone < budget, "budget", "no budget"):
+    while pick("sweep_list", gone < budget, "budget", "no budget"):
         e = soonest(now, entries)
-        if pick("sweepAt", e is None, "none", "some"):
+        if pick("sweep_at", e is None, "none", "some"):
             break
         entries = tuple(f for f in entries if f.seq != e.seq)
         gone += 1
@@ -650,19 +650,19 @@ def sweep_list(budget, now, entries):
 def sweep_expired(now, most, t):
     t.pending, gone = sweep_list(most, due(now, t), t.pending)
     swept = []
-    for s in each("sweepSubs", t.subs):
+    for s in each("sweep_subs", t.subs):
         left, more = sweep_list(most - gone, due(now, t), s.tpending)
         gone += more
         swept.append(replace(s, tpending=left))
     t.subs = tuple(swept)
     t.count("expired", gone)
-    if pick("sweepExpired", gone > 0, "some", "none"):
+    if pick("sweep_expired", gone > 0, "some", "none"):
         touch_idle(now, t)
     return gone, []
 
 
 def clear(t):
-    total = len(t.pending) + len(t.reserved) + sum(len(s.inflight) + len(s.tpending) for s in each("heldRows", t.subs))
+    total = len(t.pending) + len(t.reserved) + sum(len(s.inflight) + len(s.tpending) for s in each("held_rows", t.subs))
     t.pending = t.reserved = ()
     for s in t.subs:
         pick("emptied", s.browser is None, "none", "some")
@@ -671,11 +671,11 @@ def clear(t):
 
 
 def is_producer(i, producers):
-    return any(i == j for j in each("isProducer", producers))
+    return any(i == j for j in each("is_producer", producers))
 
 
 def add_producer(i, t):
-    if not pick("addProducer", is_producer(i, t.producers), "registered", "new"):
+    if not pick("add_producer", is_producer(i, t.producers), "registered", "new"):
         t.producers += (i,)
     t.idle = None
     return 0, []
@@ -690,10 +690,10 @@ def remove_producer(now, i, t):
 
 def is_duplicate(i, q, t):
     order = dict(t.audits).get(i)
-    if pick("testAt", order is None, "none", "some"):
+    if pick("test_at", order is None, "none", "some"):
         t.audits += ((i, (q,)),)
         return 0, []
-    if pick("testAt some", q in order, "seen", "new"):
+    if pick("test_at some", q in order, "seen", "new"):
         return 1, []
     order += (q,)
     order = order[1:] if pick("recorded", len(order) > 1024, "evicts", "has room") else order
@@ -710,7 +710,7 @@ def release_audits(conn, t):
 
 
 def signed_within(half, n):
-    return n < half if pick("signedWithin", n >= 0, "pos", "negsuc") else -n <= half
+    return n < half if pick("signed_within", n >= 0, "pos", "negsuc") else -n <= half
 
 
 def clock_ok(now):
@@ -746,7 +746,7 @@ def seqs(entries):
 
 
 def sub_placed(s, kind):
-    return not s.tpending if pick("subPlaced", kind == "queue", "queue", "topic") else not shown(s.browser)
+    return not s.tpending if pick("sub_placed", kind == "queue", "queue", "topic") else not shown(s.browser)
 
 
 def sub_sound(kind, used, s):
@@ -778,11 +778,11 @@ def placed(t):
 
 
 def all_rows(t):
-    return list(t.pending) + [e for _, e in t.reserved] + [e for s in each("consumerRows", t.subs) for e in rows_of(s)]
+    return list(t.pending) + [e for _, e in t.reserved] + [e for s in each("consumer_rows", t.subs) for e in rows_of(s)]
 
 
 def own_rows(t):
-    if pick("ownRows", t.kind == "queue", "queue", "topic"):
+    if pick("own_rows", t.kind == "queue", "queue", "topic"):
         return list(t.pending) + [e for _, e in t.reserved] + taken(t.subs)
     return all_rows(t)
 
@@ -801,7 +801,7 @@ def over_share(e, t):
 
 def sizes_agree(rows):
     sizes = {}
-    return all(sizes.setdefault(e.seq, e.size) == e.size for e in each("sizesAgree", rows))
+    return all(sizes.setdefault(e.seq, e.size) == e.size for e in each("sizes_agree", rows))
 
 
 def sound(t):
@@ -816,7 +816,7 @@ def sound(t):
         and all(map(entry_ok, list(t.pending) + [e for _, e in t.reserved]))
         and ascending(seqs(t.pending))
         and all(sub_sound(t.kind, t.calls_used, s) for s in t.subs)
-        and distinct([s.id for s in each("distinctIds", t.subs)])
+        and distinct([s.id for s in each("distinct_ids", t.subs)])
         and placed(t)
         and (t.rr < len(t.subs) or t.rr == 0)
         and max(t.stats.values()) <= most
@@ -831,17 +831,17 @@ def sound(t):
 
 
 def rows_for(e, t):
-    return 1 if pick("rowsFor", t.kind == "queue", "queue", "topic") else sum(accepts(s, e) for s in t.subs)
+    return 1 if pick("rows_for", t.kind == "queue", "queue", "topic") else sum(accepts(s, e) for s in t.subs)
 
 
 def snapshot_rows(now, p, t):
-    if not pick("snapshotRows", p["browser"], "browser", "no browser"):
+    if not pick("snapshot_rows", p["browser"], "browser", "no browser"):
         return 0
     return sum(not expired(due(now, t), e) and selects(e.match_word, p["selector"]) for e in t.pending)
 
 
 def own_refusal(code, ws, t):
-    where, rows = "ownRefusal " + ("asking" if CALLS[code].asks else CALLS[code].name), all_rows(t)
+    where, rows = "own_refusal " + ("asking" if CALLS[code].asks else CALLS[code].name), all_rows(t)
     if code == 1:
         if pick(where, ws[0] in seqs(rows), "4", "not 4"):
             return 4
@@ -922,7 +922,7 @@ CALLS = {
             lambda w, t: remove_sub(w[4], ident(w), signed(w[3]), t)),
     4: Call("acknowledge", True, ack_words, lambda w: clock_ok(w[6]), lambda w, t: (0, ack(w[6], ident(w), ack_of(w), t))),
     5: Call("pulling", True, lambda w: unused_from(5, w), lambda w: clock_ok(w[4]), lambda w, t: pull(w[4], ident(w), signed(w[3]), t)),
-    6: Call("timedOut", True, lambda w: unused_from(4, w), lambda w: True, lambda w, t: (0, pull_timeout(ident(w), w[3], t))),
+    6: Call("timed_out", True, lambda w: unused_from(4, w), lambda w: True, lambda w, t: (0, pull_timeout(ident(w), w[3], t))),
     7: Call("prefetching", True, lambda w: unused_from(5, w), lambda w: signed_within(1 << 31, signed(w[3])) and clock_ok(w[4]),
             lambda w, t: (0, set_prefetch(w[4], ident(w), signed(w[3]), t))),
     8: Call("unmarking", False, lambda w: unused_from(3, w), lambda w: True, lambda w, t: unmarked(ident(w), t)),
@@ -941,19 +941,19 @@ def decode(code, ws):
     call = CALLS.get(code)
     if call is None:
         hit("read", "none")
-        hit("rangedCall", "none")
+        hit("ranged_call", "none")
         return None
     hit("read", f"code {code}")
     if not pick(f"provided (code {code})", call.right(ws), "some", "none"):
-        hit("rangedCall", "none")
+        hit("ranged_call", "none")
         return None
-    hit("rangedCall", "some")
-    hit("argumentsOk", "asking" if call.asks else call.name)
-    return call if pick(("requestOk " if call.asks else "argumentsOk ") + call.name, call.in_range(ws), "in range", "out of range") else None
+    hit("ranged_call", "some")
+    hit("arguments_ok", "asking" if call.asks else call.name)
+    return call if pick(("request_ok " if call.asks else "arguments_ok ") + call.name, call.in_range(ws), "in range", "out of range") else None
 
 
 def share_of(w):
-    return 512 if pick("shareOf", w == 0, "0", "above 0") else w
+    return 512 if pick("share_of", w == 0, "0", "above 0") else w
 
 
 def open_words(ws):
@@ -961,9 +961,9 @@ def open_words(ws):
 
 
 def open_step(ws, t):
-    if not pick("openStep", open_words(ws), "opened", "3"):
+    if not pick("open_step", open_words(ws), "opened", "3"):
         return 3, 0, [], t
-    kind = "queue" if pick("kindBy", ws[0] == 0, "true", "false") else "topic"
+    kind = "queue" if pick("kind_by", ws[0] == 0, "true", "false") else "topic"
     return 0, 0, [], Dest(kind=kind, topic_limit=ws[1], call_limit=ws[2], idle=ws[3], allowance=ws[4], share=share_of(ws[5]))
 
 
@@ -980,8 +980,8 @@ def step(code, ws, t):
     if pick("step", code == 0, "open", "a call"):
         return open_step(ws, t)
     call = decode(code, ws)
-    if pick("callStep", call is None, "none", "some"):
-        return (3 if pick("callStep none", sound(t), "3", "2") else 2), 0, [], t
+    if pick("call_step", call is None, "none", "some"):
+        return (3 if pick("call_step none", sound(t), "3", "2") else 2), 0, [], t
     number = refusal(code, ws, t)
     if not pick("call", number == 0, "done", "refused"):
         return number, 0, [], t
