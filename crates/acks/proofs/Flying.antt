@@ -1,4 +1,8 @@
 -- The rows in flight as the definitions have them: found by a number, marked, raised, removed and counted. Assumes nothing.
+use Rattle.std.specs.Prelude.{Some, None}
+use Rattle.std.specs.Prelude as Std
+use Rattle.std.specs.Bool.{then_some}
+use Rattle.std.specs.Option.{unwrap_or}
 use mathlib.Core.Path.{◌≡◌, refl, sym, ap, ap₂, ◌∙◌}
 use mathlib.Core.Bool.{Bool, true, false, not, ◌||◌}
 use mathlib.Core.List.{List, [], ◌∷◌, map}
@@ -18,45 +22,55 @@ use Rattle.definition.specs.Consumer.{Ack, dseq_of, by_seq, or0, freed_as, bumpe
 use Rattle.definition.specs.Words.{present}
 use Rattle.definition.specs.Layout.{Row, flag, inflight_at}
 use Rattle.definition.proofs.Tests.{by-test, and_left, and_right}
-use Rattle.entry.specs.declared.Found.TheVariants.{At, Nothing}
 use Rattle.table.specs.Table.{dseq_between, freed_row, mark_row, raised_row, redeliver_row, find_from, find_seq}
 use Rattle.table.proofs.Lists.{both_hold, guarded}
 use Rattle.table.proofs.Bounds.{find-in}
 use Rattle.table.proofs.Rows.{word_kept, freed-entry, freed-is, raised-entry, below, above}
 use Rattle.table.proofs.Segments.{tally-map, keep-map}
 use Rattle.table.proofs.Search.{find-from-at, find_at}
-use Rattle.acks.specs.declared.Span.{Span}
+use Rattle.table.specs.declared.Span.{Span}
+use Rattle.acks.specs.Acks.{maybe_number}
 use Rattle.acks.specs.Rules.{in_span, span_of, number_in, rows_in, span_in}
 use Rattle.acks.specs.Parts.{full_row}
 
+-- ---- numbers that may be missing
+
+pub given-some : (b : Bool) (n : ℕ) → maybe_number (then_some b n) ≡ present b n
+given-some true n = refl
+given-some false n = refl
+
+pub or0-given : (o : Std.Option ℕ) → or0 (maybe_number o) ≡ unwrap_or o 0
+or0-given None = refl
+or0-given (Some n) = refl
+
 -- ---- by_seq
 
-seen_at : (n q j : ℕ) (f : List Row) → find_from n q f ≡ At j → number_in f (some q) ≡ some (get_or (get_or f (j - n) []) 6 0)
+seen_at : (n q j : ℕ) (f : List Row) → find_from n q f ≡ Some j → number_in f (some q) ≡ some (get_or (get_or f (j - n) []) 6 0)
 unfolding find_from entry_of
 seen_at n q j [] e = absurd (let z : ◌≡◌ {A = ℕ} 0 1 = cc in omega arith)
 seen_at n q j (r ∷ f) e = by-test (eqb (get_or r 0 0) q)
     (λ t.
-    let x : At n ≡ At j = rw t at e in
+    let x : Some n ≡ Some j = rw t at e in
     let y : n ≡ j = cc in
     let z : j - n ≡ 0 = omega arith in
     rw (t, z))
     (λ t.
-    let x : find_from (suc n) q f ≡ At j = rw t at e in
+    let x : find_from (suc n) q f ≡ Some j = rw t at e in
     let z : j - n ≡ suc (j - suc n) = omega (arith, find-from-at (suc n) q j f x) in
     rw (t, z) (seen_at (suc n) q j f x))
 
-seen_none : (n q : ℕ) (f : List Row) → find_from n q f ≡ Nothing → number_in f (some q) ≡ none
+seen_none : (n q : ℕ) (f : List Row) → find_from n q f ≡ None → number_in f (some q) ≡ none
 unfolding find_from entry_of
 seen_none n q [] e = refl
 seen_none n q (r ∷ f) e = by-test (eqb (get_or r 0 0) q)
-    (λ t. let x : At n ≡ Nothing = rw t at e in absurd (let z : ◌≡◌ {A = ℕ} 0 1 = cc in omega arith))
+    (λ t. let x : Some n ≡ None = rw t at e in absurd (let z : ◌≡◌ {A = ℕ} 0 1 = cc in omega arith))
     (λ t. rw t (seen_none (suc n) q f (rw t at e)))
 
 pub rows_in_lem : (from to : ℕ) (rows : List Row) → from ≤ to → to ≤ length rows → rows_in from to rows ≡ slice from to rows
 rows_in_lem from to rows h b = both_hold from to to (length rows) (slice from to rows) [] h b
 
 module _ (from to q : ℕ) (rows : List Row) where
-  pub number-at : (j : ℕ) → find_seq from to q rows ≡ At j → number_in (rows_in from to rows) (some q) ≡ some (get_or (get_or rows j []) 6 0)
+  pub number-at : (j : ℕ) → find_seq from to q rows ≡ Some j → number_in (rows_in from to rows) (some q) ≡ some (get_or (get_or rows j []) 6 0)
   number-at j x =
       let w = find_at from to q j rows x in
       let h : from ≤ to = omega arith in
@@ -68,18 +82,10 @@ module _ (from to q : ℕ) (rows : List Row) where
       ∙ seen_at from q j (slice from to rows) (sym (find-in from to q rows h b) ∙ x)
       ∙ ap (λ (r : Row). some (get_or r 6 0)) row
 
-  pub number-none : find_seq from to q rows ≡ Nothing → number_in (rows_in from to rows) (some q) ≡ none
+  pub number-none : find_seq from to q rows ≡ None → number_in (rows_in from to rows) (some q) ≡ none
   number-none x = guarded (λ (l : List Row). number_in l (some q) ≡ none) from to to (length rows) (slice from to rows) []
       (λ h b. seen_none from q (slice from to rows) (sym (find-in from to q rows h b) ∙ x))
       refl
-
--- a number that is given, and one that is not
-module _ (l : List Row) (b : Bool) (q : ℕ) where
-  pub number-given : b ≡ true → number_in l (present b q) ≡ number_in l (some q)
-  number-given e = ap (λ (x : Bool). number_in l (present x q)) e
-
-  pub number-absent : b ≡ false → number_in l (present b q) ≡ none
-  number-absent e = ap (λ (x : Bool). number_in l (present x q)) e
 
 -- of a consumer with these rows in flight
 module _ (s : Sub) (l : List Row) (e : s.inflight ≡ map inflight_at l) where

@@ -28,7 +28,7 @@ use Rattle.table.proofs.Bounds.{count-in, gone-in}
 use Rattle.table.proofs.Laws.{map-length, map-after, map-parts, remove-length, remove-after, remove-parts}
 use Rattle.table.proofs.Segments.{tally-map, kept-length}
 use Rattle.table.proofs.Strict.{mark-strict, redeliver-strict}
-use Rattle.acks.specs.declared.Span.{Span}
+use Rattle.table.specs.declared.Span.{Span}
 use Rattle.acks.specs.Rules.{in_span, silently, acts, removed_counts, removed_events}
 use Rattle.acks.specs.Parts.{full_row, own_flying, own_held, own_after, own_view, Own, Told, Acted}
 use Rattle.acks.proofs.Flying.{mark-flying, raise-flying, keep-flying, tally-flying}

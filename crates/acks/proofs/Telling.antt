@@ -27,7 +27,7 @@ use Rattle.state.specs.declared.Head.{Head}
 use Rattle.state.specs.State.{with_counters, with_events}
 use Rattle.state.proofs.Counts.{discarded-plain}
 use Rattle.state.proofs.Events.{pushed_room, events-up-to, events-after}
-use Rattle.acks.specs.declared.Span.{Span}
+use Rattle.table.specs.declared.Span.{Span}
 use Rattle.acks.specs.Rules.{in_span, counts_of, events_of, removed_counts, removed_events}
 use Rattle.acks.specs.Parts.{full_row, Dying, Told, dead_head, dead_events, row_letters, row_discards}
 use Rattle.acks.proofs.Flying.{tally-flying}

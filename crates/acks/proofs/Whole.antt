@@ -1,4 +1,5 @@
 -- A step of one consumer in the whole destination: what it leaves of its own part of the tables, it leaves of the view. Assumes nothing.
+use Rattle.std.specs.Prelude.{Some}
 use mathlib.Core.Path.{◌≡◌, sym, ap, ap₂, ◌∙◌}
 use mathlib.Core.Bool.{true}
 use mathlib.Core.List.{List, [], ◌∷◌, ◌++◌, map}
@@ -17,7 +18,6 @@ use Rattle.definition.specs.Words.{at}
 use Rattle.definition.specs.Layout.{Row, held_at, inflight_count, held_count, sub_at, subs_at, sub_rows, event_words, entry_strict, subs_strict}
 use Rattle.table.proofs.Lists.{slice-take}
 use Rattle.consumers.specs.declared.Sub.{Sub}
-use Rattle.entry.specs.declared.Found.TheVariants.{At}
 use Rattle.consumers.specs.Consumers.{sub_words}
 use Rattle.consumers.specs.Consumers as Value
 use Rattle.consumers.specs.Seats.{after_in, sub_in}
@@ -206,7 +206,7 @@ module _ (subs rows events : List Row) (d : Head) (fits : Fits subs d (length ro
             others = ap (all entry_strict) (same-part 0 m (omega arith)) ∙ g.others;
           })
 
-      module _ (id : Id) (e : position_from 0 id ws ≡ At i) where
+      module _ (id : Id) (e : position_from 0 id ws ≡ Some i) where
         abbrev does : Dest → Out
         does x = step_at step id x (sub_of id x)
 
@@ -288,14 +288,14 @@ module _ (subs rows events : List Row) (d : Head) (fits : Fits subs d (length ro
       pub own_at : Own (length rows) b x d
       own_at = rw (base-is b eb, sub_is x ex) own
 
-      pub found-own : (id : Id) → position_from 0 id ws ≡ At i → (ps : List Id) (us : List Audit) → sub_of id (head_view d subs rows ps us) ≡ some (own_view k b x rows)
+      pub found-own : (id : Id) → position_from 0 id ws ≡ Some i → (ps : List Id) (us : List Audit) → sub_of id (head_view d subs rows ps us) ≡ some (own_view k b x rows)
       unfolding head_view
       found-own id e ps us = found_at id ws i e k rows ∙ ap some (sym own_view_lem) ∙ ap₂ (λ (m : ℕ) (y : Sub). some (own_view k m y rows)) (sym (base-is b eb)) (sym (sub_is x ex))
 
       pub acked-at : (c : Ack) (t : Sub) (r : Head) (subs' rows' events' : List Row) → subs' ≡ set subs i (sub_words t) → Acted (ack_sub c) k b x t d r rows events rows' events'
-          → (id : Id) → position_from 0 id ws ≡ At i → Leaves (acked id c) d r subs rows events subs' rows' events' × Room d r
+          → (id : Id) → position_from 0 id ws ≡ Some i → Leaves (acked id c) d r subs rows events subs' rows' events' × Room d r
       unfolding acked
       acked-at c t r subs' rows' events' es a id e = rw es (whole-step (ack_sub c) t r rows' events' (rw (base-is b eb, sub_is x ex) at a) id e)
 
-  pub place-within : (id : Id) (i : ℕ) → position_from 0 id ws ≡ At i → i < d.consumers
+  pub place-within : (id : Id) (i : ℕ) → position_from 0 id ws ≡ Some i → i < d.consumers
   place-within id i e = omega (arith, position-within id ws i e, size)

@@ -1,6 +1,6 @@
 -- What an acknowledgement does by its rule: which delivery numbers it means, and what becomes of what has them. The laws of Rules in proofs/
 -- say that this is `ack_sub` of the definitions, type by type. Assumes nothing.
-use Rattle.std.specs.Prelude.{ℕ, min, Bool, true, false, not, ◌&&◌, List, [], map, leb, eqb, length}
+use Rattle.std.specs.Prelude.{ℕ, min, Bool, true, false, not, ◌&&◌, List, [], map, eqb, length}
 use Rattle.std.proofs.Math.Option.{Option, none, some}
 use Rattle.std.proofs.Math.Seq.{slice}
 use Rattle.model.specs.declared.AckRange.{AckRange}
@@ -14,17 +14,10 @@ use Rattle.definition.specs.Types.{Inflight, Sub, Stats, Event}
 use Rattle.definition.specs.Consumer.{zero_stats, add_dequeued, add_expired, add_discarded, Step, is_browser, Ack, dseq_of, or0, free, remove_inflight, redeliver, dead_letters}
 use Rattle.definition.specs.Layout.{Row, inflight_at}
 use Rattle.table.specs.Table.{inside}
-use Rattle.acks.specs.declared.Span.{Span}
+pub use Rattle.table.specs.Table.{in_numbers, no_span}
+use Rattle.table.specs.declared.Span.{Span}
 
 -- ---- which
-
--- a number is from first to last
-abbrev pub in_numbers : Span → ℕ → Bool
-in_numbers p n = leb p.first n && leb n p.last
-
--- none is from 1 to 0
-abbrev pub no_span : Span
-no_span = record { first = 1; last = 0 }
 
 -- by the delivery numbers of the ack's first (0 for none) and of its last
 abbrev pub span_of : AckRange → ℕ → Option ℕ → Span

@@ -4,53 +4,27 @@
 ghost use Rattle.std.specs.Prelude.{◌≡◌, length};
 ghost use Rattle.std.proofs.Math.Option.{some};
 ghost use Rattle.definition.specs.Types.{letter};
-ghost use Rattle.definition.specs.Consumer.{or0};
 ghost use Rattle.definition.specs.Words.{ack_in};
-ghost use Rattle.acks.specs.Acks.{ack_of};
-ghost use Rattle.acks.specs.Rules.{no_span, in_numbers, span_of, number_in, rows_in, span_in};
+ghost use Rattle.acks.specs.Acks.{maybe_number, ack_of};
+ghost use Rattle.acks.specs.Rules.{span_of, number_in, rows_in, span_in};
 ghost use Rattle.acks.specs.Parts.{dead_head, dead_events};
 
-use entry::{DSEQ, Entry, Found, Row};
+use entry::{DSEQ, Entry, Row};
 use model::AckRange;
 use state::{Event, Head};
+pub use table::Span;
 
 // MessageAck: the type's byte, the first and the last number where they are given, whether a cause came with it.
 #[derive(Clone, Copy)]
 pub struct Ack {
-    pub first: u64,
-    pub last: u64,
     pub kind: u8,
     pub transacted: bool,
-    pub has_first: bool,
-    pub has_last: bool,
+    pub first: Option<u64>,
+    pub last: Option<u64>,
     pub cause: bool,
 }
 
-// The numbers from first to last, both included; none where last is below first.
-#[derive(Clone, Copy)]
-pub struct Span {
-    pub first: u64,
-    pub last: u64,
-}
-
-impl Span {
-    pub fn none() -> Span
-        ensures { result ≡ no_span }
-    {
-        Span { first: 1, last: 0 }
-    }
-
-    pub fn has(self, number: u64) -> bool
-        ensures { result ≡ in_numbers self number }
-    {
-        if number < self.first {
-            return false;
-        }
-        number <= self.last
-    }
-}
-
-// The ack in a call's words.
+// The ack in a call's words. Not a From: eight words are those of any call.
 pub fn ack_of(w: [u64; 8]) -> Ack
     ensures { ack_of result ≡ ack_in w }
 {
@@ -61,29 +35,22 @@ pub fn ack_of(w: [u64; 8]) -> Ack
     let has_last = calls::flag_of(flags, 10);
     let cause = calls::flag_of(flags, 11);
     Ack {
-        first: w[4],
-        last: w[5],
         kind,
         transacted,
-        has_first,
-        has_last,
+        first: has_first.then_some(w[4]),
+        last: has_last.then_some(w[5]),
         cause,
     }
 }
 
 // ---- which rows an ack means
 
-// The delivery number of the ack's first, among the rows from..to in flight; or 0.
-fn first_of(rows: &[Row], from: usize, to: usize, a: Ack) -> u64
-    ensures { result ≡ or0 (number_in (rows_in from to rows.now) (ack_of a).first) }
+// The delivery number of the row with a sequence number, among the rows from..to in flight.
+fn number_of(rows: &[Row], from: usize, to: usize, seq: Option<u64>) -> Option<u64>
+    ensures { maybe_number result ≡ number_in (rows_in from to rows.now) (maybe_number seq) }
 {
-    if !a.has_first {
-        return 0;
-    }
-    match table::find_seq(rows, from, to, a.first) {
-        Found::At(i) => rows[i][DSEQ],
-        Found::Nothing => 0,
-    }
+    let i = table::find_seq(rows, from, to, seq?)?;
+    Some(rows[i][DSEQ])
 }
 
 fn ranged(range: AckRange, first: u64, last: u64) -> Span
@@ -92,7 +59,7 @@ fn ranged(range: AckRange, first: u64, last: u64) -> Span
     match range {
         AckRange::Empty => Span::none(),
         AckRange::Between => Span {
-            first: consumers::least(first, last),
+            first: first.min(last),
             last,
         },
         AckRange::Cumulative => Span { first: 0, last },
@@ -104,17 +71,11 @@ fn ranged(range: AckRange, first: u64, last: u64) -> Span
 pub fn span_of(rows: &[Row], from: usize, to: usize, a: Ack, range: AckRange) -> Span
     ensures { result ≡ span_in range (ack_of a) (rows_in from to rows.now) }
 {
-    if !a.has_last {
+    let Some(last) = number_of(rows, from, to, a.last) else {
         return Span::none();
-    }
-    match table::find_seq(rows, from, to, a.last) {
-        Found::At(i) => {
-            let last = rows[i][DSEQ];
-            let first = first_of(rows, from, to, a);
-            ranged(range, first, last)
-        }
-        Found::Nothing => Span::none(),
-    }
+    };
+    let first = number_of(rows, from, to, a.first).unwrap_or(0);
+    ranged(range, first, last)
 }
 
 // ---- what becomes of them

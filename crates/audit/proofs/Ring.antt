@@ -6,10 +6,12 @@ use mathlib.Core.List.{List, [], ◌∷◌, ◌++◌, append_assoc, append-nil}
 use Prim.Native.Nat.{ℕ, suc, ◌+◌, ◌≤◌, ◌<◌}
 use native.Mathlib.Numerals.{add-one}
 use native.Mathlib.Omega.{arith}
-use borrow.Author.Tests.{lt-ltb, le-ltb, eq-eqb, ltb-true, ltb-false, eqb-true, ne_eqb}
+use borrow.Author.Tests.{lt-ltb, le-ltb, eq-eqb, ltb-true, ltb-false, eqb-true, eqb-false, ne_eqb}
 use lib.Dec.{eqb, ltb}
-use lib.ListN.{length, take, drop, get_or, set, length-append, length-take, length-drop, length-set, take-append-drop, drop_of_length-le}
-use lib.Seq.{length-take-le, take_all, take-take, drop-cons, get_or-take, drop-set-lt, take-set-lt, take-suc-set}
+use lib.ListN.{length, take, drop, set, length-append, length-take, length-drop, length-set, take-append-drop, drop_of_length-le}
+use lib.Seq.{length-take-le, take_all, take-take, drop-cons, drop-set-lt, take-set-lt, take-suc-set}
+use Rattle.std.specs.List.{list_any}
+use Rattle.std.specs.Bool.{nat_eq}
 use Rattle.audit.specs.declared.Audit.{Audit}
 use Rattle.audit.specs.Audit.{audit_window, seen, recorded, check_and_record, order_of, ring_sound, new_audit, place, ring_next, ring_refusal, RingLeft, ring_left, ring_step, CheckedAndRecorded}
 
@@ -26,21 +28,17 @@ seen_turned q n l =
     ∙ (or_comm (seen q (drop n l)) (seen q (take n l))
     ∙ (sym (seen-append q (take n l) (drop n l)) ∙ ap (seen q) (take-append-drop n l)))
 
--- the search of the first n words, from place i on
-module _ (q : ℕ) (w : List ℕ) (i n : ℕ) where
-  cons : i < n → n ≤ length w → drop i (take n w) ≡ get_or w i 0 ∷ drop (i + 1) (take n w)
-  cons h k =
-      let e : i < length (take n w) = simp length-take (omega arith) in
-      rw (add-one, ← get_or-take n w i 0 h) (drop-cons (take n w) i 0 e)
-
-  pub seen_here : i < n → n ≤ length w → get_or w i 0 ≡ q → seen q (drop i (take n w)) ≡ true
-  seen_here h k e = rw (cons h k, eq-eqb q (get_or w i 0) (sym e))
-
-  pub seen_next : i < n → n ≤ length w → (get_or w i 0 ≡ q → ⊥) → seen q (drop i (take n w)) ≡ seen q (drop (i + 1) (take n w))
-  seen_next h k e = rw (cons h k, ne_eqb q (get_or w i 0) (λ z. e (sym z)))
-
-  pub seen_end : n ≤ i → seen q (drop i (take n w)) ≡ false
-  seen_end h = ap (seen q) (drop_of_length-le (take n w) {i = i} (simp length-take (omega arith)))
+-- as a slice's `contains` says it
+pub seen-any : (q : ℕ) (xs : List ℕ) → seen q xs ≡ list_any (λ y. nat_eq y q) xs
+seen-any q [] = refl
+seen-any q (x ∷ xs) = ap₂ ◌||◌ (turned q x) (seen-any q xs)
+  where
+    turned : (a b : ℕ) → eqb a b ≡ nat_eq b a
+    turned a b = by (eqb a b) refl
+      where
+        by : (t : Bool) → eqb a b ≡ t → eqb a b ≡ nat_eq b a
+        by true e = e ∙ sym (eq-eqb b a (sym (eqb-true a b e)))
+        by false e = e ∙ sym (ne_eqb b a (λ z. eqb-false a b e (sym z)))
 
 -- ---- a ring of m words: the n numbers from s on
 

@@ -2,8 +2,8 @@
 // The functions named `audit_..` are the same for C: crate audit_c exports them, and include/audit.h describes them.
 #![tactic(auto)]
 
-ghost use Rattle.std.specs.Prelude.{◌≡◌, ◌≤◌, length, take};
-ghost use Rattle.audit.specs.Audit.{audit_window, seen, ring_sound, new_audit, place, ring_next, CheckedAndRecorded};
+ghost use Rattle.std.specs.Prelude.{◌≡◌};
+ghost use Rattle.audit.specs.Audit.{audit_window, ring_sound, new_audit, place, ring_next, CheckedAndRecorded};
 
 // Where the oldest number stands in the window, and how many there are. Until the window is full the oldest stands at 0.
 #[repr(C)]
@@ -14,7 +14,7 @@ pub struct Audit {
 }
 
 // What a check leaves: the refusal (0 none, 1 the window is short, 2 the audit is out of range), the audit, and whether
-// the number was there.
+// the number was there. Not a Result: the struct is C's, and `CheckedAndRecorded` tells of all its fields.
 #[repr(C)]
 #[derive(Clone, Copy)]
 pub struct Checked {
@@ -63,36 +63,18 @@ impl Audit {
     {
         if self.count < Audit::WINDOW {
             return Audit {
-                start: self.start,
                 count: self.count + 1,
+                ..self
             };
         }
         if self.start < Audit::WINDOW - 1 {
             return Audit {
                 start: self.start + 1,
-                count: self.count,
+                ..self
             };
         }
-        Audit {
-            start: 0,
-            count: self.count,
-        }
+        Audit { start: 0, ..self }
     }
-}
-
-// Whether the number stands among the first n words.
-fn seen(window: &[u64], n: usize, number: u64) -> bool
-    requires { n ≤ length window.now }
-    ensures { result ≡ seen number (take n window.now) }
-{
-    let mut i = 0;
-    while i < n {
-        if window[i] == number {
-            return true;
-        }
-        i += 1;
-    }
-    false
 }
 
 // Tests whether the number is among those recorded, and records it if not: at the end, or over the oldest where the
@@ -114,20 +96,17 @@ pub fn check_and_record(window: &mut [u64], a: Audit, number: u64) -> Checked
             duplicate: false,
         };
     }
-    let count = a.count;
-    if seen(window, count, number) {
+    if window[..a.count].contains(&number) {
         return Checked {
             refusal: 0,
             audit: a,
             duplicate: true,
         };
     }
-    let at = a.place();
-    window[at] = number;
-    let after = a.next();
+    window[a.place()] = number;
     Checked {
         refusal: 0,
-        audit: after,
+        audit: a.next(),
         duplicate: false,
     }
 }

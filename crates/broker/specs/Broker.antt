@@ -1,7 +1,8 @@
 -- mod.rs: the memory limit, and what becomes of an expiration on arrival. Assumes nothing.
-use Rattle.std.specs.Prelude.{◌≡◌, ℕ, ◌+◌, ◌*◌, ◌/◌, ◌^◌, Bool, true, false, not, ◌&&◌, ◌||◌, eqb, ltb, ℤ, pos, nat_abs, ◌+ℤ◌, ◌-ℤ◌}
+use Rattle.std.specs.Prelude.{◌≡◌, ℕ, ◌+◌, ◌*◌, ◌/◌, ◌^◌, Bool, true, false, not, ◌&&◌, ◌||◌, eqb, ltb, ℤ, pos, nat_abs, ◌+ℤ◌, ◌-ℤ◌, Result, Ok, Err}
 use Rattle.std.specs.Int.Signed.{lt_z, le_z}
 use Rattle.words.specs.Pick.{whether◌then◌else◌}
+use Rattle.broker.specs.declared.OutOfRange.{OutOfRange}
 use Rattle.broker.specs.declared.Admission.{Admission}
 use Rattle.broker.specs.declared.Times.{Times}
 use Rattle.broker.specs.declared.ExpiryOptions.{ExpiryOptions}
@@ -9,12 +10,16 @@ use Rattle.broker.specs.declared.Arrival.{Arrival}
 
 -- ---- admit_memory
 
+-- a number is outside its range
+abbrev pub not_in_range : OutOfRange
+not_in_range = record {}
+
 -- limit, used and size are at most this
 abbrev pub memory_most : ℕ
 memory_most = 2 ^ 60
 
-abbrev pub admission : ℕ → Bool → Bool → Admission
-admission refusal admitted limited = record { refusal = refusal; admitted = admitted; limited = limited }
+abbrev pub admission : Bool → Bool → Admission
+admission admitted limited = record { admitted = admitted; limited = limited }
 
 -- used < limit * 9 / 10
 abbrev pub below_nine_tenths : ℕ → ℕ → Bool
@@ -23,16 +28,16 @@ below_nine_tenths used limit = ltb used (limit * 9 / 10)
 -- if used + size > limit { limited = true; return false } true; the flag is clear here
 abbrev pub room_for : ℕ → ℕ → ℕ → Admission
 room_for limit used size =
-    whether ltb limit (used + size) then admission 0 false true
-    else admission 0 true false
+    whether ltb limit (used + size) then admission false true
+    else admission true false
 
 -- out of range; if limit == 0 { return true }; if limited { if used < limit * 9 / 10 { limited = false } else { return false } }
-unfoldable pub admit_memory : ℕ → Bool → ℕ → ℕ → Admission
+unfoldable pub admit_memory : ℕ → Bool → ℕ → ℕ → Result Admission OutOfRange
 admit_memory limit limited used size =
-    whether ltb memory_most limit || ltb memory_most used || ltb memory_most size then admission 3 false limited
-    else whether eqb limit 0 then admission 0 true limited
-    else whether limited && not (below_nine_tenths used limit) then admission 0 false true
-    else room_for limit used size
+    whether ltb memory_most limit || ltb memory_most used || ltb memory_most size then Err not_in_range
+    else whether eqb limit 0 then Ok (admission true limited)
+    else whether limited && not (below_nine_tenths used limit) then Ok (admission false true)
+    else Ok (room_for limit used size)
 
 -- ---- apply_expiry_options
 
@@ -98,8 +103,8 @@ capped cfg msg base =
     whether lt_z (pos 0) cfg.ttl_ceiling && lt_z (pos 0) msg.expiration && lt_z cap msg.expiration then times cap msg.timestamp
     else msg
 
-abbrev pub arrival : ℕ → Times → Bool → Arrival
-arrival refusal msg live = record { refusal = refusal; expiration = msg.expiration; timestamp = msg.timestamp; live = live }
+abbrev pub arrival : Times → Bool → Arrival
+arrival msg live = record { times = msg; live = live }
 
 -- msg.expiration > 0 && msg.expiration <= now
 unfoldable pub times_expired : Times → ℤ → Bool
@@ -112,8 +117,8 @@ expiry_steps cfg msg now =
     let base = base_of cfg a now in
     capped cfg (defaulted cfg a base now) base
 
-unfoldable pub apply_expiry_options : ExpiryOptions → Times → ℤ → Arrival
+unfoldable pub apply_expiry_options : ExpiryOptions → Times → ℤ → Result Arrival OutOfRange
 apply_expiry_options cfg msg now =
     let m = expiry_steps cfg msg now in
-    whether times_and_settings_ok cfg msg now then arrival 0 m (not (times_expired m now))
-    else arrival 3 msg false
+    whether times_and_settings_ok cfg msg now then Ok (arrival m (not (times_expired m now)))
+    else Err not_in_range

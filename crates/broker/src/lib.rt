@@ -10,10 +10,26 @@ const TIME_MOST: i64 = 4611686018427387904;
 
 const SETTING_MOST: i64 = 2305843009213693952;
 
-// 0, or 3 where a number is outside its range; whether the message is admitted; the flag.
+// A number is outside its range.
+#[derive(Clone, Copy, PartialEq, Eq)]
+pub struct OutOfRange;
+
+impl OutOfRange {
+    // Its number in the papers.
+    pub const NUMBER: u64 = 3;
+}
+
+impl From<OutOfRange> for u64 {
+    ghost from_gives = { λ _ n. n ≡ 3 };
+
+    fn from(_e: OutOfRange) -> u64 {
+        OutOfRange::NUMBER
+    }
+}
+
+// Whether the message is admitted, and the flag.
 #[derive(Clone, Copy)]
 pub struct Admission {
-    pub refusal: u64,
     pub admitted: bool,
     pub limited: bool,
 }
@@ -32,44 +48,41 @@ fn room_for(limit: u64, used: u64, size: u64) -> Admission
 {
     if limit < used + size {
         Admission {
-            refusal: 0,
             admitted: false,
             limited: true,
         }
     } else {
         Admission {
-            refusal: 0,
             admitted: true,
             limited: false,
         }
     }
 }
 
-pub fn admit_memory(limit: u64, limited: bool, used: u64, size: u64) -> Admission
+pub fn admit_memory(
+    limit: u64,
+    limited: bool,
+    used: u64,
+    size: u64,
+) -> Result<Admission, OutOfRange>
     ensures { result ≡ admit_memory limit limited used size }
 {
     if MEMORY_MOST < limit || MEMORY_MOST < used || MEMORY_MOST < size {
-        return Admission {
-            refusal: 3,
-            admitted: false,
-            limited,
-        };
+        return Err(OutOfRange);
     }
     if limit == 0 {
-        return Admission {
-            refusal: 0,
+        return Ok(Admission {
             admitted: true,
             limited,
-        };
+        });
     }
     if limited && !below_nine_tenths(used, limit) {
-        return Admission {
-            refusal: 0,
+        return Ok(Admission {
             admitted: false,
             limited: true,
-        };
+        });
     }
-    room_for(limit, used, size)
+    Ok(room_for(limit, used, size))
 }
 
 // What a message carries of time.
@@ -87,12 +100,10 @@ pub struct ExpiryOptions {
     pub use_broker_clock: bool,
 }
 
-// 0, or 3 where a number is outside its range; the message's times; whether it is not yet expired.
+// The message's times, and whether it is not yet expired.
 #[derive(Clone, Copy)]
 pub struct Arrival {
-    pub refusal: u64,
-    pub expiration: i64,
-    pub timestamp: i64,
+    pub times: Times,
     pub live: bool,
 }
 
@@ -117,10 +128,7 @@ fn settings_in_range(o: ExpiryOptions) -> bool
 fn in_range(o: ExpiryOptions, t: Times, now: i64) -> bool
     ensures { result ≡ times_and_settings_ok o t now }
 {
-    if !times_in_range(t) {
-        return false;
-    }
-    settings_in_range(o) && within(now, TIME_MOST)
+    times_in_range(t) && settings_in_range(o) && within(now, TIME_MOST)
 }
 
 // The ttl is expiration less timestamp, and a negative one counts as 0.
@@ -187,7 +195,7 @@ fn capped(o: ExpiryOptions, t: Times, base: i64) -> Times
         if cap < t.expiration {
             return Times {
                 expiration: cap,
-                timestamp: t.timestamp,
+                ..t
             };
         }
     }
@@ -200,25 +208,18 @@ fn expired(t: Times, now: i64) -> bool
     0 < t.expiration && t.expiration <= now
 }
 
-pub fn apply_expiry_options(o: ExpiryOptions, t: Times, now: i64) -> Arrival
+pub fn apply_expiry_options(o: ExpiryOptions, t: Times, now: i64) -> Result<Arrival, OutOfRange>
     ensures { result ≡ apply_expiry_options o t now }
 {
     if !in_range(o, t, now) {
-        return Arrival {
-            refusal: 3,
-            expiration: t.expiration,
-            timestamp: t.timestamp,
-            live: false,
-        };
+        return Err(OutOfRange);
     }
     let a = rebased(o, t, now);
     let base = base_of(o, a, now);
     let b = defaulted(o, a, base, now);
     let c = capped(o, b, base);
-    Arrival {
-        refusal: 0,
-        expiration: c.expiration,
-        timestamp: c.timestamp,
+    Ok(Arrival {
+        times: c,
         live: !expired(c, now),
-    }
+    })
 }

@@ -34,13 +34,15 @@ fn drop_waiting(rows: &mut [Row], mut d: Head, seq: u64) -> Head
 }
 
 // `Sub::send_null`, and the browser is finished.
-fn closed(mut s: Sub) -> Sub
+fn closed(s: Sub) -> Sub
     ensures { result ≡ closed_sub s }
 {
-    s.finished = true;
-    s.pulling = false;
-    s.pull = 0;
-    s
+    Sub {
+        finished: true,
+        pulling: false,
+        pull: 0,
+        ..s
+    }
 }
 
 // A browser, whose rows begin at base: its snapshot goes out while there is credit.
@@ -58,6 +60,7 @@ fn send_snapshot(
 {
     let mut s = start;
     let mut d = before;
+    // A while: the browser and the rows change as copies go.
     while 0 < s.held {
         if !s.has_credit() {
             return Left { sub: s, head: d };
@@ -119,23 +122,19 @@ fn serve_each(
     requires { Fits subs.old before (length rows.old) (length events.old) × (before.queue ≡ true) × (by ≤ 2 ^ 62) }
     ensures { Leaves (browsed by) before result subs.old rows.old events.old subs.new rows.new events.new × BrowsersServed before result subs.new }
 {
-    let n = before.consumers;
     let mut d = before;
     let mut base = 0;
-    let mut i = 0;
-    while i < n {
+    for i in 0..before.consumers {
         let s = consumers::load(subs, i);
-        if s.browser {
-            let r = dispatch_browser(rows, events, base, s, d, by);
-            let t = r.sub;
-            d = r.head;
-            base = base + t.inflight + t.held;
-            consumers::store(subs, i, t);
-            i += 1;
-        } else {
+        if !s.browser {
             base = base + s.inflight + s.held;
-            i += 1;
+            continue;
         }
+        let r = dispatch_browser(rows, events, base, s, d, by);
+        let t = r.sub;
+        d = r.head;
+        base = base + t.inflight + t.held;
+        consumers::store(subs, i, t);
     }
     d
 }

@@ -1,11 +1,12 @@
 -- Numbers put byte by byte, and words one after the other. Assumes nothing.
-use Prim.Native.Nat.{ℕ, zero, suc, ◌+◌, ◌-◌, ◌*◌, ◌<◌, ◌/◌, ◌%◌}
+use Prim.Native.Nat.{ℕ, zero, suc, ◌+◌, ◌-◌, ◌*◌, ◌<◌, ◌≤◌, ◌/◌, ◌%◌}
 use native.Mathlib.Numerals.{add-one}
 use native.Mathlib.Omega.{arith}
 use mathlib.Core.Path.{◌≡◌, refl, ap, sym, ◌∙◌}
 use mathlib.Core.List.{List, [], ◌∷◌, ◌++◌, append-nil, append_assoc}
-use lib.ListN.{length, get_or, take, set, length-append}
-use lib.Seq.{sets, take-suc}
+use lib.ListN.{length, get_or, take, drop, set, length-append}
+use lib.Seq.{take_all, sets, sets-eq, drop-drop, take-suc, take-suc-set}
+use borrow.Rule.Slice.PartMut.{put_mid}
 use Rattle.callblocks.specs.Packed.{low_bytes, word_bytes}
 
 pub bytes-length : (k n : ℕ) → length (low_bytes k n) ≡ k
@@ -13,16 +14,28 @@ unfolding low_bytes
 bytes-length zero n = refl
 bytes-length (suc k) n = ap suc (bytes-length k (n / 256))
 
--- the first byte of those that are left
-pub one_byte : (block : List ℕ) (next left rest : ℕ) → 0 < left → sets (set block next (rest % 256)) (next + 1) (low_bytes (left - 1) (rest / 256)) ≡ sets block next (low_bytes left rest)
+-- a byte more of a number, of which the bytes so far stand in front
+pub byte-next : (xs all : List ℕ) (j k n : ℕ) → j < k → k ≡ length xs → take j xs ++ low_bytes (k - j) n ≡ all → take (j + 1) (set xs j (n % 256)) ++ low_bytes (k - (j + 1)) (n / 256) ≡ all
 unfolding low_bytes
-one_byte block next zero rest h = absurd (omega arith)
-one_byte block next (suc left) rest h = let e : suc left - 1 ≡ left = omega arith in rw (add-one next, e)
+byte-next xs all j k n h e f =
+    let d : k - j ≡ suc (k - (j + 1)) = omega arith in
+    let g : take j xs ++ (n % 256 ∷ low_bytes (k - (j + 1)) (n / 256)) ≡ all = rw d at f in
+    let b : j < length xs = omega arith in
+    rw (add-one j, take-suc-set xs j (n % 256) b, append_assoc) (rw (add-one j) at g)
 
-pub no_byte : (block : List ℕ) (next left rest : ℕ) → left ≡ 0 → sets block next (low_bytes left rest) ≡ block
+-- no byte more
+pub byte-end : (xs all : List ℕ) (j k n : ℕ) → k ≤ j → k ≡ length xs → take j xs ++ low_bytes (k - j) n ≡ all → xs ≡ all
 unfolding low_bytes
-no_byte block next zero rest h = refl
-no_byte block next (suc left) rest h = absurd (omega arith)
+byte-end xs all j k n h e f =
+    let d : k - j ≡ 0 = omega arith in
+    let g : take j xs ++ [] ≡ all = rw d at f in
+    sym (append-nil (take j xs) ∙ take_all j xs (omega arith)) ∙ g
+
+-- a part of a list, overwritten
+pub part-put : {part ys : List ℕ} (l : List ℕ) (at k : ℕ) → ys ≡ part → k ≡ length part → at + k ≤ length l → put_mid at k l ys ≡ sets l at part
+part-put {part} {ys} l at k e h f =
+    let d : drop k (drop at l) ≡ drop (at + length part) l = drop-drop k at l ∙ ap (λ (n : ℕ). drop (at + n) l) h in
+    rw (e, d) (sym (sets-eq part l at (omega arith) ∙ append_assoc (take at l) part (drop (at + length part) l)))
 
 -- ---- words
 

@@ -23,16 +23,12 @@ fn put_bytes(block: &mut [u8], at: usize, size: usize, n: u64) -> usize
     requires { at + size ≤ (length block.old) }
     ensures { Puts (low_bytes size n) at block.old result block.new }
 {
-    let mut left = size;
     let mut rest = n;
-    let mut next = at;
-    while 0 < left {
-        block[next] = low(rest);
+    for b in &mut block[at..at + size] {
+        *b = low(rest);
         rest = rest / 256;
-        next += 1;
-        left -= 1;
     }
-    next
+    at + size
 }
 
 // Eight words.
@@ -41,10 +37,8 @@ fn put_words(block: &mut [u8], at: usize, w: [u64; 8]) -> usize
     ensures { Puts (word_bytes w) at block.old result block.new }
 {
     let mut next = at;
-    let mut k = 0;
-    while k < 8 {
-        next = put_bytes(block, next, 8, w[k]);
-        k += 1;
+    for x in &w {
+        next = put_bytes(block, next, 8, *x);
     }
     next
 }

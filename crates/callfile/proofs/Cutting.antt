@@ -1,16 +1,15 @@
 -- A file cut anywhere: what is begun and what is to come make the same blocks. Assumes nothing.
 use Prim.Native.Nat.{ℕ, zero, suc, ◌+◌, ◌-◌, ◌≤◌, ◌<◌, min}
 use native.Mathlib.Omega.{arith}
-use mathlib.Core.Path.{◌≡◌, refl, sym, ap, ap₂, ◌∙◌, subst}
-use mathlib.Core.Bool.{Bool, true, false, not, ◌&&◌}
+use mathlib.Core.Path.{◌≡◌, refl, sym, ap, ap₂, ◌∙◌}
+use mathlib.Core.Bool.{Bool, true, false}
 use mathlib.Core.List.{List, [], ◌∷◌, ◌++◌, append_assoc, append-nil}
 use borrow.Author.Tests.{ltb-true, ltb-false, eqb-true, eqb-false}
 use lib.Dec.{ltb, eqb}
-use lib.ListN.{length, take, drop, length-append, length-take, length-drop, take-append-drop, drop_of_length-le}
+use lib.ListN.{length, take, drop, length-append, length-take, length-drop, drop_of_length-le}
 use lib.Seq.{take_all, take_at, drop_at}
 use Rattle.words.specs.Pick.{whether◌then◌else◌}
 use Rattle.words.proofs.Tests.{by-test}
-use Rattle.stats.specs.Counted.{more}
 use Rattle.callfile.specs.Cutting.{cut_at_most, cut_blocks, Did, Work, silent, printed_before, along_blocks, Stage, StepTaken, beginning, lacked, with_bytes, take_piece, end_of_file, along_rest, along_pieces, inARow, CutAnywhere}
 
 -- ---- blocks

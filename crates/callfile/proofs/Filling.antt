@@ -2,10 +2,13 @@
 use Prim.Native.Nat.{ℕ, ◌+◌, ◌-◌, ◌≤◌, min}
 use native.Mathlib.Nat.{add-zero}
 use native.Mathlib.Omega.{arith}
-use mathlib.Core.Path.{◌≡◌, refl, sym, ap, ap₂, ◌∙◌}
+use mathlib.Core.Path.{◌≡◌, refl, sym, ap, ap₂, ◌∙◌, subst}
 use mathlib.Core.List.{List, [], ◌∷◌, ◌++◌, append_assoc}
 use lib.ListN.{length, take, drop, length-append, length-take, length-drop, take-append-drop}
-use lib.Seq.{sets, sets-eq, take_all, take_at}
+use lib.Seq.{sets-eq, take_at}
+use borrow.Rule.Slice.PartMut.{put_mid}
+use Rattle.std.proofs.lemmas.List.{take_min}
+use Rattle.callfile.proofs.Parts.{copied}
 use Rattle.callfile.specs.Placed.{Puts}
 use Rattle.callfile.specs.Cutting.{Filled}
 
@@ -32,12 +35,16 @@ some-filled have rest block part e h {r} {block'} p =
           ∙ ap₂ (λ (x : List ℕ) (k : ℕ). take have block ++ (x ++ drop (have + k) block)) e n;
     }
 
--- the two ends of the part that is put: the block is full, or the piece is used up
-pub fills : (have from : ℕ) (piece block : List ℕ) (n : ℕ) → n ≡ length block - have → take n (drop from piece) ≡ take (length block - have) (drop from piece)
-fills have from piece block n e = ap (λ (k : ℕ). take k (drop from piece)) e
-
-pub uses-up : (have from : ℕ) (piece block : List ℕ) (n : ℕ) → n ≡ length piece - from → length piece - from ≤ length block - have → take n (drop from piece) ≡ take (length block - have) (drop from piece)
-uses-up have from piece block n e h = take_all n (drop from piece) (omega (arith, length-drop from piece)) ∙ sym (take_all (length block - have) (drop from piece) (omega (arith, length-drop from piece)))
+-- as much as fits, copied
+pub copied-filled : (have from n k : ℕ) (piece block now : List ℕ) → n ≡ min (length block - have) (length piece - from) → k ≡ n → have ≤ length block → now ≡ take n (drop from piece)
+    → Filled have (drop from piece) block n (put_mid have k block now)
+copied-filled have from n k piece block now e f h is =
+    let rest : List ℕ = drop from piece in
+    let part : List ℕ = take (length block - have) rest in
+    let size : length part ≡ n = omega (arith, length-take (length block - have) rest, length-drop from piece) in
+    let same : now ≡ part = is ∙ ap (λ (m : ℕ). take m rest) (e ∙ sym (ap (min (length block - have)) (length-drop from piece))) ∙ take_min (length block - have) rest in
+    let r : have + length part - have ≡ n = omega arith in
+    subst (λ (m : ℕ). Filled have rest block m (put_mid have k block now)) r (some-filled have rest block part refl h (copied part now block have k same (omega arith) (omega arith)))
 
 -- what stands in the block then
 pub filled-length : {have r : ℕ} {rest block block' : List ℕ} → have ≤ length block → Filled have rest block r block' → length block' ≡ length block

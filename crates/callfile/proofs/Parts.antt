@@ -8,6 +8,8 @@ use mathlib.Core.List.{List, [], ◌∷◌, ◌++◌, append_assoc}
 use borrow.Author.Tests.{leb-true, le-leb}
 use lib.ListN.{length, take, drop, set, length-append, take-append-drop}
 use lib.Seq.{sets, sets-eq, length-sets}
+use borrow.Rule.Slice.PartMut.{put_mid}
+use Rattle.std.proofs.lemmas.List.{drop-drop}
 use Rattle.words.proofs.Tests.{by-test}
 use Rattle.callfile.specs.Placed.{Puts, PutLine, line_room, line_placed, place_after}
 
@@ -23,6 +25,15 @@ then {p} {q} {at} {m} {r} {l} {l₁} {l₂} x y = record {
   next = y.next ∙ ap (λ (k : ℕ). k + length q) x.next ∙ add_assoc at (length p) (length q) ∙ ap (λ (k : ℕ). at + k) (sym (length-append p q));
   same = y.same ∙ x.same;
 }
+
+-- a part copied into its place
+pub copied : (part now out : List ℕ) (at k : ℕ) → now ≡ part → k ≡ length part → at + length part ≤ length out → Puts part at out (at + length part) (put_mid at k out now)
+copied part now out at k same e h =
+    let t : put_mid at k out now ≡ sets out at part =
+    ap (λ (l : List ℕ). take at out ++ (l ++ drop k (drop at out))) same
+    ∙ ap (λ (l : List ℕ). take at out ++ (part ++ l)) (drop-drop k at out ∙ ap (λ (n : ℕ). drop (at + n) out) e)
+    ∙ sym (sets-eq part out at h ∙ append_assoc (take at out) part (drop (at + length part) out)) in
+    record { text = t; next = refl; same = ap length t ∙ length-sets out at part }
 
 -- no part
 pub none-put : (at : ℕ) (l : List ℕ) → Puts [] at l at l

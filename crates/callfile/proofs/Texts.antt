@@ -8,7 +8,7 @@ use mathlib.Core.List.{List, [], ◌∷◌, ◌++◌, map, append_assoc, append-
 use mathlib.Core.Option.{Option, none, some}
 use mir.Val.{bool_byte}
 use lib.ListN.{length, take, drop, get_or, length-append, length-take}
-use lib.Seq.{sets-eq, take-suc, take_all}
+use lib.Seq.{sets-eq, take-suc}
 use Rattle.definition.specs.Types.{Event, letter, message, null}
 use Rattle.definition.specs.Layout.{Row, event_words}
 use Rattle.definition.proofs.Lists.{All}
@@ -88,6 +88,3 @@ module _ (events : List Row) (from i n : ℕ) (out₀ out : List ℕ) (at : ℕ)
     where
       space : at + 128 ≤ length out
       space = omega (arith, s.next, s.same, rows-length (take i events), length-take i events)
-
-  pub all_there : i ≤ n → length events ≤ i → Puts (event_rows_text (take n events)) from out₀ at out
-  all_there h k = subst (λ (ws : List Row). Puts (event_rows_text ws) from out₀ at out) (take_all i events k ∙ sym (take_all n events (omega arith))) s

@@ -71,10 +71,8 @@ fn check_of(block: &[u8]) -> u64
     ensures { result ≡ check block.now }
 {
     let mut sum: u64 = 0;
-    let mut i: usize = 0;
-    while i < 508 {
-        sum = sum + (i as u64 + 1) * byte_at(block, i);
-        i += 1;
+    for i in 0..508 {
+        sum += (i as u64 + 1) * byte_at(block, i);
     }
     sum
 }
@@ -191,20 +189,14 @@ fn put_id(out: &mut [u8], at: usize, conn: u64, session: u64, value: u64) -> usi
 fn room(len: usize, at: usize, most: usize) -> bool
     ensures { result ≡ leb (at + most) len }
 {
-    if len < most {
-        return false;
-    }
-    at <= len - most
+    most <= len && at <= len - most
 }
 
 // Whether there is room for n of the longest lines.
 pub fn lines_fit(len: usize, at: usize, n: usize) -> bool
     ensures { result ≡ leb (at + 128 * n) len }
 {
-    if len / LINE < n {
-        return false;
-    }
-    room(len, at, LINE * n)
+    n <= len / LINE && room(len, at, LINE * n)
 }
 
 // A byte. Without room for it, nothing is put.
@@ -221,13 +213,9 @@ fn put_each(out: &mut [u8], at: usize, part: &[u8]) -> usize
     requires { at + length part.now ≤ length out.old }
     ensures { Puts part.now at out.old result out.new }
 {
-    let mut next = at;
-    let mut i = 0;
-    while i < part.len() {
-        next = put(out, next, part[i]);
-        i += 1;
-    }
-    next
+    let end = at + part.len();
+    out[at..end].copy_from_slice(part);
+    end
 }
 
 // Bytes, one after the other. Without room for all, nothing is put.
@@ -244,19 +232,12 @@ pub fn put_all(out: &mut [u8], at: usize, part: &[u8]) -> usize
 pub fn fill(block: &mut [u8], have: usize, piece: &[u8], from: usize) -> usize
     ensures { Filled have (drop from piece.now) block.old result block.new }
 {
-    if block.len() <= have {
+    if block.len() <= have || piece.len() <= from {
         return 0;
     }
-    if piece.len() <= from {
-        return 0;
-    }
-    let room = block.len() - have;
-    let left = piece.len() - from;
-    if room < left {
-        let end = from + room;
-        return put_each(block, have, &piece[from..end]) - have;
-    }
-    put_each(block, have, &piece[from..]) - have
+    let n = (block.len() - have).min(piece.len() - from);
+    block[have..have + n].copy_from_slice(&piece[from..from + n]);
+    n
 }
 
 fn word_field(out: &mut [u8], at: usize, w: u64, minus: bool) -> usize
@@ -338,8 +319,7 @@ pub fn put_event(out: &mut [u8], at: usize, e: [u64; 6]) -> usize
     if !room(out.len(), at, LINE) {
         return at;
     }
-    let kind = e[0];
-    match kind {
+    match e[0] {
         1 => letter_line(out, at, e),
         2 => message_line(out, at, e),
         3 => null_line(out, at, e),
@@ -347,30 +327,25 @@ pub fn put_event(out: &mut [u8], at: usize, e: [u64; 6]) -> usize
     }
 }
 
-fn each_event(out: &mut [u8], from: usize, events: &[[u64; 6]], n: usize) -> usize
-    requires { from + 128 * n ≤ length out.old }
-    ensures { Puts (event_rows_text (take n events.now)) from out.old result out.new × (result ≤ from + 128 * n) }
+fn each_event(out: &mut [u8], from: usize, events: &[[u64; 6]]) -> usize
+    requires { from + 128 * length events.now ≤ length out.old }
+    ensures { Puts (event_rows_text events.now) from out.old result out.new × (result ≤ from + 128 * length events.now) }
 {
     let mut at = from;
-    let mut i = 0;
-    while i < n {
-        if events.len() <= i {
-            return at;
-        }
-        at = put_event(out, at, events[i]);
-        i += 1;
+    for e in events {
+        at = put_event(out, at, *e);
     }
     at
 }
 
-// The lines of the first n events. Without room for so many of the longest, nothing is put.
+// The lines of the first n events (a length beside the list: of fewer events they are all). Without room for so many of the longest, nothing is put.
 pub fn put_events(out: &mut [u8], from: usize, events: &[[u64; 6]], n: usize) -> usize
     ensures { PutLine (128 * n) (event_rows_text (take n events.now)) from out.old result out.new }
 {
     if !lines_fit(out.len(), from, n) {
         return from;
     }
-    each_event(out, from, events, n)
+    each_event(out, from, &events[..n.min(events.len())])
 }
 
 fn bad_line(out: &mut [u8], at: usize, block: u64) -> usize

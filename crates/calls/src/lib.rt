@@ -1,7 +1,7 @@
 // A call as the call file has it, a code and eight words: whether the words are its arguments, and what they hold.
 #![tactic(auto)]
 
-ghost use Rattle.std.specs.Prelude.{◌≡◌, true, ◌%◌};
+ghost use Rattle.std.specs.Prelude.{◌≡◌, true, ◌%◌, ◌≤◌};
 ghost use Rattle.words.specs.Words.{int};
 ghost use Rattle.entry.specs.Entry.{bit, with_redelivery};
 ghost use Rattle.definition.specs.Base.{is_some};
@@ -20,6 +20,7 @@ pub struct Call {
 }
 
 impl Call {
+    // Numbers, and no enum: the papers and C name the calls by them.
     pub const OPEN: u64 = 0;
 
     pub const ENQUEUE: u64 = 1;
@@ -91,7 +92,7 @@ impl Call {
         }
     }
 
-    // Words 0 to 2.
+    // Words 0 to 2. Not a From, nor the next: which call the words are of is in the name.
     pub fn id_of(self) -> Id
         ensures { result ≡ id_in self.words }
     {
@@ -131,10 +132,7 @@ pub fn kind_of(word: u64) -> u8
 pub fn flag_of(word: u64, k: u64) -> bool
     ensures { result ≡ bit word k }
 {
-    if 63 < k {
-        return false;
-    }
-    (word >> k) & 1 == 1
+    k < 64 && (word >> k) & 1 == 1
 }
 
 // ---- ranges
@@ -146,16 +144,10 @@ pub fn words_fit(w: [u64; 8])
 
 // The words from a place on are unused.
 fn unused(w: [u64; 8], from: usize) -> bool
+    requires { from ≤ 8 }
     ensures { result ≡ unused_from from w }
 {
-    let mut k = from;
-    while k < 8 {
-        if w[k] != 0 {
-            return false;
-        }
-        k += 1;
-    }
-    true
+    w[from..].iter().all(|word| *word == 0)
 }
 
 fn enqueue_ok(w: [u64; 8]) -> bool

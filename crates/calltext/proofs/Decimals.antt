@@ -1,4 +1,5 @@
 -- A number as it is written is read as that number. Assumes nothing.
+use Rattle.std.proofs.Common.{Some, None}
 use Prim.Native.Nat.{ℕ, zero, suc, ◌+◌, ◌-◌, ◌*◌, ◌≤◌, ◌<◌, ◌/◌, ◌%◌, ◌^◌}
 use native.Mathlib.Nat.{pow-suc}
 use native.Mathlib.Omega.{arith}
@@ -13,7 +14,6 @@ use Rattle.words.specs.Words.{signed}
 use Rattle.words.proofs.Tests.{by-test}
 use Rattle.callfile.specs.Lines.{digits, decimal, signed_decimal, word_field}
 use Rattle.callfile.proofs.Digits.{signed_lower, signed-upper}
-use Rattle.textwords.specs.declared.Number.TheVariants.{Of, Bad}
 use Rattle.textwords.specs.Numbers.{is_digit, digits_after, negated, number_of}
 use Rattle.textwords.proofs.Values.{number-plain, number-minus}
 use Rattle.textwords.proofs.Spaced.{solid_byte, solid, Solid}
@@ -31,18 +31,18 @@ unfolding solid
 solid-append [] b h k = k
 solid-append (x ∷ a) b h k = let p = (and-eq-true_iff (solid_byte x) (solid a)).0 h in rw p.0 (solid-append a b p.1 k)
 
-of_eq : (m v : ℕ) → Of m ≡ Of v → m ≡ v
+of_eq : (m v : ℕ) → Some m ≡ Some v → m ≡ v
 of_eq m v e = cc
 
-no-bad : {P : Type 0} (v : ℕ) → Bad ≡ Of v → P
+no-bad : {P : Type 0} (v : ℕ) → None ≡ Some v → P
 no-bad v e = let z : ◌≡◌ {A = ℕ} 0 1 = cc in absurd (omega arith)
 
-one_more : (l : List ℕ) (m v d : ℕ) → d < 10 → digits_after m l ≡ Of v → v * 10 + d < 2 ^ 64 → digits_after m (l ++ ((48 + d) ∷ [])) ≡ Of (v * 10 + d)
+one_more : (l : List ℕ) (m v d : ℕ) → d < 10 → digits_after m l ≡ Some v → v * 10 + d < 2 ^ 64 → digits_after m (l ++ ((48 + d) ∷ [])) ≡ Some (v * 10 + d)
 unfolding digits_after
 one_more [] m v d h e k =
     let q : m ≡ v = of_eq m v e in
     let f : m * 10 + (48 + d - 48) ≡ v * 10 + d = omega arith in
-    rw (digit-byte d h, lt-ltb (m * 10 + (48 + d - 48)) (2 ^ 64) (omega arith)) (ap Of f)
+    rw (digit-byte d h, lt-ltb (m * 10 + (48 + d - 48)) (2 ^ 64) (omega arith)) (ap Some f)
 one_more (x ∷ l) m v d h e k = by-test (is_digit x && ltb (m * 10 + (x - 48)) (2 ^ 64))
     (λ t. rw t (one_more l (m * 10 + (x - 48)) v d h (rw t at e) k))
     (λ t. no-bad v (rw t at e))
@@ -52,7 +52,7 @@ record Digits (l : List ℕ) (n : ℕ) : Type 0 where
   more : 0 < length l
   whole : solid l ≡ true
   sign : get_or l 0 0 ≡ 45 → ⊥
-  value : digits_after 0 l ≡ Of n
+  value : digits_after 0 l ≡ Some n
 
 single : (n : ℕ) → n < 10 → Digits ((48 + n) ∷ []) n
 unfolding solid digits_after
@@ -60,7 +60,7 @@ single n h = record {
   more = omega arith;
   whole = rw (solid-digit n h);
   sign = λ e. omega arith;
-  value = (let f : 0 * 10 + (48 + n - 48) ≡ n = omega arith in rw (digit-byte n h, lt-ltb (0 * 10 + (48 + n - 48)) (2 ^ 64) (omega arith)) (ap Of f));
+  value = (let f : 0 * 10 + (48 + n - 48) ≡ n = omega arith in rw (digit-byte n h, lt-ltb (0 * 10 + (48 + n - 48)) (2 ^ 64) (omega arith)) (ap Some f));
 }
 
 snoc : (l : List ℕ) (v d : ℕ) → Digits l v → d < 10 → v * 10 + d < 2 ^ 64 → Digits (l ++ ((48 + d) ∷ [])) (v * 10 + d)
@@ -97,12 +97,12 @@ field-text false w = refl
 
 pub record Read (l : List ℕ) (w : ℕ) : Type 0 where
   pub word : Solid l
-  pub number : number_of l ≡ Of w
+  pub number : number_of l ≡ Some w
 
 plain-read : (n : ℕ) → n < 2 ^ 64 → Read (decimal n) n
 plain-read n h = let p = decimal-read n h in record { word = (p.more, p.whole); number = number-plain (decimal n) p.more p.sign ∙ p.value }
 
-negated-of : (m : ℕ) → 1 ≤ m → m ≤ 2 ^ 63 → negated (Of m) ≡ Of (2 ^ 64 - m)
+negated-of : (m : ℕ) → 1 ≤ m → m ≤ 2 ^ 63 → negated (Some m) ≡ Some (2 ^ 64 - m)
 unfolding negated
 negated-of m h k = rw (ne_eqb m 0 (λ e. omega arith), le-leb m (2 ^ 63) k)
 

@@ -1,4 +1,5 @@
 -- The word at fault of a line, and where it stands. Assumes nothing.
+use Rattle.std.proofs.Common.{Option, Some, None, is_some}
 use Prim.Native.Nat.{ℕ, zero, suc, ◌+◌, ◌-◌, ◌≤◌, ◌<◌}
 use native.Mathlib.Omega.{arith}
 use mathlib.Core.Path.{◌≡◌, refl, ap, sym, ◌∙◌}
@@ -8,7 +9,7 @@ use borrow.Author.Tests.{eq-eqb, ne_eqb, le-leb, lt-leb}
 use lib.ListN.{length, take, drop, length-drop}
 use lib.Seq.{take-take, length-take-le}
 use Rattle.textwords.specs.declared.Stop.TheVariants.{Blank, Word, Remark}
-use Rattle.textwords.specs.Text.{run, plain, words_of}
+use Rattle.textwords.specs.Text.{run, words_of}
 use Rattle.textwords.specs.Numbers.{number_of}
 use Rattle.textwords.proofs.Words.{run-within, to_word, at-word, word-within, passed, no_words}
 use Rattle.calltext.specs.declared.Part.{Part}
@@ -16,6 +17,10 @@ use Rattle.calltext.specs.Names.{name_place}
 use Rattle.calltext.specs.Lines.{at_sign, destination_of}
 use Rattle.calltext.specs.Faults.{is_number, fault_among, fault_named, fault_after, fault_in, fault_word, FaultAt, WordAt}
 use Rattle.calltext.proofs.Gathering.{remark-part}
+
+pub number-some : (n : Option ℕ) → is_some n ≡ is_number n
+number-some None = refl
+number-some (Some v) = refl
 
 -- ---- which word
 

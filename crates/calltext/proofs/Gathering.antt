@@ -1,4 +1,6 @@
 -- The words of a line, one by one. Assumes nothing.
+use Rattle.std.proofs.Common.{Option, Some, None}
+use Rattle.std.specs.Prelude.{Ok, Err}
 use Prim.Native.Nat.{ℕ, ◌+◌, ◌-◌, ◌*◌, ◌≤◌, ◌<◌, ◌^◌}
 use native.Mathlib.Omega.{arith}
 use mathlib.Core.Path.{◌≡◌, refl, ap}
@@ -11,27 +13,26 @@ use lib.Seq.{take_all}
 use Rattle.words.proofs.Tests.{by-test}
 use Rattle.textwords.specs.declared.Stop.TheVariants.{Remark}
 use Rattle.textwords.specs.Text.{run, plain, words_of}
-use Rattle.textwords.specs.declared.Number.{Number}
-use Rattle.textwords.specs.declared.Number.TheVariants.{Of, Bad}
 use Rattle.textwords.specs.Numbers.{number_of}
+use Rattle.calltext.specs.declared.Fault.TheVariants.{UnknownCall, NotANumber, TooManyArguments, NotADestination, NoName}
 use Rattle.calltext.specs.Names.{name_place}
-use Rattle.calltext.specs.Lines.{parsed_call, without_call, call_of, gather_call, at_sign, small_number, destination_of, named_call, call_for, call_in, line_call}
+use Rattle.calltext.specs.Lines.{call_of, gather_call, at_sign, small_number, destination_of, named_call, call_for, call_in, line_call}
 
 module _ (n : ℕ) (nine : List ℕ) where
-  pub gathered : gather_call n nine [] ≡ parsed_call 0 (call_of nine)
+  pub gathered : gather_call n nine [] ≡ Ok (Some (call_of nine))
   unfolding gather_call
   gathered = refl
 
   module _ (w : List ℕ) (ws : List (List ℕ)) where
-    pub too_many : n ≡ 9 → gather_call n nine (w ∷ ws) ≡ without_call 4
+    pub too_many : n ≡ 9 → gather_call n nine (w ∷ ws) ≡ Err TooManyArguments
     unfolding gather_call
     too_many e = rw (eq-eqb n 9 e)
 
-    pub no_number : (n ≡ 9 → ⊥) → number_of w ≡ Bad → gather_call n nine (w ∷ ws) ≡ without_call 3
+    pub no_number : (n ≡ 9 → ⊥) → number_of w ≡ None → gather_call n nine (w ∷ ws) ≡ Err NotANumber
     unfolding gather_call
     no_number h e = rw (ne_eqb n 9 h, e)
 
-    pub one_number : (n ≡ 9 → ⊥) → (v : ℕ) → number_of w ≡ Of v → gather_call n nine (w ∷ ws) ≡ gather_call (n + 1) (set nine n v) ws
+    pub one_number : (n ≡ 9 → ⊥) → (v : ℕ) → number_of w ≡ Some v → gather_call n nine (w ∷ ws) ≡ gather_call (n + 1) (set nine n v) ws
     unfolding gather_call
     one_number h v e = rw (ne_eqb n 9 h, e)
 
@@ -44,33 +45,33 @@ module _ (d place : ℕ) (ws : List (List ℕ)) where
   unfolding named_call
   by-raw e = rw (lt-leb place 16 (omega arith), eq-eqb place 17 e)
 
-  pub unknown : 17 < place → named_call d place ws ≡ without_call 2
+  pub unknown : 17 < place → named_call d place ws ≡ Err UnknownCall
   unfolding named_call
   unknown h = let n : place ≡ 17 → ⊥ = λ e. omega arith in rw (lt-leb place 16 (omega arith), ne_eqb place 17 n)
 
 -- ---- a destination
 
-pub small : (v : ℕ) → v < 2 ^ 56 → small_number (Of v) ≡ Of v
+pub small : (v : ℕ) → v < 2 ^ 56 → small_number (Some v) ≡ Some v
 unfolding small_number
 small v h = rw (lt-ltb v (2 ^ 56) h)
 
-pub large : (v : ℕ) → 2 ^ 56 ≤ v → small_number (Of v) ≡ Bad
+pub large : (v : ℕ) → 2 ^ 56 ≤ v → small_number (Some v) ≡ None
 unfolding small_number
 large v h = rw (le-ltb v (2 ^ 56) h)
 
-pub none-small : small_number Bad ≡ Bad
+pub none-small : small_number None ≡ None
 unfolding small_number
 none-small = refl
 
 -- a number that is one leaves room for the code
-small-value : (n : Number) (v : ℕ) → small_number n ≡ Of v → v < 2 ^ 56
+small-value : (n : Option ℕ) (v : ℕ) → small_number n ≡ Some v → v < 2 ^ 56
 unfolding small_number
-small-value Bad v e = let z : ◌≡◌ {A = ℕ} 0 1 = cc in absurd (omega arith)
-small-value (Of u) v e = by-test (ltb u (2 ^ 56))
-    (λ t. let f : Of u ≡ Of v = rw t at e in let g : u ≡ v = cc in omega (arith, ltb-true u (2 ^ 56) t))
-    (λ t. let f : Bad ≡ Of v = rw t at e in let z : ◌≡◌ {A = ℕ} 0 1 = cc in absurd (omega arith))
+small-value None v e = let z : ◌≡◌ {A = ℕ} 0 1 = cc in absurd (omega arith)
+small-value (Some u) v e = by-test (ltb u (2 ^ 56))
+    (λ t. let f : Some u ≡ Some v = rw t at e in let g : u ≡ v = cc in omega (arith, ltb-true u (2 ^ 56) t))
+    (λ t. let f : None ≡ Some v = rw t at e in let z : ◌≡◌ {A = ℕ} 0 1 = cc in absurd (omega arith))
 
-pub destination-low : (w : List ℕ) (v : ℕ) → destination_of w ≡ Of v → v < 2 ^ 56
+pub destination-low : (w : List ℕ) (v : ℕ) → destination_of w ≡ Some v → v < 2 ^ 56
 unfolding destination_of
 destination-low w v e = small-value (number_of (drop 1 w)) v e
 
@@ -81,18 +82,18 @@ number-after w = refl
 pub after-sign : (w : List ℕ) → take (length w - 1) (drop 1 w) ≡ drop 1 w
 after-sign w = take_all (length w - 1) (drop 1 w) (omega (arith, length-drop 1 w))
 
-pub no_bytes : (w : List ℕ) → length w ≡ 0 → (Bad ≡ destination_of w) × (false ≡ at_sign w)
+pub no_bytes : (w : List ℕ) → length w ≡ 0 → (None ≡ destination_of w) × (false ≡ at_sign w)
 unfolding destination_of small_number number_of
 no_bytes [] h = (refl, refl)
 no_bytes (b ∷ w) h = absurd (omega arith)
 
 module _ (d : ℕ) where
-  pub for-none : call_for d [] ≡ without_call 6
+  pub for-none : call_for d [] ≡ Err NoName
   unfolding call_for
   for-none = refl
 
   module _ (w : List ℕ) (ws : List (List ℕ)) where
-    pub for-raw : name_place w ≡ 17 → call_for d (w ∷ ws) ≡ without_call 6
+    pub for-raw : name_place w ≡ 17 → call_for d (w ∷ ws) ≡ Err NoName
     unfolding call_for
     for-raw e = rw (eq-eqb (name_place w) 17 e)
 
@@ -100,7 +101,7 @@ module _ (d : ℕ) where
     unfolding call_for
     for-name n = rw (ne_eqb (name_place w) 17 n)
 
-pub no_call : call_in [] ≡ without_call 1
+pub no_call : call_in [] ≡ Ok None
 unfolding call_in
 no_call = refl
 
@@ -109,11 +110,11 @@ module _ (w : List ℕ) (ws : List (List ℕ)) where
   unfolding call_in
   one-call t = rw t
 
-  pub placed-call : at_sign w ≡ true → (d : ℕ) → destination_of w ≡ Of d → call_in (w ∷ ws) ≡ call_for d ws
+  pub placed-call : at_sign w ≡ true → (d : ℕ) → destination_of w ≡ Some d → call_in (w ∷ ws) ≡ call_for d ws
   unfolding call_in
   placed-call t d e = rw (t, e)
 
-  pub no-destination : at_sign w ≡ true → destination_of w ≡ Bad → call_in (w ∷ ws) ≡ without_call 5
+  pub no-destination : at_sign w ≡ true → destination_of w ≡ None → call_in (w ∷ ws) ≡ Err NotADestination
   unfolding call_in
   no-destination t e = rw (t, e)
 

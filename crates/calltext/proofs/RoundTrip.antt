@@ -1,4 +1,6 @@
 -- A call that is written as a line of text is read back: the same word 0, which is its code and destination, and the same words. Assumes nothing.
+use Rattle.std.proofs.Common.{Some}
+use Rattle.std.specs.Prelude.{Ok}
 use Prim.Native.Nat.{ℕ, zero, suc, ◌+◌, ◌*◌, ◌≤◌, ◌<◌, ◌^◌}
 use native.Mathlib.Nat.{add-zero, zero-add, add-suc, suc-add}
 use native.Mathlib.Numerals.{add-one}
@@ -16,12 +18,11 @@ use Rattle.calls.specs.declared.Call.{Call}
 use Rattle.calls.specs.Calls.{new_call, Words}
 use Rattle.callfile.specs.Lines.{decimal, field, word_field, newline}
 use Rattle.callfile.proofs.Sets.{sets-before, sets-after, sets-in}
-use Rattle.textwords.specs.declared.Number.TheVariants.{Of}
 use Rattle.textwords.specs.declared.Stop.TheVariants.{LineEnd}
 use Rattle.textwords.specs.Text.{run, words_of, same_text}
 use Rattle.textwords.proofs.Spaced.{solid, Solid, Solids, spaced, spaced-append, words-spaced, plain-spaced, line-ends}
 use Rattle.calltext.specs.Names.{names, name_at, place_in, name_place, has_name, code_place, kind_at, minus_at}
-use Rattle.calltext.specs.Lines.{parsed_call, call_of, gather_call, at_sign, small_number, destination_of, named_call, call_in, line_call}
+use Rattle.calltext.specs.Lines.{call_of, gather_call, at_sign, small_number, destination_of, named_call, call_in, line_call}
 use Rattle.calltext.specs.Shown.{shown_words, fields, shown_fields, code_field, shown_destination, destination_text, call_text}
 use Rattle.calltext.proofs.Tables.{values, value, value-from}
 use Rattle.calltext.proofs.Gathering.{gathered, one_number, by_code, by-raw, small, number-after, for-name, one-call, placed-call}
@@ -64,7 +65,7 @@ solids place k [] f = tt
 solids place k (w ∷ ws) f = ((text-read (minus_at place k) w (f 0)).word, solids place (suc k) ws (λ j. f (suc j)))
 
 -- their numbers go to the places from m on
-gather-texts : (place k : ℕ) (ws : List ℕ) (m : ℕ) (nine : List ℕ) → m + length ws ≤ 9 → Fit ws → gather_call m nine (texts_of place k ws) ≡ parsed_call 0 (call_of (sets nine m ws))
+gather-texts : (place k : ℕ) (ws : List ℕ) (m : ℕ) (nine : List ℕ) → m + length ws ≤ 9 → Fit ws → gather_call m nine (texts_of place k ws) ≡ Ok (Some (call_of (sets nine m ws)))
 unfolding texts_of
 gather-texts place k [] m nine h f = gathered m nine
 gather-texts place k (w ∷ ws) m nine h f =
@@ -160,7 +161,7 @@ destination-solid : (d : ℕ) → d < 2 ^ 56 → Solid (64 ∷ decimal d)
 unfolding solid
 destination-solid d h = (omega arith, (text-read false d (omega arith)).word.1)
 
-destination-read : (d : ℕ) → d < 2 ^ 56 → destination_of (64 ∷ decimal d) ≡ Of d
+destination-read : (d : ℕ) → d < 2 ^ 56 → destination_of (64 ∷ decimal d) ≡ Some d
 destination-read d h = sym (number-after (64 ∷ decimal d)) ∙ ap small_number (text-read false d (omega arith)).number ∙ small d h
 
 -- ---- the line
@@ -213,11 +214,11 @@ module _ (c : Call) (fits : c.code < 2 ^ 64) (words : Words c.words) where
   fit : Fit (take count c.words)
   fit = fit-take count c.words words.word
 
-  gathers : gather_call 1 (set (replicate 9 0) 0 c.code) texts ≡ parsed_call 0 c
+  gathers : gather_call 1 (set (replicate 9 0) 0 c.code) texts ≡ Ok (Some c)
   unfolding nine texts count
   gathers =
       let n = length-take-le count c.words (omega (arith, within, words.eight)) in
-      gather-texts place 0 (take count c.words) 1 (set (replicate 9 0) 0 c.code) (omega (arith, n, within)) fit ∙ ap (parsed_call 0) (nine-call c.code count c.words words.eight within (λ j a b. shown_rest place c.words 8 j a b))
+      gather-texts place 0 (take count c.words) 1 (set (replicate 9 0) 0 c.code) (omega (arith, n, within)) fit ∙ ap (λ (d : Call). Ok (Some d)) (nine-call c.code count c.words words.eight within (λ j a b. shown_rest place c.words 8 j a b))
 
   shown-text : shown_fields place c.words ≡ spaced texts
   unfolding texts count
@@ -239,7 +240,7 @@ module _ (c : Call) (fits : c.code < 2 ^ 64) (words : Words c.words) where
       (λ t. rw t (rw (code-known c.code t) shown-text))
       (λ t. rw t (rw (code-raw c.code t) (ap (λ (l : List ℕ). field c.code ++ l) shown-text)))
 
-  after-named : named_call destination place after ≡ parsed_call 0 c
+  after-named : named_call destination place after ≡ Ok (Some c)
   unfolding destination place after
   after-named = by-test (has_name c.code)
       (λ t.
@@ -280,7 +281,7 @@ module _ (c : Call) (fits : c.code < 2 ^ 64) (words : Words c.words) where
   unfolding later
   later-solid = by-test (eqb destination 0) (λ t. rw t after-solid) (λ t. rw t (name-solid place low, after-solid))
 
-  words-read : call_in (first ∷ later) ≡ parsed_call 0 c
+  words-read : call_in (first ∷ later) ≡ Ok (Some c)
   unfolding first later
   words-read = by-test (eqb destination 0)
       (λ t.
@@ -291,7 +292,7 @@ module _ (c : Call) (fits : c.code < 2 ^ 64) (words : Words c.words) where
       rw t (placed-call (64 ∷ decimal destination) (name_at place ∷ after) refl destination (destination-read destination destination-fits) ∙ for-name destination (name_at place) after n ∙ ap (λ (k : ℕ). named_call destination k after) (name-place place low) ∙ after-named))
 
   -- what is written is read
-  pub line-back : line_call (line_text c) ≡ parsed_call 0 c
+  pub line-back : line_call (line_text c) ≡ Ok (Some c)
   line-back = ap line_call line-words ∙ read-line first later first-solid later-solid ∙ words-read
 
   -- and the line ends where the call's text does

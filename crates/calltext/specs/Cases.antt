@@ -1,100 +1,117 @@
 -- Lines of text and their calls as one table that antt computes. Assumes nothing.
-use Rattle.std.specs.Prelude.{ℕ, ◌+◌, ◌-◌, ◌*◌, ◌^◌, Bool, ◌&&◌, List, [], ◌∷◌, eqb, T}
+use Rattle.std.specs.Prelude.{Some, None, Ok, Err, ℕ, ◌+◌, ◌-◌, ◌*◌, ◌^◌, Bool, true, false, ◌&&◌, List, [], ◌∷◌, eqb, T}
 use Rattle.words.specs.Pick.{every}
 use Rattle.calls.specs.Calls.{new_call}
 use Rattle.callfile.specs.Lines.{digits, decimal}
 use Rattle.textwords.specs.Text.{run, pieces, full, words_of, plain, same_text}
 use Rattle.textwords.specs.Numbers.{digits_after, unsigned_of, negated, number_of}
-use Rattle.calltext.specs.declared.Parsed.{Parsed}
+use Rattle.calltext.specs.declared.Fault.{Fault}
+use Rattle.calltext.specs.declared.Fault.TheVariants.{UnknownCall, NotANumber, TooManyArguments, NotADestination, NoName}
 use Rattle.calltext.specs.Names.{names, place_in, name_place, code_place, kinds}
-use Rattle.calltext.specs.Lines.{gather_call, small_number, destination_of, named_call, call_for, call_in, line_call}
+use Rattle.calltext.specs.Lines.{Parsed, gather_call, small_number, destination_of, named_call, call_for, call_in, line_call}
 use Rattle.calltext.specs.Faults.{fault_among, fault_named, fault_after, fault_in, fault_word}
 use Rattle.calltext.specs.Shown.{shown_words, fields, code_field, shown_destination, destination_text, call_text}
 
--- what a line is, and its call's code and words
-is : Parsed → ℕ → ℕ → List ℕ → Bool
-is p kind code words = eqb p.kind kind && (eqb p.call.code code && same_text p.call.words words)
+-- a line that is a call, and one of nothing
+is_call : Parsed → ℕ → List ℕ → Bool
+is_call (Ok (Some c)) code words = eqb c.code code && same_text c.words words
+is_call (Ok None) code words = false
+is_call (Err f) code words = false
 
-zeros : List ℕ
-zeros = 0 ∷ 0 ∷ 0 ∷ 0 ∷ 0 ∷ 0 ∷ 0 ∷ 0 ∷ []
+is_empty : Parsed → Bool
+is_empty (Ok (Some c)) = false
+is_empty (Ok None) = true
+is_empty (Err f) = false
+
+-- the faults, numbered
+number : Fault → ℕ
+number UnknownCall = 2
+number NotANumber = 3
+number TooManyArguments = 4
+number NotADestination = 5
+number NoName = 6
+
+is_fault : Parsed → Fault → Bool
+is_fault (Ok c) f = false
+is_fault (Err g) f = eqb (number g) (number f)
 
 cases : List Bool
-unfolding digits decimal run pieces full words_of plain same_text digits_after unsigned_of negated number_of names place_in name_place code_place kinds gather_call small_number destination_of named_call call_for call_in line_call fault_among fault_named fault_after fault_in fault_word shown_words fields code_field shown_destination destination_text call_text is zeros
+unfolding digits decimal run pieces full words_of plain same_text digits_after unsigned_of negated number_of names place_in name_place code_place kinds gather_call small_number destination_of named_call call_for call_in line_call fault_among fault_named fault_after fault_in fault_word shown_words fields code_field shown_destination destination_text call_text is_call is_empty number is_fault
 cases =
     -- open 0 0 100 0
-    is (line_call (111 ∷ 112 ∷ 101 ∷ 110 ∷ 32 ∷ 48 ∷ 32 ∷ 48 ∷ 32 ∷ 49 ∷ 48 ∷ 48 ∷ 32 ∷ 48 ∷ [])) 0 0 (0 ∷ 0 ∷ 100 ∷ 0 ∷ 0 ∷ 0 ∷ 0 ∷ 0 ∷ [])
+    is_call (line_call (111 ∷ 112 ∷ 101 ∷ 110 ∷ 32 ∷ 48 ∷ 32 ∷ 48 ∷ 32 ∷ 49 ∷ 48 ∷ 48 ∷ 32 ∷ 48 ∷ [])) 0 (0 ∷ 0 ∷ 100 ∷ 0 ∷ 0 ∷ 0 ∷ 0 ∷ 0 ∷ [])
     -- open 0 0 100 0 7 9
-    ∷ is (line_call (111 ∷ 112 ∷ 101 ∷ 110 ∷ 32 ∷ 48 ∷ 32 ∷ 48 ∷ 32 ∷ 49 ∷ 48 ∷ 48 ∷ 32 ∷ 48 ∷ 32 ∷ 55 ∷ 32 ∷ 57 ∷ [])) 0 0 (0 ∷ 0 ∷ 100 ∷ 0 ∷ 7 ∷ 9 ∷ 0 ∷ 0 ∷ [])
+    ∷ is_call (line_call (111 ∷ 112 ∷ 101 ∷ 110 ∷ 32 ∷ 48 ∷ 32 ∷ 48 ∷ 32 ∷ 49 ∷ 48 ∷ 48 ∷ 32 ∷ 48 ∷ 32 ∷ 55 ∷ 32 ∷ 57 ∷ [])) 0 (0 ∷ 0 ∷ 100 ∷ 0 ∷ 7 ∷ 9 ∷ 0 ∷ 0 ∷ [])
     -- ack 9 -1 1
-    ∷ is (line_call (9 ∷ 97 ∷ 99 ∷ 107 ∷ 32 ∷ 57 ∷ 32 ∷ 45 ∷ 49 ∷ 32 ∷ 49 ∷ 13 ∷ [])) 0 4 (9 ∷ (2 ^ 64 - 1) ∷ 1 ∷ 0 ∷ 0 ∷ 0 ∷ 0 ∷ 0 ∷ [])
+    ∷ is_call (line_call (9 ∷ 97 ∷ 99 ∷ 107 ∷ 32 ∷ 57 ∷ 32 ∷ 45 ∷ 49 ∷ 32 ∷ 49 ∷ 13 ∷ [])) 4 (9 ∷ (2 ^ 64 - 1) ∷ 1 ∷ 0 ∷ 0 ∷ 0 ∷ 0 ∷ 0 ∷ [])
     -- clear#1
-    ∷ is (line_call (99 ∷ 108 ∷ 101 ∷ 97 ∷ 114 ∷ 35 ∷ 49 ∷ [])) 0 10 (0 ∷ 0 ∷ 0 ∷ 0 ∷ 0 ∷ 0 ∷ 0 ∷ 0 ∷ [])
+    ∷ is_call (line_call (99 ∷ 108 ∷ 101 ∷ 97 ∷ 114 ∷ 35 ∷ 49 ∷ [])) 10 (0 ∷ 0 ∷ 0 ∷ 0 ∷ 0 ∷ 0 ∷ 0 ∷ 0 ∷ [])
     -- release 9 1 1 52
-    ∷ is (line_call (114 ∷ 101 ∷ 108 ∷ 101 ∷ 97 ∷ 115 ∷ 101 ∷ 32 ∷ 57 ∷ 32 ∷ 49 ∷ 32 ∷ 49 ∷ 32 ∷ 53 ∷ 50 ∷ [])) 0 15 (9 ∷ 1 ∷ 1 ∷ 52 ∷ 0 ∷ 0 ∷ 0 ∷ 0 ∷ [])
+    ∷ is_call (line_call (114 ∷ 101 ∷ 108 ∷ 101 ∷ 97 ∷ 115 ∷ 101 ∷ 32 ∷ 57 ∷ 32 ∷ 49 ∷ 32 ∷ 49 ∷ 32 ∷ 53 ∷ 50 ∷ [])) 15 (9 ∷ 1 ∷ 1 ∷ 52 ∷ 0 ∷ 0 ∷ 0 ∷ 0 ∷ [])
     -- raw 16 18446744073709551615
-    ∷ is (line_call (114 ∷ 97 ∷ 119 ∷ 32 ∷ 49 ∷ 54 ∷ 32 ∷ 49 ∷ 56 ∷ 52 ∷ 52 ∷ 54 ∷ 55 ∷ 52 ∷ 52 ∷ 48 ∷ 55 ∷ 51 ∷ 55 ∷ 48 ∷ 57 ∷ 53 ∷ 53 ∷ 49 ∷ 54 ∷ 49 ∷ 53 ∷ [])) 0 16 ((2 ^ 64 - 1) ∷ 0 ∷ 0 ∷ 0 ∷ 0 ∷ 0 ∷ 0 ∷ 0 ∷ [])
+    ∷ is_call (line_call (114 ∷ 97 ∷ 119 ∷ 32 ∷ 49 ∷ 54 ∷ 32 ∷ 49 ∷ 56 ∷ 52 ∷ 52 ∷ 54 ∷ 55 ∷ 52 ∷ 52 ∷ 48 ∷ 55 ∷ 51 ∷ 55 ∷ 48 ∷ 57 ∷ 53 ∷ 53 ∷ 49 ∷ 54 ∷ 49 ∷ 53 ∷ [])) 16 ((2 ^ 64 - 1) ∷ 0 ∷ 0 ∷ 0 ∷ 0 ∷ 0 ∷ 0 ∷ 0 ∷ [])
     -- leave 1 -9223372036854775808
-    ∷ is (line_call (108 ∷ 101 ∷ 97 ∷ 118 ∷ 101 ∷ 32 ∷ 49 ∷ 32 ∷ 45 ∷ 57 ∷ 50 ∷ 50 ∷ 51 ∷ 51 ∷ 55 ∷ 50 ∷ 48 ∷ 51 ∷ 54 ∷ 56 ∷ 53 ∷ 52 ∷ 55 ∷ 55 ∷ 53 ∷ 56 ∷ 48 ∷ 56 ∷ [])) 0 3 (1 ∷ (2 ^ 63) ∷ 0 ∷ 0 ∷ 0 ∷ 0 ∷ 0 ∷ 0 ∷ [])
+    ∷ is_call (line_call (108 ∷ 101 ∷ 97 ∷ 118 ∷ 101 ∷ 32 ∷ 49 ∷ 32 ∷ 45 ∷ 57 ∷ 50 ∷ 50 ∷ 51 ∷ 51 ∷ 55 ∷ 50 ∷ 48 ∷ 51 ∷ 54 ∷ 56 ∷ 53 ∷ 52 ∷ 55 ∷ 55 ∷ 53 ∷ 56 ∷ 48 ∷ 56 ∷ [])) 3 (1 ∷ (2 ^ 63) ∷ 0 ∷ 0 ∷ 0 ∷ 0 ∷ 0 ∷ 0 ∷ [])
     -- # clear
-    ∷ is (line_call (32 ∷ 32 ∷ 35 ∷ 32 ∷ 99 ∷ 108 ∷ 101 ∷ 97 ∷ 114 ∷ [])) 1 0 zeros
+    ∷ is_empty (line_call (32 ∷ 32 ∷ 35 ∷ 32 ∷ 99 ∷ 108 ∷ 101 ∷ 97 ∷ 114 ∷ []))
     -- nothing
-    ∷ is (line_call ([])) 1 0 zeros
+    ∷ is_empty (line_call ([]))
     -- opem
-    ∷ is (line_call (111 ∷ 112 ∷ 101 ∷ 109 ∷ [])) 2 0 zeros
+    ∷ is_fault (line_call (111 ∷ 112 ∷ 101 ∷ 109 ∷ [])) UnknownCall
     -- Open
-    ∷ is (line_call (79 ∷ 112 ∷ 101 ∷ 110 ∷ [])) 2 0 zeros
+    ∷ is_fault (line_call (79 ∷ 112 ∷ 101 ∷ 110 ∷ [])) UnknownCall
     -- leave -
-    ∷ is (line_call (108 ∷ 101 ∷ 97 ∷ 118 ∷ 101 ∷ 32 ∷ 45 ∷ [])) 3 0 zeros
+    ∷ is_fault (line_call (108 ∷ 101 ∷ 97 ∷ 118 ∷ 101 ∷ 32 ∷ 45 ∷ [])) NotANumber
     -- leave +1
-    ∷ is (line_call (108 ∷ 101 ∷ 97 ∷ 118 ∷ 101 ∷ 32 ∷ 43 ∷ 49 ∷ [])) 3 0 zeros
+    ∷ is_fault (line_call (108 ∷ 101 ∷ 97 ∷ 118 ∷ 101 ∷ 32 ∷ 43 ∷ 49 ∷ [])) NotANumber
     -- leave 18446744073709551616
-    ∷ is (line_call (108 ∷ 101 ∷ 97 ∷ 118 ∷ 101 ∷ 32 ∷ 49 ∷ 56 ∷ 52 ∷ 52 ∷ 54 ∷ 55 ∷ 52 ∷ 52 ∷ 48 ∷ 55 ∷ 51 ∷ 55 ∷ 48 ∷ 57 ∷ 53 ∷ 53 ∷ 49 ∷ 54 ∷ 49 ∷ 54 ∷ [])) 3 0 zeros
+    ∷ is_fault (line_call (108 ∷ 101 ∷ 97 ∷ 118 ∷ 101 ∷ 32 ∷ 49 ∷ 56 ∷ 52 ∷ 52 ∷ 54 ∷ 55 ∷ 52 ∷ 52 ∷ 48 ∷ 55 ∷ 51 ∷ 55 ∷ 48 ∷ 57 ∷ 53 ∷ 53 ∷ 49 ∷ 54 ∷ 49 ∷ 54 ∷ [])) NotANumber
     -- leave -9223372036854775809
-    ∷ is (line_call (108 ∷ 101 ∷ 97 ∷ 118 ∷ 101 ∷ 32 ∷ 45 ∷ 57 ∷ 50 ∷ 50 ∷ 51 ∷ 51 ∷ 55 ∷ 50 ∷ 48 ∷ 51 ∷ 54 ∷ 56 ∷ 53 ∷ 52 ∷ 55 ∷ 55 ∷ 53 ∷ 56 ∷ 48 ∷ 57 ∷ [])) 3 0 zeros
+    ∷ is_fault (line_call (108 ∷ 101 ∷ 97 ∷ 118 ∷ 101 ∷ 32 ∷ 45 ∷ 57 ∷ 50 ∷ 50 ∷ 51 ∷ 51 ∷ 55 ∷ 50 ∷ 48 ∷ 51 ∷ 54 ∷ 56 ∷ 53 ∷ 52 ∷ 55 ∷ 55 ∷ 53 ∷ 56 ∷ 48 ∷ 57 ∷ [])) NotANumber
     -- clear 1 2 3 4 5 6 7 8
-    ∷ is (line_call (99 ∷ 108 ∷ 101 ∷ 97 ∷ 114 ∷ 32 ∷ 49 ∷ 32 ∷ 50 ∷ 32 ∷ 51 ∷ 32 ∷ 52 ∷ 32 ∷ 53 ∷ 32 ∷ 54 ∷ 32 ∷ 55 ∷ 32 ∷ 56 ∷ [])) 0 10 (1 ∷ 2 ∷ 3 ∷ 4 ∷ 5 ∷ 6 ∷ 7 ∷ 8 ∷ [])
+    ∷ is_call (line_call (99 ∷ 108 ∷ 101 ∷ 97 ∷ 114 ∷ 32 ∷ 49 ∷ 32 ∷ 50 ∷ 32 ∷ 51 ∷ 32 ∷ 52 ∷ 32 ∷ 53 ∷ 32 ∷ 54 ∷ 32 ∷ 55 ∷ 32 ∷ 56 ∷ [])) 10 (1 ∷ 2 ∷ 3 ∷ 4 ∷ 5 ∷ 6 ∷ 7 ∷ 8 ∷ [])
     -- clear 1 2 3 4 5 6 7 8 9
-    ∷ is (line_call (99 ∷ 108 ∷ 101 ∷ 97 ∷ 114 ∷ 32 ∷ 49 ∷ 32 ∷ 50 ∷ 32 ∷ 51 ∷ 32 ∷ 52 ∷ 32 ∷ 53 ∷ 32 ∷ 54 ∷ 32 ∷ 55 ∷ 32 ∷ 56 ∷ 32 ∷ 57 ∷ [])) 4 0 zeros
+    ∷ is_fault (line_call (99 ∷ 108 ∷ 101 ∷ 97 ∷ 114 ∷ 32 ∷ 49 ∷ 32 ∷ 50 ∷ 32 ∷ 51 ∷ 32 ∷ 52 ∷ 32 ∷ 53 ∷ 32 ∷ 54 ∷ 32 ∷ 55 ∷ 32 ∷ 56 ∷ 32 ∷ 57 ∷ [])) TooManyArguments
     -- raw 1 2 3 4 5 6 7 8 9
-    ∷ is (line_call (114 ∷ 97 ∷ 119 ∷ 32 ∷ 49 ∷ 32 ∷ 50 ∷ 32 ∷ 51 ∷ 32 ∷ 52 ∷ 32 ∷ 53 ∷ 32 ∷ 54 ∷ 32 ∷ 55 ∷ 32 ∷ 56 ∷ 32 ∷ 57 ∷ [])) 0 1 (2 ∷ 3 ∷ 4 ∷ 5 ∷ 6 ∷ 7 ∷ 8 ∷ 9 ∷ [])
+    ∷ is_call (line_call (114 ∷ 97 ∷ 119 ∷ 32 ∷ 49 ∷ 32 ∷ 50 ∷ 32 ∷ 51 ∷ 32 ∷ 52 ∷ 32 ∷ 53 ∷ 32 ∷ 54 ∷ 32 ∷ 55 ∷ 32 ∷ 56 ∷ 32 ∷ 57 ∷ [])) 1 (2 ∷ 3 ∷ 4 ∷ 5 ∷ 6 ∷ 7 ∷ 8 ∷ 9 ∷ [])
     -- raw 1 2 3 4 5 6 7 8 9 10
-    ∷ is (line_call (114 ∷ 97 ∷ 119 ∷ 32 ∷ 49 ∷ 32 ∷ 50 ∷ 32 ∷ 51 ∷ 32 ∷ 52 ∷ 32 ∷ 53 ∷ 32 ∷ 54 ∷ 32 ∷ 55 ∷ 32 ∷ 56 ∷ 32 ∷ 57 ∷ 32 ∷ 49 ∷ 48 ∷ [])) 4 0 zeros
+    ∷ is_fault (line_call (114 ∷ 97 ∷ 119 ∷ 32 ∷ 49 ∷ 32 ∷ 50 ∷ 32 ∷ 51 ∷ 32 ∷ 52 ∷ 32 ∷ 53 ∷ 32 ∷ 54 ∷ 32 ∷ 55 ∷ 32 ∷ 56 ∷ 32 ∷ 57 ∷ 32 ∷ 49 ∷ 48 ∷ [])) TooManyArguments
     -- start 4096
-    ∷ is (line_call (115 ∷ 116 ∷ 97 ∷ 114 ∷ 116 ∷ 32 ∷ 52 ∷ 48 ∷ 57 ∷ 54 ∷ [])) 0 16 (4096 ∷ 0 ∷ 0 ∷ 0 ∷ 0 ∷ 0 ∷ 0 ∷ 0 ∷ [])
+    ∷ is_call (line_call (115 ∷ 116 ∷ 97 ∷ 114 ∷ 116 ∷ 32 ∷ 52 ∷ 48 ∷ 57 ∷ 54 ∷ [])) 16 (4096 ∷ 0 ∷ 0 ∷ 0 ∷ 0 ∷ 0 ∷ 0 ∷ 0 ∷ [])
     -- @3 enqueue 0 0 1 7 0 0 10
-    ∷ is (line_call (64 ∷ 51 ∷ 32 ∷ 101 ∷ 110 ∷ 113 ∷ 117 ∷ 101 ∷ 117 ∷ 101 ∷ 32 ∷ 48 ∷ 32 ∷ 48 ∷ 32 ∷ 49 ∷ 32 ∷ 55 ∷ 32 ∷ 48 ∷ 32 ∷ 48 ∷ 32 ∷ 49 ∷ 48 ∷ [])) 0 (1 + 3 * 256) (0 ∷ 0 ∷ 1 ∷ 7 ∷ 0 ∷ 0 ∷ 10 ∷ 0 ∷ [])
+    ∷ is_call (line_call (64 ∷ 51 ∷ 32 ∷ 101 ∷ 110 ∷ 113 ∷ 117 ∷ 101 ∷ 117 ∷ 101 ∷ 32 ∷ 48 ∷ 32 ∷ 48 ∷ 32 ∷ 49 ∷ 32 ∷ 55 ∷ 32 ∷ 48 ∷ 32 ∷ 48 ∷ 32 ∷ 49 ∷ 48 ∷ [])) (1 + 3 * 256) (0 ∷ 0 ∷ 1 ∷ 7 ∷ 0 ∷ 0 ∷ 10 ∷ 0 ∷ [])
     --  @0 clear # remark
-    ∷ is (line_call (32 ∷ 64 ∷ 48 ∷ 32 ∷ 99 ∷ 108 ∷ 101 ∷ 97 ∷ 114 ∷ 32 ∷ 35 ∷ 32 ∷ 114 ∷ 101 ∷ 109 ∷ 97 ∷ 114 ∷ 107 ∷ [])) 0 10 (0 ∷ 0 ∷ 0 ∷ 0 ∷ 0 ∷ 0 ∷ 0 ∷ 0 ∷ [])
+    ∷ is_call (line_call (32 ∷ 64 ∷ 48 ∷ 32 ∷ 99 ∷ 108 ∷ 101 ∷ 97 ∷ 114 ∷ 32 ∷ 35 ∷ 32 ∷ 114 ∷ 101 ∷ 109 ∷ 97 ∷ 114 ∷ 107 ∷ [])) 10 (0 ∷ 0 ∷ 0 ∷ 0 ∷ 0 ∷ 0 ∷ 0 ∷ 0 ∷ [])
     -- @007 start
-    ∷ is (line_call (64 ∷ 48 ∷ 48 ∷ 55 ∷ 32 ∷ 115 ∷ 116 ∷ 97 ∷ 114 ∷ 116 ∷ [])) 0 (16 + 7 * 256) (0 ∷ 0 ∷ 0 ∷ 0 ∷ 0 ∷ 0 ∷ 0 ∷ 0 ∷ [])
+    ∷ is_call (line_call (64 ∷ 48 ∷ 48 ∷ 55 ∷ 32 ∷ 115 ∷ 116 ∷ 97 ∷ 114 ∷ 116 ∷ [])) (16 + 7 * 256) (0 ∷ 0 ∷ 0 ∷ 0 ∷ 0 ∷ 0 ∷ 0 ∷ 0 ∷ [])
     -- @72057594037927935 open 0 0 100 0 0 0 8
-    ∷ is (line_call (64 ∷ 55 ∷ 50 ∷ 48 ∷ 53 ∷ 55 ∷ 53 ∷ 57 ∷ 52 ∷ 48 ∷ 51 ∷ 55 ∷ 57 ∷ 50 ∷ 55 ∷ 57 ∷ 51 ∷ 53 ∷ 32 ∷ 111 ∷ 112 ∷ 101 ∷ 110 ∷ 32 ∷ 48 ∷ 32 ∷ 48 ∷ 32 ∷ 49 ∷ 48 ∷ 48 ∷ 32 ∷ 48 ∷ 32 ∷ 48 ∷ 32 ∷ 48 ∷ 32 ∷ 56 ∷ [])) 0 (2 ^ 64 - 256) (0 ∷ 0 ∷ 100 ∷ 0 ∷ 0 ∷ 0 ∷ 8 ∷ 0 ∷ [])
+    ∷ is_call (line_call (64 ∷ 55 ∷ 50 ∷ 48 ∷ 53 ∷ 55 ∷ 53 ∷ 57 ∷ 52 ∷ 48 ∷ 51 ∷ 55 ∷ 57 ∷ 50 ∷ 55 ∷ 57 ∷ 51 ∷ 53 ∷ 32 ∷ 111 ∷ 112 ∷ 101 ∷ 110 ∷ 32 ∷ 48 ∷ 32 ∷ 48 ∷ 32 ∷ 49 ∷ 48 ∷ 48 ∷ 32 ∷ 48 ∷ 32 ∷ 48 ∷ 32 ∷ 48 ∷ 32 ∷ 56 ∷ [])) (2 ^ 64 - 256) (0 ∷ 0 ∷ 100 ∷ 0 ∷ 0 ∷ 0 ∷ 8 ∷ 0 ∷ [])
     -- @72057594037927936 open
-    ∷ is (line_call (64 ∷ 55 ∷ 50 ∷ 48 ∷ 53 ∷ 55 ∷ 53 ∷ 57 ∷ 52 ∷ 48 ∷ 51 ∷ 55 ∷ 57 ∷ 50 ∷ 55 ∷ 57 ∷ 51 ∷ 54 ∷ 32 ∷ 111 ∷ 112 ∷ 101 ∷ 110 ∷ [])) 5 0 zeros
+    ∷ is_fault (line_call (64 ∷ 55 ∷ 50 ∷ 48 ∷ 53 ∷ 55 ∷ 53 ∷ 57 ∷ 52 ∷ 48 ∷ 51 ∷ 55 ∷ 57 ∷ 50 ∷ 55 ∷ 57 ∷ 51 ∷ 54 ∷ 32 ∷ 111 ∷ 112 ∷ 101 ∷ 110 ∷ [])) NotADestination
     -- @ 3 open
-    ∷ is (line_call (64 ∷ 32 ∷ 51 ∷ 32 ∷ 111 ∷ 112 ∷ 101 ∷ 110 ∷ [])) 5 0 zeros
+    ∷ is_fault (line_call (64 ∷ 32 ∷ 51 ∷ 32 ∷ 111 ∷ 112 ∷ 101 ∷ 110 ∷ [])) NotADestination
     -- @
-    ∷ is (line_call (64 ∷ [])) 5 0 zeros
+    ∷ is_fault (line_call (64 ∷ [])) NotADestination
     -- @x open
-    ∷ is (line_call (64 ∷ 120 ∷ 32 ∷ 111 ∷ 112 ∷ 101 ∷ 110 ∷ [])) 5 0 zeros
+    ∷ is_fault (line_call (64 ∷ 120 ∷ 32 ∷ 111 ∷ 112 ∷ 101 ∷ 110 ∷ [])) NotADestination
     -- @-1 open
-    ∷ is (line_call (64 ∷ 45 ∷ 49 ∷ 32 ∷ 111 ∷ 112 ∷ 101 ∷ 110 ∷ [])) 5 0 zeros
+    ∷ is_fault (line_call (64 ∷ 45 ∷ 49 ∷ 32 ∷ 111 ∷ 112 ∷ 101 ∷ 110 ∷ [])) NotADestination
     -- @3
-    ∷ is (line_call (64 ∷ 51 ∷ [])) 6 0 zeros
+    ∷ is_fault (line_call (64 ∷ 51 ∷ [])) NoName
     -- @3 # open
-    ∷ is (line_call (64 ∷ 51 ∷ 32 ∷ 35 ∷ 32 ∷ 111 ∷ 112 ∷ 101 ∷ 110 ∷ [])) 6 0 zeros
+    ∷ is_fault (line_call (64 ∷ 51 ∷ 32 ∷ 35 ∷ 32 ∷ 111 ∷ 112 ∷ 101 ∷ 110 ∷ [])) NoName
     -- @3 raw 1
-    ∷ is (line_call (64 ∷ 51 ∷ 32 ∷ 114 ∷ 97 ∷ 119 ∷ 32 ∷ 49 ∷ [])) 6 0 zeros
+    ∷ is_fault (line_call (64 ∷ 51 ∷ 32 ∷ 114 ∷ 97 ∷ 119 ∷ 32 ∷ 49 ∷ [])) NoName
     -- @3 opem
-    ∷ is (line_call (64 ∷ 51 ∷ 32 ∷ 111 ∷ 112 ∷ 101 ∷ 109 ∷ [])) 2 0 zeros
+    ∷ is_fault (line_call (64 ∷ 51 ∷ 32 ∷ 111 ∷ 112 ∷ 101 ∷ 109 ∷ [])) UnknownCall
     -- @3 @4 open
-    ∷ is (line_call (64 ∷ 51 ∷ 32 ∷ 64 ∷ 52 ∷ 32 ∷ 111 ∷ 112 ∷ 101 ∷ 110 ∷ [])) 2 0 zeros
+    ∷ is_fault (line_call (64 ∷ 51 ∷ 32 ∷ 64 ∷ 52 ∷ 32 ∷ 111 ∷ 112 ∷ 101 ∷ 110 ∷ [])) UnknownCall
     -- open @3
-    ∷ is (line_call (111 ∷ 112 ∷ 101 ∷ 110 ∷ 32 ∷ 64 ∷ 51 ∷ [])) 3 0 zeros
+    ∷ is_fault (line_call (111 ∷ 112 ∷ 101 ∷ 110 ∷ 32 ∷ 64 ∷ 51 ∷ [])) NotANumber
     -- @3open
-    ∷ is (line_call (64 ∷ 51 ∷ 111 ∷ 112 ∷ 101 ∷ 110 ∷ [])) 5 0 zeros
+    ∷ is_fault (line_call (64 ∷ 51 ∷ 111 ∷ 112 ∷ 101 ∷ 110 ∷ [])) NotADestination
     -- @3 clear 1 2 3 4 5 6 7 8 9
-    ∷ is (line_call (64 ∷ 51 ∷ 32 ∷ 99 ∷ 108 ∷ 101 ∷ 97 ∷ 114 ∷ 32 ∷ 49 ∷ 32 ∷ 50 ∷ 32 ∷ 51 ∷ 32 ∷ 52 ∷ 32 ∷ 53 ∷ 32 ∷ 54 ∷ 32 ∷ 55 ∷ 32 ∷ 56 ∷ 32 ∷ 57 ∷ [])) 4 0 zeros
+    ∷ is_fault (line_call (64 ∷ 51 ∷ 32 ∷ 99 ∷ 108 ∷ 101 ∷ 97 ∷ 114 ∷ 32 ∷ 49 ∷ 32 ∷ 50 ∷ 32 ∷ 51 ∷ 32 ∷ 52 ∷ 32 ∷ 53 ∷ 32 ∷ 54 ∷ 32 ∷ 55 ∷ 32 ∷ 56 ∷ 32 ∷ 57 ∷ [])) TooManyArguments
     -- open 0 0 100 0 7 9
     ∷ same_text (call_text (new_call 0 (0 ∷ 0 ∷ 100 ∷ 0 ∷ 7 ∷ 9 ∷ 0 ∷ 0 ∷ []))) (111 ∷ 112 ∷ 101 ∷ 110 ∷ 32 ∷ 48 ∷ 32 ∷ 48 ∷ 32 ∷ 49 ∷ 48 ∷ 48 ∷ 32 ∷ 48 ∷ 32 ∷ 55 ∷ 32 ∷ 57 ∷ 10 ∷ [])
     -- enqueue 5 0 1 7 0 0 10 0

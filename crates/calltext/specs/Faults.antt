@@ -1,17 +1,15 @@
 -- The word at fault of a line that is no call. Assumes nothing.
-use Rattle.std.specs.Prelude.{ℕ, ◌+◌, ◌-◌, ◌≤◌, ◌≡◌, Bool, true, false, List, [], ◌∷◌, eqb, leb, length, take, drop}
+use Rattle.std.specs.Prelude.{Option, Some, None, ℕ, ◌+◌, ◌-◌, ◌≤◌, ◌≡◌, Bool, true, false, List, [], ◌∷◌, eqb, leb, length, take, drop}
 use Rattle.words.specs.Pick.{whether◌then◌else◌}
 use Rattle.textwords.specs.Text.{words_of, plain}
-use Rattle.textwords.specs.declared.Number.{Number}
-use Rattle.textwords.specs.declared.Number.TheVariants.{Of, Bad}
 use Rattle.textwords.specs.Numbers.{number_of}
 use Rattle.calltext.specs.declared.Part.{Part}
 use Rattle.calltext.specs.Names.{RAW, name_place}
 use Rattle.calltext.specs.Lines.{at_sign, destination_of}
 
-abbrev pub is_number : Number → Bool
-is_number Bad = false
-is_number (Of v) = true
+abbrev pub is_number : Option ℕ → Bool
+is_number None = false
+is_number (Some v) = true
 
 -- among words of which the first would be number n: the one too many, or the first that is no number
 unfoldable pub fault_among : ℕ → List (List ℕ) → List ℕ

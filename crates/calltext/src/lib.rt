@@ -5,30 +5,34 @@ ghost use Rattle.std.specs.Prelude.{◌≡◌, ◌+◌, ◌<◌, ◌≤◌, ◌^
 ghost use Rattle.textwords.specs.Text.{words_of, same_text};
 ghost use Rattle.callfile.specs.Placed.{Puts, PutLine};
 ghost use Rattle.calltext.specs.Names.{name_at, name_place, has_name, code_place, kind_at};
-ghost use Rattle.calltext.specs.Lines.{parsed_call, without_call, call_of, gather_call, at_sign, small_number, destination_of, named_call, call_for, call_in, line_call};
-ghost use Rattle.calltext.specs.Faults.{is_number, fault_among, fault_named, fault_after, fault_in, fault_word, word_in, WordAt, FaultAt};
+ghost use Rattle.calltext.specs.Lines.{Parsed, call_of, gather_call, at_sign, destination_of, named_call, call_for, call_in, line_call};
+ghost use Rattle.calltext.specs.Faults.{fault_among, fault_named, fault_after, fault_in, fault_word, word_in, WordAt, FaultAt};
 ghost use Rattle.calltext.specs.Shown.{shown_words, fields, code_field, shown_destination, destination_text, call_text};
 
 use calls::Call;
-use textwords::{Number, Stop};
+use textwords::Stop;
 
-// The names, 16 bytes each, by code; the last is that of a call of any code.
-const NAMES: [u8; 288] = [
-    111, 112, 101, 110, 0, 0, 0, 0, 0, 0, 0, 0, 0, 0, 0, 0, 101, 110, 113, 117, 101, 117, 101, 0,
-    0, 0, 0, 0, 0, 0, 0, 0, 106, 111, 105, 110, 0, 0, 0, 0, 0, 0, 0, 0, 0, 0, 0, 0, 108, 101, 97,
-    118, 101, 0, 0, 0, 0, 0, 0, 0, 0, 0, 0, 0, 97, 99, 107, 0, 0, 0, 0, 0, 0, 0, 0, 0, 0, 0, 0, 0,
-    112, 117, 108, 108, 0, 0, 0, 0, 0, 0, 0, 0, 0, 0, 0, 0, 116, 105, 109, 101, 111, 117, 116, 0,
-    0, 0, 0, 0, 0, 0, 0, 0, 112, 114, 101, 102, 101, 116, 99, 104, 0, 0, 0, 0, 0, 0, 0, 0, 117,
-    110, 109, 97, 114, 107, 0, 0, 0, 0, 0, 0, 0, 0, 0, 0, 115, 119, 101, 101, 112, 0, 0, 0, 0, 0,
-    0, 0, 0, 0, 0, 0, 99, 108, 101, 97, 114, 0, 0, 0, 0, 0, 0, 0, 0, 0, 0, 0, 97, 100, 100, 95,
-    112, 114, 111, 100, 117, 99, 101, 114, 0, 0, 0, 0, 114, 101, 109, 111, 118, 101, 95, 112, 114,
-    111, 100, 117, 99, 101, 114, 0, 100, 117, 112, 108, 105, 99, 97, 116, 101, 0, 0, 0, 0, 0, 0, 0,
-    114, 101, 108, 101, 97, 115, 101, 95, 97, 117, 100, 105, 116, 115, 0, 0, 114, 101, 108, 101,
-    97, 115, 101, 0, 0, 0, 0, 0, 0, 0, 0, 0, 115, 116, 97, 114, 116, 0, 0, 0, 0, 0, 0, 0, 0, 0, 0,
-    0, 114, 97, 119, 0, 0, 0, 0, 0, 0, 0, 0, 0, 0, 0, 0, 0,
+// The names by code; the last is that of a call of any code.
+const NAMES: [&str; 18] = [
+    "open",
+    "enqueue",
+    "join",
+    "leave",
+    "ack",
+    "pull",
+    "timeout",
+    "prefetch",
+    "unmark",
+    "sweep",
+    "clear",
+    "add_producer",
+    "remove_producer",
+    "duplicate",
+    "release_audits",
+    "release",
+    "start",
+    "raw",
 ];
-
-const LENGTHS: [u8; 18] = [4, 7, 4, 5, 3, 4, 7, 8, 6, 5, 5, 12, 15, 9, 14, 7, 5, 3];
 
 // What each of a call's eight words holds: 0 nothing, 1 an unsigned number, 2 a signed one.
 const KINDS: [u8; 144] = [
@@ -50,12 +54,18 @@ const MOST_DESTINATION: u64 = 72057594037927935;
 // What stands before a destination's number.
 const AT: u8 = 64;
 
-// A line of text: what it is, and the call.
-#[derive(Clone, Copy)]
-pub struct Parsed {
-    pub kind: u64,
-    pub call: Call,
+// What is wrong with a line.
+#[derive(Clone, Copy, PartialEq, Eq)]
+pub enum Fault {
+    UnknownCall,
+    NotANumber,
+    TooManyArguments,
+    NotADestination,
+    NoName,
 }
+
+// What a line is: a call, nothing, or at fault.
+pub type Parsed = Result<Option<Call>, Fault>;
 
 // A part of a line, from a place to another.
 #[derive(Clone, Copy)]
@@ -64,75 +74,33 @@ pub struct Part {
     pub to: usize,
 }
 
-// What a line can be.
-pub const CALL: u64 = 0;
-
-pub const EMPTY: u64 = 1;
-
-pub const UNKNOWN: u64 = 2;
-
-pub const NO_NUMBER: u64 = 3;
-
-pub const TOO_MANY: u64 = 4;
-
-pub const NO_DESTINATION: u64 = 5;
-
-pub const NO_NAME: u64 = 6;
-
 // ---- names
 
-fn name_length(place: usize) -> usize
+// The name at a place.
+fn name_of(place: usize) -> &'static [u8]
     requires { place < 18 }
-    ensures { (result ≡ length (name_at place)) × (result ≤ 15) }
+    ensures { (result.now ≡ name_at place) × (length result.now ≤ 15) }
 {
-    LENGTHS[place] as usize
-}
-
-// Whether a word is the name at a place.
-fn is_name(word: &[u8], place: usize) -> bool
-    requires { place < 18 }
-    ensures { result ≡ same_text word.now (name_at place) }
-{
-    let names = NAMES;
-    let all: &[u8] = &names;
-    let from = place * 16;
-    let to = from + name_length(place);
-    textwords::same(word, &all[from..to])
+    NAMES[place].as_bytes()
 }
 
 // The place of a name, or 18.
 fn place_of(word: &[u8]) -> usize
     ensures { result ≡ name_place word.now }
 {
-    let mut k = 0;
-    while k < 18 {
-        if is_name(word, k) {
-            return k;
-        }
-        k += 1;
-    }
-    k
+    NAMES
+        .iter()
+        .position(|name| textwords::same(word, name.as_bytes()))
+        .unwrap_or(NAMES.len())
 }
 
 // ---- from a line to a call
 
-fn without_call(kind: u64) -> Parsed
-    ensures { result ≡ without_call kind }
-{
-    Parsed {
-        kind,
-        call: Call::new(0, [0; 8]),
-    }
-}
-
-fn call_of(n: [u64; 9]) -> Parsed
-    ensures { result ≡ parsed_call 0 (call_of n) }
+fn call_of(n: [u64; 9]) -> Call
+    ensures { result ≡ call_of n }
 {
     let words = [n[1], n[2], n[3], n[4], n[5], n[6], n[7], n[8]];
-    Parsed {
-        kind: CALL,
-        call: Call::new(n[0], words),
-    }
+    Call::new(n[0], words)
 }
 
 // The words from a place on, as numbers from the n-th on.
@@ -143,19 +111,20 @@ fn gather_from(text: &[u8], from: usize, first: usize, start: [u64; 9]) -> Parse
     let mut nine = start;
     let mut n = first;
     let mut i = textwords::scan(text, from, Stop::Word);
+    // A while: the place moves on by a word at each turn.
     while i < text.len() {
         if n == 9 {
-            return without_call(TOO_MANY);
+            return Err(Fault::TooManyArguments);
         }
         let e = textwords::scan(text, i, Stop::Blank);
-        let Number::Of(v) = textwords::number_of(&text[i..e]) else {
-            return without_call(NO_NUMBER);
+        let Some(v) = textwords::number_of(&text[i..e]) else {
+            return Err(Fault::NotANumber);
         };
         nine[n] = v;
         n += 1;
         i = textwords::scan(text, e, Stop::Word);
     }
-    call_of(nine)
+    Ok(Some(call_of(nine)))
 }
 
 // The first word from a place on; none, at the end, where there is none.
@@ -181,40 +150,26 @@ fn named_from(text: &[u8], from: usize, d: u64, place: usize) -> Parsed
     if place == RAW {
         return gather_from(text, from, 0, nine);
     }
-    without_call(UNKNOWN)
+    Err(Fault::UnknownCall)
 }
 
 // Whether a word stands for a destination.
 fn at_sign(word: &[u8]) -> bool
     ensures { result ≡ at_sign word.now }
 {
-    if word.len() == 0 {
-        return false;
-    }
-    word[0] == AT
-}
-
-// A number that a destination can have.
-fn small_number(n: Number) -> Number
-    ensures { result ≡ small_number n }
-{
-    let Number::Of(d) = n else {
-        return Number::Bad;
-    };
-    if MOST_DESTINATION < d {
-        return Number::Bad;
-    }
-    Number::Of(d)
+    word.first() == Some(&AT)
 }
 
 // The destination's number in such a word.
-fn destination_of(word: &[u8]) -> Number
+fn destination_of(word: &[u8]) -> Option<u64>
     ensures { result ≡ destination_of word.now }
 {
-    if word.len() == 0 {
-        return Number::Bad;
+    let (_, number) = word.split_first()?;
+    let d = textwords::number_of(number)?;
+    if MOST_DESTINATION < d {
+        return None;
     }
-    small_number(textwords::number_of(&word[1..word.len()]))
+    Some(d)
 }
 
 // The words after a destination's number.
@@ -226,11 +181,11 @@ fn call_for(text: &[u8], from: usize, d: u64) -> Parsed
     let i = w.from;
     let e = w.to;
     if i == text.len() {
-        return without_call(NO_NAME);
+        return Err(Fault::NoName);
     }
     let place = place_of(&text[i..e]);
     if place == RAW {
-        return without_call(NO_NAME);
+        return Err(Fault::NoName);
     }
     named_from(text, e, d, place)
 }
@@ -243,14 +198,14 @@ fn parse_words(text: &[u8]) -> Parsed
     let i = w.from;
     let e = w.to;
     if i == text.len() {
-        return without_call(EMPTY);
+        return Ok(None);
     }
     if !at_sign(&text[i..e]) {
         let place = place_of(&text[i..e]);
         return named_from(text, e, 0, place);
     }
-    let Number::Of(d) = destination_of(&text[i..e]) else {
-        return without_call(NO_DESTINATION);
+    let Some(d) = destination_of(&text[i..e]) else {
+        return Err(Fault::NotADestination);
     };
     call_for(text, e, d)
 }
@@ -265,15 +220,6 @@ pub fn parse(line: &[u8]) -> Parsed
 
 // ---- the word at fault
 
-fn is_number(n: Number) -> bool
-    ensures { result ≡ is_number n }
-{
-    let Number::Of(_) = n else {
-        return false;
-    };
-    true
-}
-
 // The first word from a place on that is no number, or that is one too many.
 fn fault_from(text: &[u8], from: usize, first: usize) -> Part
     requires { (from ≤ length text.now) × (first ≤ 9) }
@@ -281,12 +227,13 @@ fn fault_from(text: &[u8], from: usize, first: usize) -> Part
 {
     let mut n = first;
     let mut i = textwords::scan(text, from, Stop::Word);
+    // A while: the place moves on by a word at each turn.
     while i < text.len() {
         let e = textwords::scan(text, i, Stop::Blank);
         if 8 < n {
             return Part { from: i, to: e };
         }
-        if !is_number(textwords::number_of(&text[i..e])) {
+        if textwords::number_of(&text[i..e]).is_none() {
             return Part { from: i, to: e };
         }
         n += 1;
@@ -341,7 +288,7 @@ fn fault_in(text: &[u8]) -> Part
         let place = place_of(&text[i..e]);
         return fault_named(text, w, place);
     }
-    if !is_number(destination_of(&text[i..e])) {
+    if destination_of(&text[i..e]).is_none() {
         return w;
     }
     fault_after(text, w)
@@ -357,26 +304,11 @@ pub fn fault_of(text: &[u8]) -> Part
 
 // ---- from a call to a line
 
-// Byte j of the name at a place.
-fn name_byte(place: usize, j: usize) -> u8
-    requires { (place < 18) × (j < length (name_at place)) }
-    ensures { result ≡ get_or (name_at place) j 0 }
-{
-    NAMES[place * 16 + j]
-}
-
 fn put_name(out: &mut [u8], at: usize, place: usize) -> usize
     requires { (place < 18) × (at + 15 ≤ (length out.old)) }
     ensures { Puts (name_at place) at out.old result out.new × (result ≤ at + 15) }
 {
-    let n = name_length(place);
-    let mut next = at;
-    let mut j = 0;
-    while j < n {
-        next = callfile::put_byte(out, next, name_byte(place, j));
-        j += 1;
-    }
-    next
+    callfile::put_all(out, at, name_of(place))
 }
 
 // Whether the code in a call's word 0 has a name.
@@ -443,17 +375,12 @@ fn shown_words(place: usize, w: [u64; 8]) -> usize
     requires { place < 18 }
     ensures { (result ≡ shown_words place w 8) × (result ≤ 8) }
 {
-    let mut n = 8;
-    while 0 < n {
-        if kind_at(place, n - 1) != 0 {
-            return n;
+    for k in (0..8).rev() {
+        if kind_at(place, k) != 0 || w[k] != 0 {
+            return k + 1;
         }
-        if w[n - 1] != 0 {
-            return n;
-        }
-        n -= 1;
     }
-    n
+    0
 }
 
 fn put_fields(out: &mut [u8], at: usize, place: usize, w: [u64; 8], n: usize) -> usize
@@ -461,11 +388,9 @@ fn put_fields(out: &mut [u8], at: usize, place: usize, w: [u64; 8], n: usize) ->
     ensures { Puts (fields place w n) at out.old result out.new × (result ≤ at + 176) }
 {
     let mut next = at;
-    let mut k = 0;
-    while k < n {
+    for k in 0..n {
         let minus = kind_at(place, k) == 2;
         next = callfile::put_word(out, next, w[k], minus);
-        k += 1;
     }
     next
 }

@@ -1,14 +1,16 @@
 -- Lists that a loop goes along or changes, one element a turn: the first n of a list from a place on, a function put to the first of them, an
 -- element taken out; and a sum with a bound. Assumes nothing.
 use mathlib.Core.Path.{◌≡◌, refl, sym, ap, ap₂, ◌∙◌}
-use mathlib.Core.List.{List, [], ◌∷◌, ◌++◌, append_assoc, map, map-append}
+use mathlib.Core.List.{List, [], ◌∷◌, ◌++◌, append_assoc, append-nil, map, map-append}
 use Prim.Native.Nat.{ℕ, zero, suc, ◌+◌, ◌-◌, ◌≤◌, ◌<◌, min}
 use native.Mathlib.Nat.{zero-min, min-zero, suc-min-suc}
 use native.Mathlib.Numerals.{add-one}
 use native.Mathlib.Omega.{arith}
-use lib.ListN.{length, take, drop, get_or, set, length-append, length-take, length-map, take-append-drop, drop_of_length-le}
-use lib.Seq.{slice, slice_empty, length-slice, length-take-le, take-suc, drop-cons, drop-append-le, get_or-take, get_or-drop, get_or_at, get_or-append-add, append_snoc, set_at}
+use lib.ListN.{length, take, drop, get_or, set, length-take, length-map, drop_of_length-le}
+use lib.Seq.{slice, length-take-le, take-suc, take-length, drop-cons, drop-append-le, get_or-take, get_or_at, append_snoc, set_at}
 use Rattle.definition.specs.Layout.{Row}
+use Rattle.std.specs.List.{copy_within}
+use Rattle.definition.proofs.Chains.{slice-range}
 use Rattle.consumers.specs.Table.{taken_out, on_first}
 
 module _ {ℓ} {A : Type ℓ} where
@@ -77,45 +79,21 @@ pub on-all : (f : Row → Row) (i n : ℕ) (l : List Row) → i ≡ min n (lengt
 unfolding on_first
 on-all f i n l e = ap (λ (m : ℕ). on_first f m l) e ∙ ap₂ (λ (x y : List Row). map f x ++ y) (same-take n l) (same_drop n l)
 
+-- the first n lent, and each of them changed
+pub on-lent : (f : Row → Row) (i m n : ℕ) (l now : List Row) → m ≡ min n (length l) → i ≡ length (take m l) → now ≡ on_first f i (take m l) → now ++ drop m l ≡ on_first f n l
+unfolding on_first
+on-lent f i m n l now e h q =
+    let x : List Row = take m l in
+    ap (λ (y : List Row). y ++ drop m l)
+    (q ∙ ap₂ (λ (y z : List Row). map f y ++ z) (ap (λ (k : ℕ). take k x) h ∙ take-length x) (drop_of_length-le x {i = i} (omega arith)) ∙ append-nil (map f x))
+    ∙ on-all f m n l e
+
 -- ---- a row taken out
 
-pub out_none : (at : ℕ) (l : List Row) → l ≡ taken_out at (at + 1) l
+pub copied-out : (at n : ℕ) (l : List Row) → at < n → n ≤ length l → copy_within l (at + 1) n at ≡ taken_out at n l
 unfolding taken_out
-out_none at l =
-    let e : at + 1 - 1 ≡ at = omega arith in
-    sym (ap₂ (λ (x : List Row) (m : ℕ). take at l ++ (x ++ drop m l)) (ap (λ (m : ℕ). slice (suc at) m l) (add-one at) ∙ slice_empty (suc at) l) e ∙ take-append-drop at l)
-
-out-split : (at i : ℕ) (l : List Row) → at ≤ i → i < length l
-    → taken_out at (i + 1) l ≡ (take at l ++ slice (suc at) (suc i) l) ++ drop i l
-unfolding taken_out
-out-split at i l h k =
-    let e : i + 1 - 1 ≡ i = omega arith in
-    ap₂ (λ (m o : ℕ). take at l ++ (slice (suc at) m l ++ drop o l)) (add-one i) e ∙ sym (append_assoc (take at l) (slice (suc at) (suc i) l) (drop i l))
-
-out-head : (at i : ℕ) (l : List Row) → at ≤ i → i < length l → length (take at l ++ slice (suc at) (suc i) l) ≡ i
-out-head at i l h k = simp (length-append, length-take-le at l (omega arith), length-slice (suc at) (suc i) l (omega arith)) (omega arith)
-
-pub out-turn : (at i : ℕ) (l now : List Row) → at ≤ i → i + 1 < length l → now ≡ taken_out at (i + 1) l
-    → set now i (get_or now (i + 1) []) ≡ taken_out at (i + 1 + 1) l
-out-turn at i l now h k q =
-    let p : List Row = take at l ++ slice (suc at) (suc i) l in
-    let s : i < length l = omega arith in
-    let g : suc i < length l = omega arith in
-    let now-is : now ≡ p ++ drop i l = q ∙ out-split at i l h s in
-    let n : i + 1 ≡ length p + 1 = ap (λ (m : ℕ). m + 1) (sym (out-head at i l h s)) in
-    let v : get_or now (i + 1) [] ≡ get_or l (suc i) [] =
-    ap₂ (λ (x : List Row) (m : ℕ). get_or x m []) now-is n ∙ get_or-append-add p (drop i l) 1 [] ∙ get_or-drop i l 1 [] ∙ ap (λ (m : ℕ). get_or l m []) (add-one i) in
-    let w : Row = get_or l (suc i) [] in
-    ap (λ (x : Row). set now i x) v
-    ∙ ap (λ (x : List Row). set x i w) (now-is ∙ ap (λ (x : List Row). p ++ x) (drop-cons l i [] s))
-    ∙ set_at p (get_or l i []) (drop (suc i) l) w i (out-head at i l h s)
-    ∙ sym (append_snoc p w (drop (suc i) l))
-    ∙ ap (λ (x : List Row). x ++ drop (suc i) l)
-    (append_assoc (take at l) (slice (suc at) (suc i) l) (w ∷ []) ∙ ap (λ (x : List Row). take at l ++ x) (sym (slice_snoc (suc at) (suc i) l [] (omega arith) g)))
-    ∙ ap (λ (m : ℕ). (take at l ++ slice (suc at) (suc m) l) ++ drop m l) (sym (add-one i))
-    ∙ sym (out-split at (i + 1) l (omega arith) k)
-
--- ---- a sum with a bound
-
-pub capped : (a k r : ℕ) → min 513 (min 513 (a + min 513 k) + r) ≡ min 513 (a + (k + r))
-capped a k r = omega arith
+copied-out at n l h k =
+    let e : at + 1 ≡ suc at = omega arith in
+    let u : at + (n - (at + 1)) ≡ n - 1 = omega arith in
+    append_assoc (take at l) (take (n - (at + 1)) (drop (at + 1) l)) (drop (at + (n - (at + 1))) l)
+    ∙ ap₂ (λ (x : List Row) (m : ℕ). take at l ++ (x ++ drop m l)) (sym (slice-range (at + 1) n l (omega arith)) ∙ ap (λ (m : ℕ). slice m n l) e) u

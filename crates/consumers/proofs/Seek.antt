@@ -1,5 +1,6 @@
 -- The first element that passes a test, by its place: what `find`, `put` and `without` make of a list; and the consumer with an identifier, by
 -- its place in the table. Assumes nothing.
+use Rattle.std.specs.Prelude.{Some, None}
 use mathlib.Core.Path.{◌≡◌, refl, ap, ◌∙◌}
 use mathlib.Core.Bool.{Bool, true, false}
 use mathlib.Core.List.{List, [], ◌∷◌, ◌++◌}
@@ -15,7 +16,6 @@ use Rattle.definition.specs.Types.{Kind}
 use Rattle.definition.specs.Types as Def
 use Rattle.definition.specs.Destination.{is_id, without}
 use Rattle.definition.specs.Layout.{Row, id_at, sub_at, each_sub, subs_at}
-use Rattle.entry.specs.declared.Found.TheVariants.{At, Nothing}
 use Rattle.consumers.specs.Seats.{sub_in}
 use Rattle.consumers.specs.Table.{position_from}
 use Rattle.consumers.proofs.View.{subs-nth}
@@ -59,18 +59,18 @@ module _ {p : Def.Sub → Bool} where
 abbrev pub row_is : Id → Row → Bool
 row_is id w = same_id (id_at w) id
 
-seek : (m : ℕ) (id : Id) (ws : List Row) (i : ℕ) → position_from m id ws ≡ At i → (d : ℕ) × (i ≡ m + d) × First (row_is id) ws d
+seek : (m : ℕ) (id : Id) (ws : List Row) (i : ℕ) → position_from m id ws ≡ Some i → (d : ℕ) × (i ≡ m + d) × First (row_is id) ws d
 unfolding position_from
 seek m id [] i e = absurd (let z : ◌≡◌ {A = ℕ} 0 1 = cc in omega arith)
 seek m id (w ∷ ws) i e = by-test (row_is id w)
-    (λ t. let q : At m ≡ At i = rw t at e in let z : m ≡ i = cc in (0, omega arith, here t))
+    (λ t. let q : Some m ≡ Some i = rw t at e in let z : m ≡ i = cc in (0, omega arith, here t))
     (λ t. let r = seek (suc m) id ws i (rw t at e) in (suc r.0, omega (arith, r.1), there t r.2))
 
-miss : (m : ℕ) (id : Id) (ws : List Row) → position_from m id ws ≡ Nothing → Never (row_is id) ws
+miss : (m : ℕ) (id : Id) (ws : List Row) → position_from m id ws ≡ None → Never (row_is id) ws
 unfolding position_from
 miss m id [] e = nowhere
 miss m id (w ∷ ws) e = by-test (row_is id w)
-    (λ t. let q : At m ≡ Nothing = rw t at e in absurd (let z : ◌≡◌ {A = ℕ} 0 1 = cc in omega arith))
+    (λ t. let q : Some m ≡ None = rw t at e in absurd (let z : ◌≡◌ {A = ℕ} 0 1 = cc in omega arith))
     (λ t. not-here t (miss (suc m) id ws (rw t at e)))
 
 -- the table's place is the view's
@@ -84,7 +84,7 @@ unfolding each_sub sub_at
 never-sub k id rows nowhere = nowhere
 never-sub k id rows (not-here t f) = not-here t (never-sub k id _ f)
 
-module _ (id : Id) (ws : List Row) (i : ℕ) (e : position_from 0 id ws ≡ At i) where
+module _ (id : Id) (ws : List Row) (i : ℕ) (e : position_from 0 id ws ≡ Some i) where
   pub position_first : First (row_is id) ws i
   position_first = let r = seek 0 id ws i e in let d : r.0 ≡ i = omega (arith, r.1) in rw d at r.2
 
@@ -100,7 +100,7 @@ module _ (id : Id) (ws : List Row) (i : ℕ) (e : position_from 0 id ws ≡ At i
   pub without_at : (k : Kind) (rows : List Row) → without (is_id id) (subs_at k ws rows) ≡ take i (subs_at k ws rows) ++ drop (suc i) (subs_at k ws rows)
   without_at k rows = first-without (first-sub k id rows position_first)
 
-module _ (id : Id) (ws : List Row) (e : position_from 0 id ws ≡ Nothing) where
+module _ (id : Id) (ws : List Row) (e : position_from 0 id ws ≡ None) where
   pub position-never : Never (row_is id) ws
   position-never = miss 0 id ws e
 

@@ -37,10 +37,6 @@ sixteen-words w e = ap (elements (λ k. get_or w k 0)) (sym e) ∙ listed w
 pub holder-words : (w : Row) → id_at (drop 6 w) ≡ id_of (get_or w 6 0) (get_or w 7 0) (get_or w 8 0)
 holder-words w = rw (get_or-drop 6 w 0 0, get_or-drop 6 w 1 0, get_or-drop 6 w 2 0)
 
-pub same-words : (w : Row) (c s v : ℕ) → Fits w64 (at 1 w) → Fits w64 (at 2 w) → Fits w64 s → Fits w64 v
-    → same_id (id_at w) (id_of c s v) ≡ (eqb (at 0 w) c && (eqb (at 1 w) s && eqb (at 2 w) v))
-same-words w c s v f g h k = rw (same-signed-words (at 1 w) s f.fits h.fits, same-signed-words (at 2 w) v g.fits k.fits)
-
 -- an identifier by its words, which the code makes of the bits of its numbers
 pub id-words : (i : Id) (s v : ℕ) → SFits w64 i.session → SFits w64 i.value → s ≡ unsigned (to_z w64 (of_z w64 i.session)) → v ≡ unsigned (to_z w64 (of_z w64 i.value))
     → id_of i.conn s v ≡ i

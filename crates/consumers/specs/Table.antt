@@ -1,5 +1,5 @@
 -- The table of consumers, a row of sixteen words each: what the functions on its first n rows answer and leave. Assumes nothing.
-use Rattle.std.specs.Prelude.{ℕ, suc, ◌+◌, ◌-◌, ◌^◌, min, Bool, ◌&&◌, List, [], ◌∷◌, ◌++◌, map, leb, ltb, length, take, drop, set}
+use Rattle.std.specs.Prelude.{ℕ, suc, ◌+◌, ◌-◌, ◌^◌, min, Bool, ◌&&◌, List, [], ◌∷◌, ◌++◌, map, leb, ltb, length, take, drop, set, Option, Some, None}
 use Rattle.std.proofs.Math.Seq.{slice}
 use Rattle.words.specs.Pick.{whether◌then◌else◌}
 use Rattle.entry.specs.declared.Entry.{Entry}
@@ -7,14 +7,12 @@ use Rattle.model.specs.declared.Id.{Id}
 use Rattle.model.specs.Model.{same_id}
 use Rattle.definition.specs.Words.{at}
 use Rattle.definition.specs.Layout.{Row, flag, id_at, inflight_count, held_count}
-use Rattle.entry.specs.declared.Found.{Found}
-use Rattle.entry.specs.declared.Found.TheVariants.{At, Nothing}
 use Rattle.consumers.specs.Consumers.{row_sub, accepts_of}
 
 -- `position`: the first with that identifier, where the first of all stands at i
-unfoldable pub position_from : ℕ → Id → List Row → Found
-position_from i id [] = Nothing
-position_from i id (w ∷ ws) = whether same_id (id_at w) id then At i else position_from (suc i) id ws
+unfoldable pub position_from : ℕ → Id → List Row → Option ℕ
+position_from i id [] = None
+position_from i id (w ∷ ws) = whether same_id (id_at w) id then Some i else position_from (suc i) id ws
 
 -- the row at a place taken out of the first n; the last of the n places keeps what it held
 unfoldable pub taken_out : ℕ → ℕ → List Row → List Row

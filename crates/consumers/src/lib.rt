@@ -10,10 +10,14 @@ ghost use Rattle.definition.specs.Layout.{id_at, held_at, inflight_count, held_c
 ghost use Rattle.consumers.specs.Consumers.{row_sub, sub_words, credit_of, local_of, accepts_of, sent_of};
 ghost use Rattle.consumers.specs.Table.{sixteen, position_from, taken_out, sub_removed, held_back_row, cleared_row, on_first, takes_entry, held_counted, kept_by, kept_rows, fitting};
 
-use entry::{Entry, Found, ROWS, Row};
+use entry::{Entry, ROWS, Row};
 use model::Id;
 
 pub type SubRow = [u64; 16];
+
+// Here and above, the tables of consumers, rows and events are parameters of their own: a struct of `&mut` slices would ask of each contract
+// that its three references are the same as before, and each body would take it apart to lend one of them as `&`.
+// Functions on the first n rows take the table and n, not a part of it: where the table is shorter they go to its end, as their contracts say.
 
 // Places in a consumer's row that are read one by one.
 pub const BROWSER: usize = 6;
@@ -36,7 +40,7 @@ const NUMBER_MOST: u64 = 72057594037927937;
 // Above 2^63 a number does not rise.
 const RISING_MOST: u64 = 9223372036854775808;
 
-// The identifier is kept as its three words. `pull` is read where `pulling` is set.
+// The identifier is kept as its three words. `pull` is read where `pulling` is set; two fields, as `sub_words` writes both.
 #[derive(Clone, Copy)]
 pub struct Sub {
     pub conn: u64,
@@ -68,11 +72,7 @@ impl Sub {
     fn window(self) -> usize
         ensures { result ≡ self.inflight - self.freed }
     {
-        if self.freed <= self.inflight {
-            self.inflight - self.freed
-        } else {
-            0
-        }
+        self.inflight.saturating_sub(self.freed)
     }
 
     pub fn has_credit(self) -> bool
@@ -88,61 +88,33 @@ impl Sub {
     fn is_local(self, producer: u64) -> bool
         ensures { result ≡ local_of self producer }
     {
-        if !self.no_local {
-            return false;
-        }
-        if producer == 0 {
-            return false;
-        }
-        producer == self.conn
+        self.no_local && producer != 0 && producer == self.conn
     }
 
     pub fn accepts(self, e: Entry) -> bool
         ensures { result ≡ accepts_of self e }
     {
-        if self.is_local(e.producer) {
-            return false;
-        }
-        entry::selects(e.match_word, self.selector)
+        !self.is_local(e.producer) && entry::selects(e.match_word, self.selector)
     }
 
     // `Sub::send`: one more in flight, and no pull waits. Where a number cannot rise, nothing.
-    pub fn sent(mut self) -> Sub
+    pub fn sent(self) -> Sub
         ensures { result ≡ sent_of self }
     {
-        if RISING_MOST < self.next_dseq {
+        if RISING_MOST < self.next_dseq || RISING_MOST < self.inflight as u64 {
             return self;
         }
-        if RISING_MOST < self.inflight as u64 {
-            return self;
+        Sub {
+            next_dseq: self.next_dseq + 1,
+            inflight: self.inflight + 1,
+            pulling: false,
+            pull: 0,
+            ..self
         }
-        self.next_dseq = self.next_dseq + 1;
-        self.inflight = self.inflight + 1;
-        self.pulling = false;
-        self.pull = 0;
-        self
     }
 }
 
-pub fn least(a: u64, b: u64) -> u64
-    ensures { result ≡ min a b }
-{
-    if a <= b { a } else { b }
-}
-
-fn before(seq: u64) -> u64
-    ensures { result ≡ seq - 1 }
-{
-    if 0 < seq { seq - 1 } else { 0 }
-}
-
-// The end of the first n of a table of this length.
-pub fn end_of(n: usize, len: usize) -> usize
-    ensures { result ≡ min n len }
-{
-    if n <= len { n } else { len }
-}
-
+// Not a From, nor the next: those would be public, and rows are read and written by `load` and `store` alone.
 fn sub_of(w: SubRow) -> Sub
     ensures { result ≡ row_sub w }
 {
@@ -213,53 +185,32 @@ pub fn store(subs: &mut [SubRow], i: usize, s: Sub)
 fn is_id(w: SubRow, conn: u64, session: u64, value: u64) -> bool
     ensures { result ≡ same_id (id_at w) (id_of conn session value) }
 {
-    if w[0] != conn {
-        return false;
-    }
-    if w[1] != session {
-        return false;
-    }
-    w[2] == value
+    w[0] == conn && w[1] == session && w[2] == value
 }
 
 // Whether a row is reserved for that consumer.
 pub fn is_for(row: Row, id: Id) -> bool
     ensures { result ≡ Destination.held_by id (held_at row) }
 {
-    Id::of_words(row[6], row[7], row[8]).same(id)
+    Id::of_words(row[6], row[7], row[8]) == id
 }
 
 // Where among the first n the consumer with that identifier stands (`position`).
-pub fn position(subs: &[SubRow], n: usize, id: Id) -> Found
+pub fn position(subs: &[SubRow], n: usize, id: Id) -> Option<usize>
     ensures { result ≡ position_from 0 id (take n subs.now) }
 {
     let session = words::word_of(id.session);
     let value = words::word_of(id.value);
-    let end = end_of(n, subs.len());
-    let mut i = 0;
-    while i < end {
-        if is_id(subs[i], id.conn, session, value) {
-            return Found::At(i);
-        }
-        i += 1;
-    }
-    Found::Nothing
+    subs.iter()
+        .take(n)
+        .position(|w| is_id(*w, id.conn, session, value))
 }
 
 // The sum, or 513 for more than 512.
 fn sum_of(a: u64, b: u64) -> usize
     ensures { result ≡ min 513 (a + b) }
 {
-    if 512 < a {
-        return ROWS + 1;
-    }
-    if 512 < b {
-        return ROWS + 1;
-    }
-    if 512 < a + b {
-        return ROWS + 1;
-    }
-    (a + b) as usize
+    a.saturating_add(b).min(ROWS as u64 + 1) as usize
 }
 
 // How many rows a consumer has, or 513 for more than 512.
@@ -273,51 +224,17 @@ fn rows_of(w: SubRow) -> usize
 pub fn base_of(subs: &[SubRow], n: usize) -> usize
     ensures { result ≡ min 513 (sub_rows (take n subs.now)) }
 {
-    let end = end_of(n, subs.len());
-    let mut base = 0;
-    let mut i = 0;
-    while i < end {
-        let w = subs[i];
-        let inflight = w[INFLIGHT];
-        let held = w[HELD];
-        if 512 < inflight {
-            return ROWS + 1;
-        }
-        if 512 < held {
-            return ROWS + 1;
-        }
-        base += (inflight + held) as usize;
-        if 512 < base {
-            return ROWS + 1;
-        }
-        i += 1;
-    }
-    base
+    subs.iter()
+        .take(n)
+        .fold(0, |base, w| sum_of(base as u64, rows_of(*w) as u64))
 }
 
 // Takes the consumer at a place out of the first n.
 pub fn remove(subs: &mut [SubRow], at: usize, n: usize)
     ensures { subs.new ≡ sub_removed at n subs.old }
 {
-    if subs.len() < n {
-        return;
-    }
-    if n <= at {
-        return;
-    }
-    close(subs, at, n);
-}
-
-fn close(subs: &mut [SubRow], at: usize, n: usize)
-    requires { (at < n) × (n ≤ length subs.old) }
-    ensures { subs.new ≡ taken_out at n subs.old }
-{
-    let last = n - 1;
-    let mut i = at;
-    while i < last {
-        let next = subs[i + 1];
-        subs[i] = next;
-        i += 1;
+    if n <= subs.len() && at < n {
+        subs.copy_within(at + 1..n, at);
     }
 }
 
@@ -325,7 +242,7 @@ fn close(subs: &mut [SubRow], at: usize, n: usize)
 fn up_to(mut w: SubRow, most: u64) -> SubRow
     ensures { result ≡ set (sixteen w) 9 (min (at 9 w) most) }
 {
-    w[CURSOR] = least(w[CURSOR], most);
+    w[CURSOR] = w[CURSOR].min(most);
     w
 }
 
@@ -333,12 +250,11 @@ fn up_to(mut w: SubRow, most: u64) -> SubRow
 pub fn hold_back(subs: &mut [SubRow], n: usize, seq: u64)
     ensures { subs.new ≡ on_first (held_back_row seq) n subs.old }
 {
-    let most = before(seq);
-    let end = end_of(n, subs.len());
-    let mut i = 0;
-    while i < end {
-        subs[i] = up_to(subs[i], most);
-        i += 1;
+    let most = seq.saturating_sub(1);
+    let end = n.min(subs.len());
+    // A loop of two lines, as in `clear`: a shared function would be no shorter.
+    for w in &mut subs[..end] {
+        *w = up_to(*w, most);
     }
 }
 
@@ -346,29 +262,17 @@ pub fn hold_back(subs: &mut [SubRow], n: usize, seq: u64)
 pub fn accepting(subs: &[SubRow], n: usize, e: Entry) -> usize
     ensures { result ≡ tally (takes_entry e) (take n subs.now) }
 {
-    let end = end_of(n, subs.len());
-    let mut count = 0;
-    let mut i = 0;
-    while i < end {
-        if sub_of(subs[i]).accepts(e) {
-            count += 1;
-        }
-        i += 1;
-    }
-    count
+    subs.iter()
+        .take(n)
+        .filter(|w| sub_of(**w).accepts(e))
+        .count()
 }
 
 // What one consumer holds that is no snapshot of a queue.
 fn held_of(w: SubRow, queue: bool) -> u64
     ensures { result ≡ held_counted queue w }
 {
-    if !queue {
-        return w[HELD];
-    }
-    if w[BROWSER] == 0 {
-        return w[HELD];
-    }
-    0
+    if queue && w[BROWSER] != 0 { 0 } else { w[HELD] }
 }
 
 // The same, with what it has in flight; 513 for more than 512.
@@ -382,14 +286,10 @@ fn kept_by(w: SubRow, queue: bool) -> usize
 pub fn held_rows(subs: &[SubRow], n: usize, queue: bool) -> usize
     ensures { result ≡ min 513 (kept_rows queue (take n subs.now)) }
 {
-    let end = end_of(n, subs.len());
-    let mut count = 0;
-    let mut i = 0;
-    while i < end {
-        count = sum_of(count as u64, kept_by(subs[i], queue) as u64);
-        i += 1;
-    }
-    count
+    subs.iter().take(n).fold(
+        0,
+        |count, w| sum_of(count as u64, kept_by(*w, queue) as u64),
+    )
 }
 
 // A row with nothing freed, in flight or held.
@@ -406,11 +306,9 @@ fn emptied(mut w: SubRow) -> SubRow
 pub fn clear(subs: &mut [SubRow], n: usize)
     ensures { subs.new ≡ on_first cleared_row n subs.old }
 {
-    let end = end_of(n, subs.len());
-    let mut i = 0;
-    while i < end {
-        subs[i] = emptied(subs[i]);
-        i += 1;
+    let end = subs.len().min(n);
+    for w in &mut subs[..end] {
+        *w = emptied(*w);
     }
 }
 
@@ -418,26 +316,12 @@ pub fn clear(subs: &mut [SubRow], n: usize)
 fn fits(w: SubRow) -> bool
     ensures { result ≡ fitting w }
 {
-    if w[INFLIGHT] < w[FREED] {
-        return false;
-    }
-    if NUMBER_MOST < w[NEXT_DSEQ] {
-        return false;
-    }
-    w[GENERATION] <= NUMBER_MOST
+    w[FREED] <= w[INFLIGHT] && w[NEXT_DSEQ] <= NUMBER_MOST && w[GENERATION] <= NUMBER_MOST
 }
 
 // Whether the first n do.
 pub fn fit(subs: &[SubRow], n: usize) -> bool
     ensures { result ≡ all fitting (take n subs.now) }
 {
-    let end = end_of(n, subs.len());
-    let mut i = 0;
-    while i < end {
-        if !fits(subs[i]) {
-            return false;
-        }
-        i += 1;
-    }
-    true
+    subs.iter().take(n).all(|w| fits(*w))
 }

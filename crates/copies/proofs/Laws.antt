@@ -3,22 +3,22 @@ use mathlib.Core.Path.{◌≡◌, refl, sym, ap, ap₂, ◌∙◌, subst}
 use mathlib.Core.Bool.{Bool, true, false, not, ◌&&◌, ◌||◌, or-true, true≢false}
 use mathlib.Core.List.{List, [], ◌∷◌, map}
 use Prim.Native.Nat.{ℕ, zero, suc, ◌+◌, ◌-◌, ◌%◌, ◌≤◌, ◌<◌}
-use native.Mathlib.Numerals.{add-one}
 use native.Mathlib.Omega.{arith}
 use borrow.Author.Tests.{eqb-true, eqb-false, eq-eqb, ne_eqb}
-use lib.Dec.{leb, eqb}
+use lib.Dec.{eqb}
 use lib.ListN.{length, take, drop, get_or, set, replicate, length-take, length-drop}
 use lib.Seq.{slice, slice_empty, slice-cons, get_or-drop, get_or-take, get_or-set_same, get_or-set_other}
-use Rattle.words.specs.Pick.{whether◌then◌else◌}
 use Rattle.words.proofs.Tests.{by-test}
 use Rattle.entry.specs.Entry.{entry_of}
-use Rattle.definition.specs.Base.{all, member, tally}
+use Rattle.definition.specs.Base.{all, member}
 use Rattle.definition.specs.Calls.{sizes_agree}
 use Rattle.definition.specs.Types.{Entry}
 use Rattle.definition.specs.Words.{at}
 use Rattle.definition.specs.Layout.{Row}
 use Rattle.definition.proofs.Tests.{and_left, and_right, and_both}
 use Rattle.definition.proofs.Lists.{all-at}
+use Rattle.definition.proofs.Chains.{slice-range}
+use Rattle.std.specs.List.{slice_range}
 use Rattle.distinct.proofs.Laws.{eqb_comm}
 use Rattle.copies.specs.Copies.{alike, agree_at, Slot}
 
@@ -117,12 +117,6 @@ pub slots_at : (m : ℕ) (slots : List ℕ) (from to : ℕ) (rows : List Row) �
 unfolding Slots
 slots_at m slots from to rows s x = s x
 
-pub slots_small : (m : ℕ) (slots : List ℕ) (from to : ℕ) (rows : List Row) → Slots m slots from to rows → (x : ℕ) → get_or slots (x % m) 0 ≤ to
-unfolding Slots
-slots_small m slots from to rows s x = by-test (eqb (get_or slots (x % m) 0) 0)
-    (λ t. omega (arith, eqb-true (get_or slots (x % m) 0) 0 t))
-    (λ t. ((s x).1 (omega (arith, eqb-false (get_or slots (x % m) 0) 0 t))).1)
-
 -- where nothing was met
 pub slots-none : (m n : ℕ) (rows : List Row) → Slots m (replicate m 0) n n rows
 unfolding Slots
@@ -157,6 +151,13 @@ module _ (rows : List Row) (i n : ℕ) (b : n ≤ length rows) (h : 0 < i) (k : 
         λ p. let r = (s x).1 (subst (λ (y : ℕ). 0 < y) v p) in (omega (arith, v, r.0), omega (arith, v, r.1)),
       ))
 
+  pub after : i - 1 + 1 ≡ i
+  after = omega (arith, h)
+
+  -- the test of the rows after it, as the code takes them
+  pub alike-after : all (alike (at 0 last) (at 9 last)) (slice i n rows) ≡ all (alike (at 0 last) (at 9 last)) (slice_range rows (i - 1 + 1) n)
+  alike-after = ap (all (alike (at 0 last) (at 9 last))) (slice-range i n rows k ∙ ap (λ (j : ℕ). slice_range rows j n) (sym after))
+
   -- ---- the turns from the last row to the first
 
   pub agree-more : agree_at (slice i n rows) ≡ true → all (alike (at 0 last) (at 9 last)) (slice i n rows) ≡ true → agree_at (slice (i - 1) n rows) ≡ true
@@ -179,43 +180,3 @@ agree-none n rows = ap agree_at (slice_empty n rows)
 
 pub agree-all : (i n : ℕ) (rows : List Row) → i ≡ 0 → agree_at (slice i n rows) ≡ true → true ≡ agree_at (take n rows)
 agree-all i n rows e a = sym (sym (ap (λ (j : ℕ). agree_at (slice j n rows)) e) ∙ a)
-
--- ---- the turns of the loops over rows and over consumers, from the first on
-
-module _ (rows : List Row) (i to : ℕ) (b : to ≤ length rows) where
-  pub part-turn : i < to → slice i to rows ≡ get_or rows i [] ∷ slice (i + 1) to rows
-  part-turn h = slice-cons i to rows [] h b ∙ ap (λ (j : ℕ). get_or rows i [] ∷ slice j to rows) (sym (add-one i))
-
-  module _ (p : Row → Bool) (total : Bool) (e : all p (slice i to rows) ≡ total) where
-    turn : i < to → (p (get_or rows i []) && all p (slice (i + 1) to rows)) ≡ total
-    turn h = sym (ap (all p) (part-turn h)) ∙ e
-
-    pub all-stop : i < to → p (get_or rows i []) ≡ false → false ≡ total
-    all-stop h q = sym (ap (λ (c : Bool). c && all p (slice (i + 1) to rows)) q) ∙ turn h
-
-    pub all-next : i < to → p (get_or rows i []) ≡ true → all p (slice (i + 1) to rows) ≡ total
-    all-next h q = sym (ap (λ (c : Bool). c && all p (slice (i + 1) to rows)) q) ∙ turn h
-
-    pub all_end : i ≡ to → true ≡ total
-    all_end q = sym (ap (all p) (ap (λ (j : ℕ). slice j to rows) q ∙ slice_empty to rows)) ∙ e
-
-  pub tally-turn : (p : Row → Bool) → i < to → tally p (slice i to rows) ≡ (whether p (get_or rows i []) then 1 else 0) + tally p (slice (i + 1) to rows)
-  tally-turn p h = ap (tally p) (part-turn h)
-
-pub tally-end : (rows : List Row) (i to : ℕ) (p : Row → Bool) → i ≡ to → tally p (slice i to rows) ≡ 0
-tally-end rows i to p q = ap (tally p) (ap (λ (j : ℕ). slice j to rows) q ∙ slice_empty to rows)
-
--- a row with the number and another size
-pub alike-test : (x z : ℕ) (w : Row) (b : Bool) → (eqb (at 0 w) x && not (eqb (at 9 w) z)) ≡ b → alike x z w ≡ not b
-alike-test x z w b e = ap₂ (λ (c d : Bool). not c || d) (eqb_comm x (at 0 w)) (eqb_comm z (at 9 w)) ∙ turned (eqb (at 0 w) x) (eqb (at 9 w) z) ∙ ap not e
-  where
-    turned : (c d : Bool) → (not c || d) ≡ not (c && not d)
-    turned true true = refl
-    turned true false = refl
-    turned false d = refl
-
-pub enough-queue : (q : Bool) (n : ℕ) → q ≡ true → leb 1 n ≡ leb (whether q then 1 else 2) n
-enough-queue q n e = ap (λ (b : Bool). leb (whether b then 1 else 2) n) (sym e)
-
-pub enough-topic : (q : Bool) (n : ℕ) → q ≡ false → leb 2 n ≡ leb (whether q then 1 else 2) n
-enough-topic q n e = ap (λ (b : Bool). leb (whether b then 1 else 2) n) (sym e)

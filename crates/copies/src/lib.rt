@@ -1,9 +1,8 @@
 // Copies of one entry among rows: whether they agree on its size (document 02 §3), and whether there may be any.
 #![tactic(auto)]
 
-ghost use Rattle.std.specs.Prelude.{◌≡◌, true, map, ◌≤◌, length, take, leb};
+ghost use Rattle.std.specs.Prelude.{◌≡◌, true, map, ◌<◌, ◌≤◌, length, take};
 ghost use Rattle.std.proofs.Math.Seq.{slice};
-ghost use Rattle.words.specs.Pick.{whether◌then◌else◌};
 ghost use Rattle.entry.specs.Entry.{entry_of};
 ghost use Rattle.definition.specs.Base.{all, tally};
 ghost use Rattle.definition.specs.Calls.{sizes_agree};
@@ -13,21 +12,11 @@ use entry::Row;
 
 type SubRow = [u64; 16];
 
-// Whether each of rows[from..to] with this number has this size.
-fn alike(rows: &[Row], from: usize, to: usize, seq: u64, size: u64) -> bool
-    requires from_le_to { from ≤ to }
-    requires to_in_bounds { to ≤ length rows.now }
-    ensures { result ≡ all (alike seq size) (slice from to rows.now) }
+// Whether each row with this number has this size.
+fn alike(rows: &[Row], seq: u64, size: u64) -> bool
+    ensures { result ≡ all (alike seq size) rows.now }
 {
-    let mut i = from;
-    while i < to {
-        let row = rows[i];
-        if (row[0] == seq) & (row[9] != size) {
-            return false;
-        }
-        i += 1;
-    }
-    true
+    rows.iter().all(|row| (seq != row[0]) | (size == row[9]))
 }
 
 // The same where the rows agree and the table holds this place for the number: one copy stands for all.
@@ -45,7 +34,7 @@ fn agrees(rows: &[Row], from: usize, to: usize, seq: u64, size: u64, place: usiz
     if row[0] == seq {
         return row[9] == size;
     }
-    alike(rows, from, to, seq, size)
+    alike(&rows[from..to], seq, size)
 }
 
 // Whether the first n rows agree, pair by pair.
@@ -53,55 +42,31 @@ fn few_agree(rows: &[Row], n: usize) -> bool
     requires { n ≤ length rows.now }
     ensures { result ≡ agree_at (take n rows.now) }
 {
-    let mut i = n;
-    while 0 < i {
-        let row = rows[i - 1];
-        if !alike(rows, i, n, row[0], row[9]) {
+    for i in (0..n).rev() {
+        let row = rows[i];
+        if !alike(&rows[i + 1..n], row[0], row[9]) {
             return false;
         }
-        i -= 1;
     }
     true
 }
 
 // The same with a table of the places met, one after the other from the end: by a number's remainder, the place after the last row met, 0 for none.
-fn many_agree(rows: &[Row], n: usize) -> bool
+fn many_agree<const N: usize>(rows: &[Row], n: usize) -> bool
+    requires table { (0 < N) × (N ≤ 1024) }
     requires n_in_bounds { n ≤ length rows.now }
     requires n_bound { n ≤ 512 }
     ensures { result ≡ agree_at (take n rows.now) }
 {
-    let mut slots = [0u16; 1024];
-    let mut i = n;
-    while 0 < i {
-        let row = rows[i - 1];
+    let mut slots = [0u16; N];
+    for i in (0..n).rev() {
+        let row = rows[i];
         let seq = row[0];
-        let slot = (seq % 1024) as usize;
-        if !agrees(rows, i, n, seq, row[9], slots[slot] as usize) {
+        let slot = (seq % N as u64) as usize;
+        if !agrees(rows, i + 1, n, seq, row[9], slots[slot] as usize) {
             return false;
         }
-        slots[slot] = i as u16;
-        i -= 1;
-    }
-    true
-}
-
-// The same for fewer rows, with a smaller table.
-fn some_agree(rows: &[Row], n: usize) -> bool
-    requires n_in_bounds { n ≤ length rows.now }
-    requires n_bound { n ≤ 64 }
-    ensures { result ≡ agree_at (take n rows.now) }
-{
-    let mut marks = [0u8; 256];
-    let mut i = n;
-    while 0 < i {
-        let row = rows[i - 1];
-        let seq = row[0];
-        let mark = (seq % 256) as usize;
-        if !agrees(rows, i, n, seq, row[9], marks[mark] as usize) {
-            return false;
-        }
-        marks[mark] = i as u8;
-        i -= 1;
+        slots[slot] = (i + 1) as u16;
     }
     true
 }
@@ -118,10 +83,10 @@ pub fn agree(rows: &[Row], n: usize) -> bool
         return few_agree(rows, n);
     }
     if n <= distinct::SOME {
-        return some_agree(rows, n);
+        return many_agree::<256>(rows, n);
     }
     if n <= entry::ROWS {
-        return many_agree(rows, n);
+        return many_agree::<1024>(rows, n);
     }
     few_agree(rows, n)
 }
@@ -133,28 +98,11 @@ fn holds(w: SubRow, on_queue: bool) -> bool
     (!on_queue | (w[6] != 0)) & !((w[14] == 0) & (w[15] == 0))
 }
 
-// How many of the first n have.
-fn holders(subs: &[SubRow], n: usize, on_queue: bool) -> u64
-    requires { n ≤ (length subs.now) }
+// How many of the first n have; of all of them, where there are fewer.
+fn holders(subs: &[SubRow], n: usize, on_queue: bool) -> usize
     ensures { result ≡ tally (may_copy on_queue) (take n subs.now) }
 {
-    let mut count = 0;
-    let mut i = 0;
-    while i < n {
-        count += holds(subs[i], on_queue) as u64;
-        i += 1;
-    }
-    count
-}
-
-// Whether they are enough.
-fn enough(count: u64, on_queue: bool) -> bool
-    ensures { result ≡ leb (whether on_queue then 1 else 2) count }
-{
-    if on_queue {
-        return 1 <= count;
-    }
-    2 <= count
+    subs.iter().take(n).filter(|w| holds(**w, on_queue)).count()
 }
 
 // Whether an entry may have more than one row, by the first n consumers (all of them, where there are fewer): on a queue if a browser has rows, on a topic if
@@ -162,9 +110,6 @@ fn enough(count: u64, on_queue: bool) -> bool
 pub fn shared(subs: &[SubRow], n: usize, on_queue: bool) -> bool
     ensures { result ≡ shared_by on_queue (take n subs.now) }
 {
-    let len = subs.len();
-    if len < n {
-        return enough(holders(subs, len, on_queue), on_queue);
-    }
-    enough(holders(subs, n, on_queue), on_queue)
+    let count = holders(subs, n, on_queue);
+    if on_queue { 1 <= count } else { 2 <= count }
 }

@@ -36,3 +36,4 @@ pub mod Room
 pub mod Sends
 pub mod Refusals
 pub mod Claims
+pub mod Chains

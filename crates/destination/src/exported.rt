@@ -255,10 +255,8 @@ pub extern "C" fn destination_page(
         × (lines.new ≡ written (buffer_page (lent head.now subs.now rows.now) (length lines.old) offset limit).lines lines.old) }
 {
     let p = queries::plan(head, subs, rows, lines.len(), offset, limit);
-    let mut i = 0;
-    while i < p.count {
+    for i in 0..p.count {
         lines[i] = queries::line_at(rows, p.from, i);
-        i += 1;
     }
     Paged {
         refusal: p.refusal,

@@ -32,6 +32,7 @@ pub extern "C" fn destination_outlook(
 {
     let p = outlooks::plan(head, subs, rows, lines.len(), span);
     let mut i = 0;
+    // A while, for the stack: see `outlooks`.
     while i < p.count {
         lines[i] = outlooks::line_of(rows, p, i);
         i += 1;

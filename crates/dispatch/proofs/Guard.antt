@@ -1,12 +1,15 @@
 -- When a dispatch does anything: by kind, and where all numbers fit. Assumes nothing.
 use mathlib.Core.Path.{◌≡◌, refl, sym, ap, ◌∙◌}
-use mathlib.Core.Bool.{Bool, true, false, not, ◌&&◌}
-use mathlib.Core.List.{List}
-use Prim.Native.Nat.{ℕ, ◌≤◌, ◌<◌, ◌^◌}
+use mathlib.Core.Bool.{Bool, true, false, not, ◌&&◌, ◌||◌}
+use mathlib.Core.List.{List, [], ◌∷◌}
+use Rattle.std.specs.List.{list_any, range_with_len}
+use Rattle.std.proofs.Math.Seq.{drop-cons}
+use native.Mathlib.Numerals.{add-one}
+use Prim.Native.Nat.{ℕ, zero, suc, ◌+◌, ◌≤◌, ◌<◌, ◌^◌}
 use native.Mathlib.Omega.{arith}
 use borrow.Author.Tests.{not-false, le-leb, lt-leb, leb-true}
 use lib.Dec.{leb}
-use lib.ListN.{length, take}
+use lib.ListN.{length, take, drop, get_or}
 use Rattle.words.proofs.Tests.{by-test}
 use Rattle.definition.specs.Base.{whether◌then◌else◌, all}
 use Rattle.definition.specs.Words.{at}
@@ -37,6 +40,29 @@ module _ (p : Row → Bool) (n : ℕ) (subs : List Row) where
 
   pub one_none : n ≤ length subs → one_of p n subs ≡ false → all (lacks p) (take n subs) ≡ true
   one_none h e = not-false (all (lacks p) (take n subs)) (one-by (all (lacks p) (take n subs)) h refl ∙ e)
+
+-- what `any` answers over the first n rows, and over the first n places
+any-lacks : (p : Row → Bool) (xs : List Row) → list_any p xs ≡ not (all (lacks p) xs)
+any-lacks p [] = refl
+any-lacks p (x ∷ xs) = ap (λ (b : Bool). p x || b) (any-lacks p xs) ∙ or-not (p x) (all (lacks p) xs)
+  where
+    or-not : (a b : Bool) → (a || not b) ≡ not (not a && b)
+    or-not true b = refl
+    or-not false b = refl
+
+any-places : (p : Row → Bool) (n a : ℕ) (subs : List Row) → a + n ≤ length subs → list_any (λ (i : ℕ). p (get_or subs i [])) (range_with_len a n) ≡ list_any p (take n (drop a subs))
+any-places p zero a subs h = refl
+any-places p (suc n) a subs h =
+    let more : a < length subs = omega arith in
+    let e : drop a subs ≡ get_or subs a [] ∷ drop (a + 1) subs = drop-cons subs a [] more ∙ ap (λ (k : ℕ). get_or subs a [] ∷ drop k subs) (sym (add-one a)) in
+    ap (λ (b : Bool). p (get_or subs a []) || b) (any-places p n (a + 1) subs (omega arith)) ∙ sym (ap (λ (xs : List Row). list_any p (take (suc n) xs)) e)
+
+module _ (p : Row → Bool) (n : ℕ) (subs : List Row) (h : n ≤ length subs) where
+  pub one-any : list_any p (take n subs) ≡ one_of p n subs
+  one-any = any-lacks p (take n subs) ∙ one-by p n subs (all (lacks p) (take n subs)) h refl
+
+  pub one-place : list_any (λ (i : ℕ). p (get_or subs i [])) (range_with_len 0 n) ≡ one_of p n subs
+  one-place = any-places p n 0 subs (omega arith) ∙ one-any
 
 -- ---- by kind
 

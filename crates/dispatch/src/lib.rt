@@ -15,18 +15,7 @@ use state::{Event, Head};
 fn any_browser(subs: &[SubRow], n: usize) -> bool
     ensures { result ≡ browses n subs.now }
 {
-    if subs.len() < n {
-        return false;
-    }
-    let mut i = 0;
-    while i < n {
-        let s = consumers::load(subs, i);
-        if s.browser {
-            return true;
-        }
-        i += 1;
-    }
-    false
+    n <= subs.len() && subs.iter().take(n).any(|w| w[consumers::BROWSER] != 0)
 }
 
 // A queue's with a browser: browsers first, then the scan over consumers. Where the numbers do not fit the tables, nothing happens.
@@ -84,17 +73,7 @@ fn can_go(subs: &[SubRow], i: usize, waiting: usize, queue: bool) -> bool
 pub fn goes(subs: &[SubRow], n: usize, waiting: usize, queue: bool) -> bool
     ensures { result ≡ goes_out n waiting queue subs.now }
 {
-    if subs.len() < n {
-        return false;
-    }
-    let mut i = 0;
-    while i < n {
-        if can_go(subs, i, waiting, queue) {
-            return true;
-        }
-        i += 1;
-    }
-    false
+    n <= subs.len() && (0..n).any(|i| can_go(subs, i, waiting, queue))
 }
 
 // Sends what can go out. Where the numbers do not fit the tables, or with a clock above 2^62, nothing happens.

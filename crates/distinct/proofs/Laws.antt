@@ -9,7 +9,9 @@ use native.Mathlib.Omega.{arith}
 use borrow.Author.Tests.{eqb-true, eq-eqb, ne_eqb, lt-ltb, le-ltb}
 use lib.Dec.{ltb, eqb}
 use lib.ListN.{length, take, drop, get_or, set, take-append-drop}
-use lib.Seq.{slice, slice_empty, slice-cons, take-suc, take-take, get_or-set_same}
+use lib.Seq.{slice, slice_empty, slice-cons, drop-cons, take-suc, take-take, take-length, take_all, get_or-set_same}
+use Rattle.std.specs.List.{list_any}
+use Rattle.std.proofs.lemmas.List.{drop_all}
 use mir.Val.{bool_byte}
 use Rattle.words.specs.Pick.{whether◌then◌else◌}
 use Rattle.words.proofs.Tests.{by-test}
@@ -133,26 +135,37 @@ distinct-take xs i n h e = by-test (distinct (take n xs))
     (λ t. t)
 
 -- the next number has been met, or not
-pub distinct-met : (xs : List ℕ) (i n : ℕ) → i < n → n ≤ length xs → distinct (take i xs) ≡ true → member (get_or xs i 0) (take i xs) ≡ true → false ≡ distinct (take n xs)
-distinct-met xs i n h k e m = sym (distinct-take xs (i + 1) n (omega arith) (distinct-turn xs i (omega arith) e ∙ ap not m))
+module _ (xs : List ℕ) (i : ℕ) (h : i < length xs) (e : distinct (take i xs) ≡ true) where
+  pub distinct-met : member (get_or xs i 0) (take i xs) ≡ true → false ≡ distinct xs
+  distinct-met m = sym (ap distinct (sym (take-length xs)) ∙ distinct-take xs (i + 1) (length xs) (omega (arith, h)) (distinct-turn xs i h e ∙ ap not m))
 
-pub distinct-next : (xs : List ℕ) (i n : ℕ) → i < n → n ≤ length xs → distinct (take i xs) ≡ true → member (get_or xs i 0) (take i xs) ≡ false → distinct (take (i + 1) xs) ≡ true
-distinct-next xs i n h k e m = distinct-turn xs i (omega arith) e ∙ ap not m
+  pub distinct-next : member (get_or xs i 0) (take i xs) ≡ false → distinct (take (i + 1) xs) ≡ true
+  distinct-next m = distinct-turn xs i h e ∙ ap not m
+
+-- all of them
+pub distinct-end : (xs : List ℕ) (i : ℕ) → length xs ≤ i → distinct (take i xs) ≡ true → true ≡ distinct xs
+distinct-end xs i h e = sym (ap distinct (sym (take_all i xs h)) ∙ e)
+
+-- ---- a chain
+
+pub any-member : (x : ℕ) (xs : List ℕ) → list_any (eqb x) xs ≡ member x xs
+any-member x [] = refl
+any-member x (y ∷ xs) = ap (λ (b : Bool). eqb x y || b) (any-member x xs)
 
 -- ---- numbers that rise
 
-module _ (xs : List ℕ) (i n k : ℕ) (h : n ≤ length xs) (total : Bool) (e : rising k (slice i n xs) ≡ total) where
-  rising-turn : i < n → (ltb k (get_or xs i 0) && rising (get_or xs i 0) (slice (i + 1) n xs)) ≡ total
-  rising-turn t = sym (ap (rising k) (slice-cons i n xs 0 t h ∙ ap (λ (j : ℕ). get_or xs i 0 ∷ slice j n xs) (sym (add-one i)))) ∙ e
+module _ (xs : List ℕ) (i k : ℕ) (total : Bool) (h : i < length xs) (e : rising k (drop i xs) ≡ total) where
+  rising-turn : (ltb k (get_or xs i 0) && rising (get_or xs i 0) (drop (i + 1) xs)) ≡ total
+  rising-turn = sym (ap (rising k) (drop-cons xs i 0 h ∙ ap (λ (j : ℕ). get_or xs i 0 ∷ drop j xs) (sym (add-one i)))) ∙ e
 
-  pub rising-stop : i < n → get_or xs i 0 ≤ k → false ≡ total
-  rising-stop t q = rw (le-ltb k (get_or xs i 0) q) at (rising-turn t)
+  pub rising-stop : get_or xs i 0 ≤ k → false ≡ total
+  rising-stop q = rw (le-ltb k (get_or xs i 0) q) at rising-turn
 
-  pub rising-next : i < n → k < get_or xs i 0 → rising (get_or xs i 0) (slice (i + 1) n xs) ≡ total
-  rising-next t q = rw (lt-ltb k (get_or xs i 0) q) at (rising-turn t)
+  pub rising-next : k < get_or xs i 0 → rising (get_or xs i 0) (drop (i + 1) xs) ≡ total
+  rising-next q = rw (lt-ltb k (get_or xs i 0) q) at rising-turn
 
-  pub rising-end : i ≡ n → true ≡ total
-  rising-end q = sym (ap (rising k) (ap (λ (j : ℕ). slice j n xs) q ∙ slice_empty n xs)) ∙ e
+pub rising-end : (xs : List ℕ) (i k : ℕ) (total : Bool) → length xs ≤ i → rising k (drop i xs) ≡ total → true ≡ total
+rising-end xs i k total h e = sym (ap (rising k) (drop_all i xs h)) ∙ e
 
 -- ---- the table of remainders
 

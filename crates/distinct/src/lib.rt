@@ -1,7 +1,7 @@
 // Whether numbers are all different.
 #![tactic(auto)]
 
-ghost use Rattle.std.specs.Prelude.{◌≡◌, ◌≤◌, length, take};
+ghost use Rattle.std.specs.Prelude.{◌≡◌, ◌<◌, length, take};
 ghost use Rattle.definition.specs.Base.{member, distinct, rising};
 
 // Up to so many numbers are compared pair by pair: clearing the table would cost more.
@@ -10,92 +10,51 @@ pub const FEW: usize = 8;
 // And up to so many with a smaller table.
 pub const SOME: usize = 64;
 
-// Whether x stands among the first n.
-fn met(xs: &[u64], n: usize, x: u64) -> bool
-    requires { n ≤ length xs.now }
-    ensures { result ≡ member x (take n xs.now) }
+// Whether x stands among them.
+fn met(xs: &[u64], x: u64) -> bool
+    ensures { result ≡ member x xs.now }
 {
-    let mut i = 0;
-    while i < n {
-        if xs[i] == x {
-            return true;
-        }
-        i += 1;
-    }
-    false
+    xs.iter().any(|y| x == *y)
 }
 
-// Whether the first n are all different, pair by pair.
-fn few_distinct(xs: &[u64], n: usize) -> bool
-    requires { n ≤ length xs.now }
-    ensures { result ≡ distinct (take n xs.now) }
+// Whether all are different, pair by pair.
+fn few_distinct(xs: &[u64]) -> bool
+    ensures { result ≡ distinct xs.now }
 {
-    let mut i = 0;
-    while i < n {
-        if met(xs, i, xs[i]) {
+    for (i, x) in xs.iter().enumerate() {
+        if met(&xs[..i], *x) {
             return false;
         }
-        i += 1;
     }
     true
 }
 
 // The same with a table of the remainders met: where a number's remainder is new, so is the number.
-fn many_distinct(xs: &[u64], n: usize) -> bool
-    requires { n ≤ length xs.now }
-    ensures { result ≡ distinct (take n xs.now) }
+fn many_distinct<const N: usize>(xs: &[u64]) -> bool
+    requires { 0 < N }
+    ensures { result ≡ distinct xs.now }
 {
-    let mut slots = [false; 1024];
-    let mut i = 0;
-    while i < n {
-        let x = xs[i];
-        let slot = (x % 1024) as usize;
-        if slots[slot] {
-            if met(xs, i, x) {
-                return false;
-            }
-        }
-        slots[slot] = true;
-        i += 1;
-    }
-    true
-}
-
-// The same for fewer numbers, with a smaller table.
-fn some_distinct(xs: &[u64], n: usize) -> bool
-    requires { n ≤ length xs.now }
-    ensures { result ≡ distinct (take n xs.now) }
-{
-    let mut marks = [false; 256];
-    let mut i = 0;
-    while i < n {
-        let x = xs[i];
-        let mark = (x % 256) as usize;
-        if marks[mark] {
-            if met(xs, i, x) {
-                return false;
-            }
-        }
-        marks[mark] = true;
-        i += 1;
-    }
-    true
-}
-
-// Whether each of the first n is above the one before, and the first above 0.
-fn rising(xs: &[u64], n: usize) -> bool
-    requires { n ≤ length xs.now }
-    ensures { result ≡ rising 0 (take n xs.now) }
-{
-    let mut last = 0;
-    let mut i = 0;
-    while i < n {
-        let x = xs[i];
-        if x <= last {
+    let mut slots = [false; N];
+    for (i, x) in xs.iter().enumerate() {
+        let slot = (*x % N as u64) as usize;
+        if slots[slot] && met(&xs[..i], *x) {
             return false;
         }
-        last = x;
-        i += 1;
+        slots[slot] = true;
+    }
+    true
+}
+
+// Whether each is above the one before, and the first above 0.
+fn rising(xs: &[u64]) -> bool
+    ensures { result ≡ rising 0 xs.now }
+{
+    let mut last = 0;
+    for x in xs {
+        if *x <= last {
+            return false;
+        }
+        last = *x;
     }
     true
 }
@@ -104,18 +63,14 @@ fn rising(xs: &[u64], n: usize) -> bool
 pub fn distinct(xs: &[u64], n: usize) -> bool
     ensures { result ≡ distinct (take n xs.now) }
 {
-    let len = xs.len();
-    if len < n {
-        return many_distinct(xs, len);
+    let first = &xs[..n.min(xs.len())];
+    if rising(first) {
+        true
+    } else if first.len() <= FEW {
+        few_distinct(first)
+    } else if first.len() <= SOME {
+        many_distinct::<256>(first)
+    } else {
+        many_distinct::<1024>(first)
     }
-    if rising(xs, n) {
-        return true;
-    }
-    if n <= FEW {
-        return few_distinct(xs, n);
-    }
-    if n <= SOME {
-        return some_distinct(xs, n);
-    }
-    many_distinct(xs, n)
 }

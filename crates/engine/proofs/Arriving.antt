@@ -2,7 +2,7 @@
 use mathlib.Core.Path.{◌≡◌, refl, sym, ap, ◌∙◌, subst⁻¹}
 use mathlib.Core.Bool.{Bool, true, false, ◌&&◌, ◌||◌}
 use mathlib.Core.List.{List, [], ◌∷◌}
-use Prim.Native.Nat.{ℕ, ◌+◌, ◌-◌, ◌≤◌, ◌^◌}
+use Prim.Native.Nat.{ℕ, ◌+◌, ◌-◌, ◌<◌, ◌≤◌, ◌^◌}
 use native.Mathlib.Omega.{arith}
 use borrow.Author.Tests.{le-leb, ltb-false, eq-eqb}
 use lib.Dec.{leb, ltb, eqb}
@@ -20,7 +20,7 @@ use Rattle.definition.proofs.Whole.{Fine, fine_more}
 use Rattle.definition.proofs.Reach.{stored-fine, fanned-fine}
 use Rattle.definition.proofs.Kept as Kept
 use Rattle.state.specs.declared.Head.{Head}
-use Rattle.state.specs.declared.Answer.{Answer}
+use Rattle.state.specs.Answers.{Replied}
 use Rattle.state.specs.State.{head_view, due_by, rows_free, refused_as, done_as}
 use Rattle.state.specs.Fits.{fits}
 use Rattle.state.specs.Leaves.{silent, both, Leaves, LeavesIf}
@@ -49,9 +49,9 @@ Own c d subs rows k = (producers : List Id) (audits : List Audit) → length pro
 abbrev pub Says : Call → Head → List Row → List Row → ℕ → Type 0
 Says c d subs rows n = (producers : List Id) (audits : List Audit) → length producers ≡ d.producers → n ≡ (perform (head_view d subs rows producers audits) c).answer
 
-module _ (c : Call) (d : Head) (subs rows events : List Row) (r : Answer) where
+module _ (c : Call) (d : Head) (subs rows events : List Row) (r : Replied) where
   pub refused-performs : (k : ℕ) → Own c d subs rows k → (k ≡ 0 → ⊥) → r ≡ refused_as k d → Performs c d r subs rows events subs rows events
-  refused-performs k o n e = subst⁻¹ (λ (r : Answer). Performs c d r subs rows events subs rows events) e (record {
+  refused-performs k o n e = subst⁻¹ (λ (r : Replied). Performs c d r subs rows events subs rows events) e (record {
     refusal = o;
     kept = λ _. record { same_head = refl; same-subs = refl; same_rows = refl; same-events = refl };
     answer = λ z. absurd (n z);
@@ -61,7 +61,7 @@ module _ (c : Call) (d : Head) (subs rows events : List Row) (r : Answer) where
 
   pub done-performs : (n : ℕ) (q : Head) (subs' rows' events' : List Row) → Own c d subs rows 0 → Says c d subs rows n
       → Sends (performed c) d q subs rows events subs' rows' events' → r ≡ done_as n q → Performs c d r subs rows events subs' rows' events'
-  done-performs n q subs' rows' events' o s l e = subst⁻¹ (λ (r : Answer). Performs c d r subs rows events subs' rows' events') e (record {
+  done-performs n q subs' rows' events' o s l e = subst⁻¹ (λ (r : Replied). Performs c d r subs rows events subs' rows' events') e (record {
     refusal = o;
     kept = λ z. absurd (z refl);
     answer = λ _. s;
@@ -77,7 +77,7 @@ module _ (d : Head) (subs rows events : List Row) (a : Ready d subs rows events)
     (q : Head) (subs'' rows'' events'' : List Row)
     (p : LeavesIf (dispatches clock subs' m (length rows') (length events)) (Sent m q) (dispatch clock) m q subs' rows' events subs'' rows'' events'')
   where
-    pub part-performs : (r : Answer) → r ≡ done_as 0 q → Performs c d r subs rows events subs'' rows'' events''
+    pub part-performs : (r : Replied) → r ≡ done_as 0 q → Performs c d r subs rows events subs'' rows'' events''
     part-performs r e =
         let y = then-dispatch d subs rows events a clock late (silent f) m subs' rows' events l room x few k q subs'' rows'' events'' p in
         let z = leaves-as (both (silent f) (dispatch clock)) (performed c) d q subs rows events subs'' rows'' events'' (λ ps us h. parts (head_view d subs rows ps us)) y.0 in
@@ -124,7 +124,7 @@ module _ (d : Head) (subs rows events : List Row) (a : Ready d subs rows events)
     enqueue-own : Own storing d subs rows k
     enqueue-own ps us h = is ∙ sym (refusal-any e d subs rows ps us clock)
 
-    pub enqueue-refused : (r : Answer) → (k ≡ 0 → ⊥) → r ≡ refused_as k d → Performs storing d r subs rows events subs rows events
+    pub enqueue-refused : (r : Replied) → (k ≡ 0 → ⊥) → r ≡ refused_as k d → Performs storing d r subs rows events subs rows events
     enqueue-refused r n h = refused-performs storing d subs rows events r k enqueue-own n h
 
     enqueue-says : Says storing d subs rows 0
@@ -156,7 +156,7 @@ module _ (d : Head) (subs rows events : List Row) (a : Ready d subs rows events)
       unfolding head_view
       as-due at h ps us = ap (λ (n : ℕ). silent (kept n e) (head_view d subs rows ps us)) h
 
-      module _ (r : Answer) (at : ℕ) (less : at ≡ due_by clock d) (m : Head) (subs' rows' : List Row) (q : Head) (subs'' rows'' events'' : List Row) where
+      module _ (r : Replied) (at : ℕ) (less : at ≡ due_by clock d) (m : Head) (subs' rows' : List Row) (q : Head) (subs'' rows'' events'' : List Row) where
         pub enqueue-done : Arrived (kept at e) d m subs rows subs' rows'
             → LeavesIf (dispatches clock subs' m (length rows') (length events)) (Sent m q) (dispatch clock) m q subs' rows' events subs'' rows'' events''
             → r ≡ done_as 0 q → Performs storing d r subs rows events subs'' rows'' events''
@@ -201,7 +201,7 @@ none-waits d subs rows events a = by-test d.queue (λ q. rw q) (λ q. rw q (eq-e
 
 module _ (d : Head) (subs rows events : List Row) (a : Ready d subs rows events) (clock : ℕ) (late : clock ≤ 2 ^ 62)
     (spec : SubSpec) (ok : arguments_ok (joining (spec_of spec) clock) ≡ true)
-    (k : ℕ) (is : Refused (fits subs d (length rows) 545 && leb clock (2 ^ 62)) clock spec d subs rows k) (r : Answer)
+    (k : ℕ) (is : Refused (fits subs d (length rows) 545 && leb clock (2 ^ 62)) clock spec d subs rows k) (r : Replied)
   where
     abbrev entering : Call
     entering = joining (spec_of spec) clock

@@ -13,7 +13,7 @@ use Rattle.definition.specs.Calls.{short, sound, Call, Result, refused, argument
 use Rattle.definition.specs.Words.{decode, open_words, opened_by}
 use Rattle.definition.specs.Layout.{Row, Buffers, each_sub, sub_rows, ids_at, audits_at, rings_formed, tables_strict, view, formed, sound_buffers, lengths_of, buffer_step, lent}
 use Rattle.definition.proofs.Tests.{and_both}
-use Rattle.state.specs.declared.Answer.{Answer}
+use Rattle.state.specs.Answers.{Replied}
 use Rattle.state.specs.State.{head_view, loaded, stored_head, with_used_calls}
 use Rattle.state.proofs.View.{stored-any, stored-formed, stored_past, stored-length}
 use Rattle.state.proofs.Fitting.{not_short}
@@ -40,7 +40,7 @@ refused-called k b events q e = subst⁻¹ (λ (q : Result). Called q b b events
 -- a call that is done, where q is what it means
 module _ (h : List ℕ) (subs rows events : List Row) (roomy : short (lengths_of (lent h subs rows) (length events)) ≡ false) (s : sound_buffers (lent h subs rows) ≡ true)
     (c : Call) (q : Result) (is : q ≡ done c (view (lent h subs rows))) (z : sound (used (perform (view (lent h subs rows)) c).dest) ≡ true)
-    (a : Answer) (subs' rows' events' : List Row) (p : Performs c (loaded h subs) a subs rows events subs' rows' events') (e : a.refusal ≡ 0)
+    (a : Replied) (subs' rows' events' : List Row) (p : Performs c (loaded h subs) a subs rows events subs' rows' events') (e : a.refusal ≡ 0)
   where
     abbrev b₀ : Buffers
     b₀ = lent h subs rows
@@ -115,7 +115,7 @@ module _ (h : List ℕ) (subs rows events : List Row) (code : ℕ) (ws : List �
 
   -- a call that has arguments and is left
   module _ (coded : eqb code 0 ≡ false) (s : sound_buffers b ≡ true) (c : Call) (decoded : decode code ws ≡ some c) (ok : arguments_ok c ≡ true) (left : eqb (view b).calls_used (view b).call_limit ≡ false)
-      (a : Answer) (subs' rows' events' : List Row) (p : Performs c (loaded h subs) a subs rows events subs' rows' events')
+      (a : Replied) (subs' rows' events' : List Row) (p : Performs c (loaded h subs) a subs rows events subs' rows' events')
     where
       own : a.refusal ≡ own_refusal (view b) c
       own = p.refusal (Ending.ids h subs rows events roomy s) (Ending.rings h subs rows events roomy s) (Ending.as_many h subs rows events roomy s) ∙ ap (λ (t : Dest). own_refusal t c) (Ending.shown h subs rows events roomy s)

@@ -19,7 +19,7 @@ use Rattle.definition.proofs.Tests.{by-test, if-true, if-false}
 use Rattle.definition.proofs.Whole.{fine_more}
 use Rattle.definition.proofs.Leave.{returning-fine, release-some}
 use Rattle.state.specs.declared.Head.{Head}
-use Rattle.state.specs.declared.Answer.{Answer}
+use Rattle.state.specs.Answers.{Replied}
 use Rattle.state.specs.State.{head_view, done_as}
 use Rattle.state.specs.Leaves.{silent, both, LeavesIf, Room}
 use Rattle.state.proofs.Leaves.{leaves-as, leaves-when}
@@ -39,7 +39,7 @@ with_answer n o = record { answer = n; dest = o.dest; events = o.events }
 
 module _ (c : Call) (d : Head) (subs rows events subs' rows' events' : List Row) (own : (t : Dest) → own_refusal t c ≡ 0) where
   -- it is accepted, and answered
-  performs : (a : Answer) → a.refusal ≡ 0
+  performs : (a : Replied) → a.refusal ≡ 0
       → ((producers : List Id) (audits : List Audit) → length producers ≡ d.producers → a.answer ≡ (perform (head_view d subs rows producers audits) c).answer)
       → Sends (performed c) d a.head subs rows events subs' rows' events'
       → Performs c d a subs rows events subs' rows' events'
@@ -52,17 +52,17 @@ module _ (c : Call) (d : Head) (subs rows events subs' rows' events' : List Row)
   }
 
   -- by its parts
-  pub performs-done : (n : ℕ) (f : Dest → Out) (a : Answer) (r : Head) → a ≡ done_as n r
+  pub performs-done : (n : ℕ) (f : Dest → Out) (a : Replied) (r : Head) → a ≡ done_as n r
       → ((producers : List Id) (audits : List Audit) → perform (head_view d subs rows producers audits) c ≡ with_answer n (f (head_view d subs rows producers audits)))
       → Sends f d r subs rows events subs' rows' events'
       → Performs c d a subs rows events subs' rows' events'
   performs-done n f a r e h s =
-      subst⁻¹ (λ (x : Answer). Performs c d x subs rows events subs' rows' events') e
+      subst⁻¹ (λ (x : Replied). Performs c d x subs rows events subs' rows' events') e
       (performs (done_as n r) refl (λ p u _. sym (ap (λ (x : Destination.Answer). x.answer) (h p u)))
       (sends-as d r subs rows events subs' rows' events' f (performed c) (λ p u. sym (ap (λ (x : Destination.Answer). record { dest = x.dest; events = x.events }) (h p u))) s))
 
   -- by a function that is total, where its test holds
-  pub performs-tested : (a : Answer) (test : Bool) → test ≡ true → (f : Dest → Destination.Answer) (g : Dest → Out)
+  pub performs-tested : (a : Replied) (test : Bool) → test ≡ true → (f : Dest → Destination.Answer) (g : Dest → Out)
       → ((t : Dest) → f t ≡ perform t c) → ((t : Dest) → g t ≡ performed c t)
       → LeavesIf test (Room d a.head) g d a.head subs rows events subs' rows' events' → SweepAnswers test f d subs rows a
       → Performs c d a subs rows events subs' rows' events'

@@ -1,15 +1,14 @@
 -- Codes 1 to 3, 8 to 10 and 15 by their words: the call that they give and its ranges. Assumes nothing.
-use mathlib.Core.Path.{◌≡◌, refl, sym, ap, ◌∙◌}
-use mathlib.Core.Bool.{Bool, true, ◌&&◌}
+use mathlib.Core.Path.{◌≡◌, refl, sym, ◌∙◌}
+use mathlib.Core.Bool.{true, ◌&&◌}
 use mathlib.Core.List.{List}
-use mathlib.Core.Option.{some}
 use Prim.Native.Nat.{ℕ, ◌≤◌, ◌<◌, ◌^◌}
 use borrow.Author.Tests.{leb-true}
 use lib.Dec.{leb}
 use Rattle.words.specs.Words.{signed, int}
 use Rattle.words.proofs.Words.{int-signed}
 use Rattle.definition.specs.Base.{is_some}
-use Rattle.definition.specs.Calls.{Call, enqueuing, joining, leaving, unmarking, releasing, sweeping, clearing, id_ok, entry_ok, spec_ok, signed_within, clock_ok, arguments_ok}
+use Rattle.definition.specs.Calls.{enqueuing, joining, leaving, unmarking, releasing, sweeping, clearing, id_ok, entry_ok, spec_ok, signed_within, clock_ok, arguments_ok}
 use Rattle.definition.specs.Words.{at, id_in, entry_in, spec_in, unused_from, read, decode}
 use Rattle.definition.proofs.Tests.{and_left, and_right}
 use Rattle.calls.proofs.Decoded.{Decoded, decoded}

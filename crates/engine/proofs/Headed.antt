@@ -17,7 +17,7 @@ use Rattle.definition.specs.Words.{at, id_in, unused_from, read, decode}
 use Rattle.definition.proofs.Tests.{by-test, by-if, or-no-left, or-no-right}
 use Rattle.calls.proofs.Decoded.{decoded}
 use Rattle.state.specs.declared.Head.{Head}
-use Rattle.state.specs.declared.Answer as State
+use Rattle.state.specs.Answers as State
 use Rattle.producers.specs.Producers.{HeadLeft, head_fits, added, producer_removed, tested, released, Promised}
 use Rattle.producers.proofs.Past.{added-past, removed-past, tested-past, released-past}
 use Rattle.engine.specs.Performs.{HeadBy, on_tables}
@@ -30,7 +30,7 @@ far-code n w h = rw (no 1 (omega arith), no 2 (omega arith), no 3 (omega arith),
     no : (k : ℕ) → k < n → eqb n k ≡ false
     no k l = ne_eqb n k (λ e. omega (arith, e, l))
 
-module _ (w : List ℕ) (d : Head) (h : List ℕ) (a : State.Answer) (k : List ℕ) (f : head_fits (length h) d ≡ true) where
+module _ (w : List ℕ) (d : Head) (h : List ℕ) (a : State.Replied) (k : List ℕ) (f : head_fits (length h) d ≡ true) where
   -- from a function's promise to the call that the words give
   by-promise : (o : Option Call) (c e : Call) (all : HeadLeft) → o ≡ some c → e ≡ c → Promised e all d h a k → drop 8345 all.words ≡ drop 8345 h → ((t : Dest) → (perform t c).events ≡ []) → HeadBy o d h a k
   by-promise o c e all q x p past quiet = subst⁻¹ (λ (o : Option Call). HeadBy o d h a k) q (record {
@@ -67,7 +67,7 @@ module _ (w : List ℕ) (d : Head) (h : List ℕ) (a : State.Answer) (k : List �
   forget-head t p = by-promise (decode 14 w) (forgetting (at 0 w)) (forgetting (at 0 w)) (released (at 0 w) d h) (decoded 14 w (unused_from 1 w) (forgetting (at 0 w)) refl t).call refl p (released-past d h f (at 0 w)) (λ t. refl)
 
 -- the same code by another name
-pub head-code : (m n : ℕ) (w : List ℕ) (d : Head) (h : List ℕ) (a : State.Answer) (k : List ℕ) → m ≡ n → HeadBy (decode n w) d h a k → HeadBy (decode m w) d h a k
+pub head-code : (m n : ℕ) (w : List ℕ) (d : Head) (h : List ℕ) (a : State.Replied) (k : List ℕ) → m ≡ n → HeadBy (decode n w) d h a k → HeadBy (decode m w) d h a k
 head-code m n w d h a k e p = subst⁻¹ (λ (x : ℕ). HeadBy (decode x w) d h a k) e p
 
 -- code 14 is what is left

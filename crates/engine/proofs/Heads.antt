@@ -18,7 +18,7 @@ use Rattle.definition.proofs.Tests.{and_left, and_both}
 use Rattle.definition.proofs.Thin.{every-all, all-every}
 use Rattle.definition.proofs.Sound.{facts}
 use Rattle.state.specs.declared.Head.{Head}
-use Rattle.state.specs.declared.Answer.{Answer}
+use Rattle.state.specs.Answers.{Replied}
 use Rattle.state.specs.State.{head_of, head_view, strict_tables, loaded, stored_head, with_used_calls}
 use Rattle.state.proofs.View.{loaded-view, settled, settled_same, stored-view, stored-formed, stored_past, stored-length}
 use Rattle.state.proofs.Counts.{used-view}
@@ -47,7 +47,7 @@ module _ (h : List ℕ) (subs rows events : List Row) (roomy : short (lengths_of
 module _ (h : List ℕ) (subs rows events : List Row) (code : ℕ) (ws : List ℕ) (roomy : short (lengths_of (lent h subs rows) (length events)) ≡ false)
     (coded : eqb code 0 ≡ false) (s : sound_buffers (lent h subs rows) ≡ true) (c : Call) (decoded : decode code ws ≡ some c) (ok : arguments_ok c ≡ true)
     (left : eqb (view (lent h subs rows)).calls_used (view (lent h subs rows)).call_limit ≡ false)
-    (a : Answer) (k : List ℕ) (p : PerformsInHead c (loaded h subs) h a k) (past : drop 8345 k ≡ drop 8345 h) (silent : (perform (view (lent h subs rows)) c).events ≡ [])
+    (a : Replied) (k : List ℕ) (p : PerformsInHead c (loaded h subs) h a k) (past : drop 8345 k ≡ drop 8345 h) (silent : (perform (view (lent h subs rows)) c).events ≡ [])
   where
     abbrev b : Buffers
     b = lent h subs rows

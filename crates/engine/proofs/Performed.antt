@@ -1,6 +1,6 @@
 -- From what a part of a call leaves to what the whole call does, and to the call that its words give. Assumes nothing.
 use mathlib.Core.Path.{◌≡◌, refl, sym, ap, ◌∙◌, subst, subst⁻¹}
-use mathlib.Core.Bool.{Bool, true, ◌||◌, true≢false}
+use mathlib.Core.Bool.{true, ◌||◌, true≢false}
 use mathlib.Core.List.{List}
 use mathlib.Core.Option.{Option, some}
 use Prim.Native.Nat.{ℕ, ◌≤◌, ◌<◌, ◌^◌}
@@ -17,9 +17,8 @@ use Rattle.definition.specs.Words.{decode}
 use Rattle.definition.specs.Layout.{Row}
 use Rattle.definition.proofs.Tests.{by-test}
 use Rattle.state.specs.declared.Head.{Head}
-use Rattle.state.specs.declared.Answer.{Answer}
+use Rattle.state.specs.Answers.{Replied}
 use Rattle.state.specs.State.{head_view, done_as}
-use Rattle.state.specs.Leaves.{Leaves}
 use Rattle.state.proofs.Leaves.{leaves-as}
 use Rattle.engine.specs.Performs.{Performs, PerformsBy, on_tables, performed}
 use Rattle.engine.specs.Requests.{Sends}
@@ -27,7 +26,7 @@ use Rattle.engine.specs.Requests.{Sends}
 pub clock-in : (clock : ℕ) → clock_ok clock ≡ true → clock ≤ 2 ^ 62
 clock-in clock h = leb-true clock (2 ^ 62) h
 
-module _ (c : Call) (d : Head) (a : Answer) (subs rows events subs' rows' events' : List Row) where
+module _ (c : Call) (d : Head) (a : Replied) (subs rows events subs' rows' events' : List Row) where
   pub performs-by : (o : Option Call) → o ≡ some c → Performs c d a subs rows events subs' rows' events' → PerformsBy o d a subs rows events subs' rows' events'
   performs-by o e p = subst⁻¹ (λ (o : Option Call). PerformsBy o d a subs rows events subs' rows' events') e p
 
@@ -50,15 +49,15 @@ module _ (c : Call) (d : Head) (a : Answer) (subs rows events subs' rows' events
   }
 
 -- with the answer 0
-pub silent-performs : (c : Call) (d r : Head) (a : Answer) (subs rows events subs' rows' events' : List Row) (f : Dest → Out)
+pub silent-performs : (c : Call) (d r : Head) (a : Replied) (subs rows events subs' rows' events' : List Row) (f : Dest → Out)
     → ((t : Dest) → own_refusal t c ≡ 0) → ((t : Dest) → perform t c ≡ record { answer = 0; dest = (f t).dest; events = (f t).events })
     → a ≡ done_as 0 r → Sends f d r subs rows events subs' rows' events' → Performs c d a subs rows events subs' rows' events'
 silent-performs c d r a subs rows events subs' rows' events' f own does e s =
-    subst⁻¹ (λ (a : Answer). Performs c d a subs rows events subs' rows' events') e
+    subst⁻¹ (λ (a : Replied). Performs c d a subs rows events subs' rows' events') e
     (answered-performs c d (done_as 0 r) subs rows events subs' rows' events' (λ t. record { answer = 0; dest = (f t).dest; events = (f t).events }) own does refl (λ p u n. refl) s)
 
 -- the same code by another name
-pub by_code : (m n : ℕ) (w : List ℕ) (d : Head) (a : Answer) (subs rows events subs' rows' events' : List Row) → m ≡ n
+pub by_code : (m n : ℕ) (w : List ℕ) (d : Head) (a : Replied) (subs rows events subs' rows' events' : List Row) → m ≡ n
     → PerformsBy (decode n w) d a subs rows events subs' rows' events' → PerformsBy (decode m w) d a subs rows events subs' rows' events'
 by_code m n w d a subs rows events subs' rows' events' e p = subst⁻¹ (λ (k : ℕ). PerformsBy (decode k w) d a subs rows events subs' rows' events') e p
 

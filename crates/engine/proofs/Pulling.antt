@@ -12,7 +12,7 @@ use Rattle.definition.specs.Destination.{dispatch}
 use Rattle.definition.specs.Destination as Def
 use Rattle.definition.specs.Layout.{Row}
 use Rattle.state.specs.declared.Head.{Head}
-use Rattle.state.specs.declared.Answer.{Answer}
+use Rattle.state.specs.Answers.{Replied}
 use Rattle.state.specs.State.{head_view, done_as}
 use Rattle.state.specs.Leaves.{silent, both, Leaves, LeavesIf}
 use Rattle.state.specs.Ready.{Ready}
@@ -27,9 +27,9 @@ module _ (now : ℕ) (i : Id) (timeout : ℤ) (d : Head) (subs rows events : Lis
   viewed p u = head_view d subs rows p u
 
   -- no pull waits
-  pub pulled-rests : (r : Answer) (subs' : List Row) → r ≡ done_as 0 d → ((p : List Id) (u : List Audit) → pulls i (viewed p u) ≡ false)
+  pub pulled-rests : (r : Replied) (subs' : List Row) → r ≡ done_as 0 d → ((p : List Id) (u : List Audit) → pulls i (viewed p u) ≡ false)
       → Leaves (silent (registered i)) d d subs rows events subs' rows events → Pulled now i timeout d r subs rows events subs' rows events
-  pulled-rests r subs' e h l = subst⁻¹ (λ (r : Answer). Pulled now i timeout d r subs rows events subs' rows events) e (record {
+  pulled-rests r subs' e h l = subst⁻¹ (λ (r : Replied). Pulled now i timeout d r subs rows events subs' rows events) e (record {
     refusal = refl;
     answer = λ p u n. sym (ap (λ (x : Def.Answer). x.answer) (pull-rests now i timeout (viewed p u) (h p u)));
     sends = (
@@ -42,7 +42,7 @@ module _ (now : ℕ) (i : Id) (timeout : ℤ) (d : Head) (subs rows events : Lis
   -- a pull waits
   module _ (h : (p : List Id) (u : List Audit) → pulls i (viewed p u) ≡ true)
       (m : Head) (subs' rows' events' : List Row) (l : Leaves (both (silent (registered i)) (dispatch now)) d m subs rows events subs' rows' events') (few : m.events ≤ 544)
-      (r : Answer) (subs'' events'' : List Row)
+      (r : Replied) (subs'' events'' : List Row)
       (y : LeavesIf (stands subs' m (length rows') (length events')) (OneMore m r.head) (answered_out i timeout) m r.head subs' rows' events' subs'' rows' events'')
       (z : PullAnswers (stands subs' m (length rows') (length events')) i timeout m subs' rows' r)
     where

@@ -3,10 +3,10 @@ use mathlib.Core.Path.{◌≡◌, refl, sym, ap, ◌∙◌, subst, subst⁻¹}
 use mathlib.Core.Bool.{Bool, true, false, not, ◌&&◌, true≢false}
 use mathlib.Core.List.{List}
 use mathlib.Core.Option.{Option, none, some}
-use Prim.Native.Nat.{ℕ, zero, suc, ◌≤◌, ◌<◌}
+use Prim.Native.Nat.{ℕ, suc, pred, ◌≤◌, ◌<◌}
 use native.Mathlib.Omega.{arith}
 use borrow.Author.Tests.{eq-eqb, ne_eqb, lt-ltb, le-ltb}
-use lib.Dec.{eqb, ltb, eqb-suc-zero}
+use lib.Dec.{eqb, ltb}
 use lib.ListN.{length}
 use Rattle.words.proofs.Tests.{or_left, or_right}
 use Rattle.definition.specs.Base.{whether◌then◌else◌, is_some}
@@ -16,19 +16,27 @@ use Rattle.definition.specs.Layout.{Row, Buffers, view, sound_buffers, lengths_o
 use Rattle.definition.proofs.Tests.{by-test, if-true, if-false}
 use Rattle.definition.proofs.Made.{in_range-ok}
 use Rattle.state.specs.declared.Head.{Head}
-use Rattle.state.specs.declared.Answer.{Answer}
+use Rattle.std.specs.Prelude.{Result as Given, Ok, Err}
+use Rattle.model.specs.declared.Refusal.{Refusal}
+use Rattle.model.specs.Refusal.{refusal_number}
+use Rattle.state.specs.declared.Answered.{Answered}
+use Rattle.state.specs.Answers.{told}
+use Rattle.state.proofs.Told.{numbered}
 use Rattle.state.specs.State.{loaded, stored_head}
 use Rattle.state.specs.Ready.{Ready}
 use Rattle.producers.specs.Producers.{head_fits}
 use Rattle.engine.specs.declared.Outcome.{Outcome}
 use Rattle.engine.specs.Called.{outcome, Called}
 use Rattle.engine.specs.Performs.{Performs, PerformsBy, InHead, HeadBy}
-use Rattle.engine.specs.Opened.{opened_head, counted, finished}
+use Rattle.engine.specs.Opened.{opened_head, counted, finished, stored_after}
 use Rattle.engine.proofs.Asks.{neither}
 use Rattle.engine.proofs.Refusing.{step-undecoded, step-spent, step-unopened}
 use Rattle.engine.proofs.Called.{refused-called, opened-called, own-called, done-called}
 use Rattle.engine.proofs.Ending as Ending
 use Rattle.engine.proofs.Heads as Heads
+
+suc-pred : (n : ℕ) → 0 < n → n ≡ suc (pred n)
+suc-pred n h = omega arith
 
 module _ (h : List ℕ) (subs rows events : List Row) (code : ℕ) (ws : List ℕ)
     (roomy : short (lengths_of (lent h subs rows) (length events)) ≡ false)
@@ -71,74 +79,61 @@ module _ (h : List ℕ) (subs rows events : List Row) (code : ℕ) (ws : List �
       pub run-fit : head_fits (length h) d ≡ true
       run-fit = Heads.loaded-fit h subs rows events roomy s
 
-      module _ (a : Answer) (r : Outcome) (said : r ≡ finished a) where
-        -- on the tables
-        module _ (subs' rows' events' : List Row) (h' : List ℕ) (ends : h' ≡ (whether eqb a.refusal 0 then stored_head (counted a.head) h else h)) where
-          at_zero : (c : Call) → decode code ws ≡ some c → arguments_ok c ≡ true → Performs c d a subs rows events subs' rows' events' → a.refusal ≡ 0 → Called q b (lent h' subs' rows') events events' r
-          at_zero c e ok p z =
-              let t : eqb a.refusal 0 ≡ true = eq-eqb a.refusal 0 z in
-              let x : h' ≡ stored_head (counted a.head) h = ends ∙ if-true (stored_head (counted a.head) h) h t in
-              let y : r ≡ outcome 0 a.answer a.head.events = said ∙ if-true (outcome 0 a.answer a.head.events) (outcome a.refusal 0 0) t in
-              subst⁻¹ (λ (k : List ℕ). Called q b (lent k subs' rows') events events' r) x
-              (subst⁻¹ (λ (o : Outcome). Called q b (lent (stored_head (counted a.head) h) subs' rows') events events' o) y
-              (done-called h subs rows events code ws roomy coded s c e ok left a subs' rows' events' p z))
+      -- on the tables
+      module _ (subs' rows' events' : List Row) (h' : List ℕ) (r : Outcome) where
+        ran-call : (c : Call) → decode code ws ≡ some c → arguments_ok c ≡ true → (x : Given Answered Refusal) → r ≡ finished x → h' ≡ stored_after x h
+            → Performs c d (told d x) subs rows events subs' rows' events' → Called q b (lent h' subs' rows') events events' r
+        ran-call c e ok (Ok a) said ends p =
+            subst⁻¹ (λ (k : List ℕ). Called q b (lent k subs' rows') events events' r) ends
+            (subst⁻¹ (λ (o : Outcome). Called q b (lent (stored_head (counted a.head) h) subs' rows') events events' o) said
+            (done-called h subs rows events code ws roomy coded s c e ok left (told d (Ok a)) subs' rows' events' p refl))
+        ran-call c e ok (Err f) said ends p =
+            let z : refusal_number f ≡ suc (pred (refusal_number f)) = suc-pred (refusal_number f) (numbered f) in
+            let y : r ≡ outcome (suc (pred (refusal_number f))) 0 0 = said ∙ ap (λ (k : ℕ). outcome k 0 0) z in
+            let u = p.kept (λ o. omega (arith, o, numbered f)) in
+            let v : Called q b b events events (outcome (suc (pred (refusal_number f))) 0 0) = own-called h subs rows events code ws roomy coded s c e ok left (told d (Err f)) subs' rows' events' p (pred (refusal_number f)) z in
+            let w : lent h' subs' rows' ≡ b = λ j. lent (ends j) (u.same-subs j) (u.same_rows j) in
+            subst⁻¹ (λ (k : Buffers). Called q b k events events' r) w
+            (subst⁻¹ (λ (k : List Row). Called q b b events k r) u.same-events
+            (subst⁻¹ (λ (o : Outcome). Called q b b events events o) y v))
 
-          at_more : (c : Call) → decode code ws ≡ some c → arguments_ok c ≡ true → Performs c d a subs rows events subs' rows' events' → (n : ℕ) → a.refusal ≡ suc n → Called q b (lent h' subs' rows') events events' r
-          at_more c e ok p n z =
-              let t : eqb a.refusal 0 ≡ false = ap (λ (k : ℕ). eqb k 0) z ∙ eqb-suc-zero n in
-              let x : h' ≡ h = ends ∙ if-false (stored_head (counted a.head) h) h t in
-              let y : r ≡ outcome (suc n) 0 0 = said ∙ if-false (outcome 0 a.answer a.head.events) (outcome a.refusal 0 0) t ∙ ap (λ (k : ℕ). outcome k 0 0) z in
-              let u = p.kept (λ o. absurd (omega (arith, o, z))) in
-              let v : Called q b b events events (outcome (suc n) 0 0) = own-called h subs rows events code ws roomy coded s c e ok left a subs' rows' events' p n z in
-              let w : lent h' subs' rows' ≡ b = λ j. lent (x j) (u.same-subs j) (u.same_rows j) in
-              subst⁻¹ (λ (k : Buffers). Called q b k events events' r) w
-              (subst⁻¹ (λ (k : List Row). Called q b b events k r) u.same-events
-              (subst⁻¹ (λ (o : Outcome). Called q b b events events o) y v))
+        ran-at : (o : Option Call) → decode code ws ≡ o → is_some o ≡ true → (x : Given Answered Refusal) → r ≡ finished x → h' ≡ stored_after x h
+            → PerformsBy o d (told d x) subs rows events subs' rows' events' → Called q b (lent h' subs' rows') events events' r
+        unfolding decode
+        ran-at none e t x said ends p = absurd (true≢false (sym t))
+        ran-at (some c) e t x said ends p = ran-call c e (in_range-ok (read code ws) c e) x said ends p
 
-          by-refusal : (c : Call) → decode code ws ≡ some c → arguments_ok c ≡ true → Performs c d a subs rows events subs' rows' events' → (n : ℕ) → a.refusal ≡ n → Called q b (lent h' subs' rows') events events' r
-          by-refusal c e ok p zero z = at_zero c e ok p z
-          by-refusal c e ok p (suc n) z = at_more c e ok p n z
+        pub ran : is_some (decode code ws) ≡ true → (x : Given Answered Refusal) → r ≡ finished x → h' ≡ stored_after x h
+            → PerformsBy (decode code ws) d (told d x) subs rows events subs' rows' events' → Called q b (lent h' subs' rows') events events' r
+        ran t x said ends p = ran-at (decode code ws) refl t x said ends p
 
-          ran-at : (o : Option Call) → decode code ws ≡ o → is_some o ≡ true → PerformsBy o d a subs rows events subs' rows' events' → Called q b (lent h' subs' rows') events events' r
-          unfolding decode
-          ran-at none e t p = absurd (true≢false (sym t))
-          ran-at (some c) e t p = by-refusal c e (in_range-ok (read code ws) c e) p a.refusal refl
+      -- in the head
+      module _ (k h' : List ℕ) (r : Outcome) where
+        head-call : (c : Call) → decode code ws ≡ some c → arguments_ok c ≡ true → (x : Given Answered Refusal) → r ≡ finished x → h' ≡ stored_after x k
+            → InHead c d h (told d x) k → Called q b (lent h' subs rows) events events r
+        head-call c e ok (Ok a) said ends p =
+            let n : a.head.events ≡ 0 = ap (λ (y : Head). y.events) p.performs.others ∙ Ending.none-sent h subs rows events roomy s in
+            let y : r ≡ outcome 0 a.answer 0 = said ∙ ap (outcome 0 a.answer) n in
+            subst⁻¹ (λ (m : List ℕ). Called q b (lent m subs rows) events events r) ends
+            (subst⁻¹ (λ (o : Outcome). Called q b (lent (stored_head (counted a.head) k) subs rows) events events o) y
+            (Heads.done-called h subs rows events code ws roomy coded s c e ok left (told d (Ok a)) k p.performs p.past (p.silent (view b)) refl))
+        head-call c e ok (Err f) said ends p =
+            let z : refusal_number f ≡ suc (pred (refusal_number f)) = suc-pred (refusal_number f) (numbered f) in
+            let x : h' ≡ h = ends ∙ Heads.own-kept h subs rows events code ws roomy coded s c e ok left (told d (Err f)) k p.performs p.past (p.silent (view b)) (pred (refusal_number f)) z in
+            let y : r ≡ outcome (suc (pred (refusal_number f))) 0 0 = said ∙ ap (λ (m : ℕ). outcome m 0 0) z in
+            subst⁻¹ (λ (m : List ℕ). Called q b (lent m subs rows) events events r) x
+            (subst⁻¹ (λ (o : Outcome). Called q b b events events o) y
+            (Heads.own-called h subs rows events code ws roomy coded s c e ok left (told d (Err f)) k p.performs p.past (p.silent (view b)) (pred (refusal_number f)) z))
 
-          pub ran : is_some (decode code ws) ≡ true → PerformsBy (decode code ws) d a subs rows events subs' rows' events' → Called q b (lent h' subs' rows') events events' r
-          ran t p = ran-at (decode code ws) refl t p
+        head_at : (o : Option Call) → decode code ws ≡ o → is_some o ≡ true → (x : Given Answered Refusal) → r ≡ finished x → h' ≡ stored_after x k
+            → HeadBy o d h (told d x) k → Called q b (lent h' subs rows) events events r
+        unfolding decode
+        head_at none e t x said ends p = absurd (true≢false (sym t))
+        head_at (some c) e t x said ends p = head-call c e (in_range-ok (read code ws) c e) x said ends p
 
-        -- in the head
-        module _ (k h' : List ℕ) (ends : h' ≡ (whether eqb a.refusal 0 then stored_head (counted a.head) k else k)) where
-          head-zero : (c : Call) → decode code ws ≡ some c → arguments_ok c ≡ true → InHead c d h a k → a.refusal ≡ 0 → Called q b (lent h' subs rows) events events r
-          head-zero c e ok p z =
-              let t : eqb a.refusal 0 ≡ true = eq-eqb a.refusal 0 z in
-              let x : h' ≡ stored_head (counted a.head) k = ends ∙ if-true (stored_head (counted a.head) k) k t in
-              let n : a.head.events ≡ 0 = ap (λ (y : Head). y.events) p.performs.others ∙ Ending.none-sent h subs rows events roomy s in
-              let y : r ≡ outcome 0 a.answer 0 = said ∙ if-true (outcome 0 a.answer a.head.events) (outcome a.refusal 0 0) t ∙ ap (outcome 0 a.answer) n in
-              subst⁻¹ (λ (m : List ℕ). Called q b (lent m subs rows) events events r) x
-              (subst⁻¹ (λ (o : Outcome). Called q b (lent (stored_head (counted a.head) k) subs rows) events events o) y
-              (Heads.done-called h subs rows events code ws roomy coded s c e ok left a k p.performs p.past (p.silent (view b)) z))
-
-          head_more : (c : Call) → decode code ws ≡ some c → arguments_ok c ≡ true → InHead c d h a k → (n : ℕ) → a.refusal ≡ suc n → Called q b (lent h' subs rows) events events r
-          head_more c e ok p n z =
-              let t : eqb a.refusal 0 ≡ false = ap (λ (m : ℕ). eqb m 0) z ∙ eqb-suc-zero n in
-              let x : h' ≡ h = ends ∙ if-false (stored_head (counted a.head) k) k t ∙ Heads.own-kept h subs rows events code ws roomy coded s c e ok left a k p.performs p.past (p.silent (view b)) n z in
-              let y : r ≡ outcome (suc n) 0 0 = said ∙ if-false (outcome 0 a.answer a.head.events) (outcome a.refusal 0 0) t ∙ ap (λ (m : ℕ). outcome m 0 0) z in
-              subst⁻¹ (λ (m : List ℕ). Called q b (lent m subs rows) events events r) x
-              (subst⁻¹ (λ (o : Outcome). Called q b b events events o) y
-              (Heads.own-called h subs rows events code ws roomy coded s c e ok left a k p.performs p.past (p.silent (view b)) n z))
-
-          head-refusal : (c : Call) → decode code ws ≡ some c → arguments_ok c ≡ true → InHead c d h a k → (n : ℕ) → a.refusal ≡ n → Called q b (lent h' subs rows) events events r
-          head-refusal c e ok p zero z = head-zero c e ok p z
-          head-refusal c e ok p (suc n) z = head_more c e ok p n z
-
-          head_at : (o : Option Call) → decode code ws ≡ o → is_some o ≡ true → HeadBy o d h a k → Called q b (lent h' subs rows) events events r
-          unfolding decode
-          head_at none e t p = absurd (true≢false (sym t))
-          head_at (some c) e t p = head-refusal c e (in_range-ok (read code ws) c e) p a.refusal refl
-
-          pub ran-head : is_some (decode code ws) ≡ true → HeadBy (decode code ws) d h a k → Called q b (lent h' subs rows) events events r
-          ran-head t p = head_at (decode code ws) refl t p
+        pub ran-head : is_some (decode code ws) ≡ true → (x : Given Answered Refusal) → r ≡ finished x → h' ≡ stored_after x k
+            → HeadBy (decode code ws) d h (told d x) k → Called q b (lent h' subs rows) events events r
+        ran-head t x said ends p = head_at (decode code ws) refl t x said ends p
 
 -- ---- the same with the numbers as the code has loaded them
 
@@ -170,15 +165,15 @@ module _ (h : List ℕ) (subs rows events : List Row) (code : ℕ) (ws : List �
       pub fit-run : head_fits (length h) x ≡ true
       fit-run = subst⁻¹ (λ (y : Head). head_fits (length h) y ≡ true) is (run-fit h subs rows events code ws roomy known-code s more_left)
 
-      pub tables-run : (a : Answer) (r : Outcome) → r ≡ finished a → (subs' rows' events' : List Row) (h' : List ℕ) → h' ≡ (whether eqb a.refusal 0 then stored_head (counted a.head) h else h)
-          → PerformsBy (decode code ws) x a subs rows events subs' rows' events' → Called said-by (lent h subs rows) (lent h' subs' rows') events events' r
-      tables-run a r said subs' rows' events' h' ends p = ran h subs rows events code ws roomy known-code s more_left a r said subs' rows' events' h' ends t
-          (subst (λ (y : Head). PerformsBy (decode code ws) y a subs rows events subs' rows' events') is p)
+      pub tables-run : (a : Given Answered Refusal) (r : Outcome) → r ≡ finished a → (subs' rows' events' : List Row) (h' : List ℕ) → h' ≡ stored_after a h
+          → PerformsBy (decode code ws) x (told x a) subs rows events subs' rows' events' → Called said-by (lent h subs rows) (lent h' subs' rows') events events' r
+      tables-run a r said subs' rows' events' h' ends p = ran h subs rows events code ws roomy known-code s more_left subs' rows' events' h' r t a said ends
+          (subst (λ (y : Head). PerformsBy (decode code ws) y (told y a) subs rows events subs' rows' events') is p)
 
-      pub head-run : (a : Answer) (r : Outcome) → r ≡ finished a → (k h' : List ℕ) → h' ≡ (whether eqb a.refusal 0 then stored_head (counted a.head) k else k)
-          → HeadBy (decode code ws) x h a k → Called said-by (lent h subs rows) (lent h' subs rows) events events r
-      head-run a r said k h' ends p = ran-head h subs rows events code ws roomy known-code s more_left a r said k h' ends t
-          (subst (λ (y : Head). HeadBy (decode code ws) y h a k) is p)
+      pub head-run : (a : Given Answered Refusal) (r : Outcome) → r ≡ finished a → (k h' : List ℕ) → h' ≡ stored_after a k
+          → HeadBy (decode code ws) x h (told x a) k → Called said-by (lent h subs rows) (lent h' subs rows) events events r
+      head-run a r said k h' ends p = ran-head h subs rows events code ws roomy known-code s more_left k h' r t a said ends
+          (subst (λ (y : Head). HeadBy (decode code ws) y h (told y a) k) is p)
 
 -- ---- before it
 

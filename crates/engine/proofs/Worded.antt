@@ -1,17 +1,15 @@
 -- Codes 4 to 7 by their words: the call that they give, its ranges, and what it does. Assumes nothing.
 use mathlib.Core.Path.{◌≡◌, refl, sym, ap, ap₂, ◌∙◌}
-use mathlib.Core.Bool.{Bool, true, ◌&&◌}
+use mathlib.Core.Bool.{true}
 use mathlib.Core.List.{List}
-use mathlib.Core.Option.{Option, some}
 use Prim.Native.Nat.{ℕ, ◌≤◌, ◌<◌, ◌^◌}
-use lib.ListN.{length}
 use lib.IntN.{ℤ}
 use Rattle.words.specs.Words.{signed, int}
 use Rattle.words.proofs.Words.{int-signed}
 use Rattle.definition.specs.Base.{is_some}
-use Rattle.definition.specs.Types.{Id, Audit, Dest}
+use Rattle.definition.specs.Types.{Id}
 use Rattle.definition.specs.Consumer.{Ack}
-use Rattle.definition.specs.Destination.{Out, ack, pull, pull_timeout, set_prefetch}
+use Rattle.definition.specs.Destination.{ack, pull, pull_timeout, set_prefetch}
 use Rattle.definition.specs.Calls.{Call, asking, acknowledge, pulling, timed_out, prefetching, id_ok, ack_ok, signed_within, clock_ok, arguments_ok, own_refusal, ask, perform}
 use Rattle.definition.specs.Words.{at, id_in, ack_in, ack_words, unused_from, read, decode}
 use Rattle.definition.specs.Layout.{Row}
@@ -19,7 +17,7 @@ use Rattle.definition.proofs.Tests.{and_left, and_right}
 use Rattle.calls.proofs.Decoded.{Decoded, decoded}
 use Rattle.calls.proofs.Ranges.{within-int}
 use Rattle.state.specs.declared.Head.{Head}
-use Rattle.state.specs.declared.Answer.{Answer}
+use Rattle.state.specs.Answers.{Replied}
 use Rattle.state.specs.State.{head_view, done_as}
 use Rattle.engine.specs.Performs.{PerformsBy}
 use Rattle.engine.specs.Requests.{Sends, Pulled, pull_out}
@@ -75,7 +73,7 @@ module _ (w : List ℕ) where
     unfolding arguments_ok
     prefetch-clock = clock-in (at 4 w) (and_right (signed_within (2 ^ 31) (signed (at 3 w))) (clock_ok (at 4 w)) (and_right (id_ok (id_in w)) _ prefetch-decoded.arguments))
 
-  module _ (d r : Head) (a : Answer) (subs rows events subs' rows' events' : List Row) (i : Id) (named : i ≡ id_in w) where
+  module _ (d r : Head) (a : Replied) (subs rows events subs' rows' events' : List Row) (i : Id) (named : i ≡ id_in w) where
     pub ack-performs : is_some (decode 4 w) ≡ true → a ≡ done_as 0 r → (x : Ack) → x ≡ ack_in w → Sends (ack (at 6 w) i x) d r subs rows events subs' rows' events'
         → PerformsBy (decode 4 w) d a subs rows events subs' rows' events'
     unfolding own_refusal perform ask
@@ -97,7 +95,7 @@ module _ (w : List ℕ) where
         (silent-performs fetches d r a subs rows events subs' rows' events' (set_prefetch (at 4 w) (id_in w) (signed (at 3 w))) (λ t. refl) (λ t. refl) e
         (sends-as d r subs rows events subs' rows' events' (set_prefetch (at 4 w) i x) (set_prefetch (at 4 w) (id_in w) (signed (at 3 w))) (λ p u. ap₂ (λ (j : Id) (y : ℤ). set_prefetch (at 4 w) j y (head_view d subs rows p u)) named f) s))
 
-  pub pull-performs : (d : Head) (a : Answer) (subs rows events subs' rows' events' : List Row) (i : Id) → i ≡ id_in w → is_some (decode 5 w) ≡ true → (x : ℤ) → x ≡ signed (at 3 w)
+  pub pull-performs : (d : Head) (a : Replied) (subs rows events subs' rows' events' : List Row) (i : Id) → i ≡ id_in w → is_some (decode 5 w) ≡ true → (x : ℤ) → x ≡ signed (at 3 w)
       → Pulled (at 4 w) i x d a subs rows events subs' rows' events' → PerformsBy (decode 5 w) d a subs rows events subs' rows' events'
   unfolding own_refusal perform ask
   pull-performs d a subs rows events subs' rows' events' i named t x f s = performs-by pulls d a subs rows events subs' rows' events' (decode 5 w) (pull-decoded t).call

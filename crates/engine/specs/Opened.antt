@@ -1,12 +1,13 @@
 -- The numbers of a destination that is opened, and what is answered and stored at a call's end. Assumes nothing.
-use Rattle.std.specs.Prelude.{true, List, ℕ, eqb}
+use Rattle.std.specs.Prelude.{true, List, ℕ, eqb, Result, Ok, Err}
 use Rattle.definition.specs.Consumer.{zero_stats}
 use Rattle.definition.specs.Words.{at, share_of}
-use Rattle.definition.specs.Base.{whether◌then◌else◌}
+use Rattle.model.specs.declared.Refusal.{Refusal}
+use Rattle.model.specs.Refusal.{refusal_number}
 use Rattle.stats.specs.Counted.{more}
 use Rattle.state.specs.declared.Head.{Head}
-use Rattle.state.specs.declared.Answer.{Answer}
-use Rattle.state.specs.State.{with_used_calls}
+use Rattle.state.specs.declared.Answered.{Answered}
+use Rattle.state.specs.State.{with_used_calls, stored_head}
 use Rattle.engine.specs.declared.Outcome.{Outcome}
 use Rattle.engine.specs.Called.{outcome}
 
@@ -35,6 +36,12 @@ opened_head ws = record {
 abbrev pub counted : Head → Head
 counted d = with_used_calls (more d.calls_used) d
 
--- a refused call answers its refusal alone
-abbrev pub finished : Answer → Outcome
-finished a = whether eqb a.refusal 0 then outcome 0 a.answer a.head.events else outcome a.refusal 0 0
+-- a refused call answers its refusal's number alone
+abbrev pub finished : Result Answered Refusal → Outcome
+finished (Ok a) = outcome 0 a.answer a.head.events
+finished (Err r) = outcome (refusal_number r) 0 0
+
+-- and stores nothing
+abbrev pub stored_after : Result Answered Refusal → List ℕ → List ℕ
+stored_after (Ok a) h = stored_head (counted a.head) h
+stored_after (Err r) h = h

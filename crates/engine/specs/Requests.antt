@@ -5,7 +5,7 @@ use Rattle.definition.specs.Types.{Id, Audit, Dest}
 use Rattle.definition.specs.Destination.{Out, sub_of, touch_idle, dispatch, pull}
 use Rattle.definition.specs.Layout.{Row}
 use Rattle.state.specs.declared.Head.{Head}
-use Rattle.state.specs.declared.Answer.{Answer}
+use Rattle.state.specs.Answers.{Replied}
 use Rattle.state.specs.State.{head_view}
 use Rattle.state.specs.Leaves.{silent, both, Leaves}
 
@@ -25,7 +25,7 @@ Sends f d r subs rows events subs' rows' events' = Leaves f d r subs rows events
 abbrev pub pull_out : ℕ → Id → ℤ → Dest → Out
 pull_out now i timeout t = record { dest = (pull now i timeout t).dest; events = (pull now i timeout t).events }
 
-pub record Pulled (now : ℕ) (i : Id) (timeout : ℤ) (d : Head) (r : Answer) (subs rows events subs' rows' events' : List Row) : Type 0 where
+pub record Pulled (now : ℕ) (i : Id) (timeout : ℤ) (d : Head) (r : Replied) (subs rows events subs' rows' events' : List Row) : Type 0 where
   pub refusal : r.refusal ≡ 0
   pub answer : (producers : List Id) (audits : List Audit) → length producers ≡ d.producers → r.answer ≡ (pull now i timeout (head_view d subs rows producers audits)).answer
   pub sends : Sends (pull_out now i timeout) d r.head subs rows events subs' rows' events'

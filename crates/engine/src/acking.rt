@@ -1,5 +1,5 @@
 // An acknowledgement of a consumer that is present (`ack` of destination.rs, before the dispatch).
-ghost use Rattle.std.specs.Prelude.{◌≡◌, true, false, List, map, ◌+◌, ◌<◌, ◌≤◌, length, take};
+ghost use Rattle.std.specs.Prelude.{◌≡◌, true, false, List, map, ◌+◌, ◌<◌, ◌≤◌, length, take, Some};
 ghost use Rattle.std.proofs.Math.Seq.{slice};
 ghost use Rattle.model.specs.declared.Id.{Id};
 ghost use Rattle.model.specs.declared.AckEffect.TheVariants.{Removes};
@@ -7,7 +7,6 @@ ghost use Rattle.model.specs.declared.AckCount.TheVariants.{DeadLetter};
 ghost use Rattle.definition.specs.Base.{whether◌then◌else◌, all, tally};
 ghost use Rattle.definition.specs.Consumer.{free, redeliver, ack_sub};
 ghost use Rattle.definition.specs.Layout.{Row, inflight_at};
-ghost use Rattle.entry.specs.declared.Found.TheVariants.{At};
 ghost use Rattle.consumers.specs.Table.{position_from};
 ghost use Rattle.state.specs.State.{kind_by};
 ghost use Rattle.state.specs.Fits.{Fits};
@@ -40,10 +39,8 @@ fn full_rows(rows: &[Row], from: usize, to: usize)
     requires { (from ≤ to) × (to ≤ length rows.now) }
     ensures { all full_row (slice from to rows.now) ≡ true }
 {
-    let mut i = from;
-    while i < to {
+    for i in from..to {
         sized(rows[i]);
-        i += 1;
     }
 }
 
@@ -54,7 +51,7 @@ fn mark(rows: &mut [Row], base: usize, mut s: Sub, d: Head, p: Span, tx: bool) -
 {
     let end = base + s.inflight;
     full_rows(rows, base, end);
-    let fresh = table::mark_range(rows, base, end, p.first, p.last, tx);
+    let fresh = table::mark_range(rows, base, end, p, tx);
     s.freed = s.freed + fresh;
     Acked { sub: s, head: d }
 }
@@ -66,7 +63,7 @@ fn raise(rows: &mut [Row], base: usize, s: Sub, d: Head, p: Span) -> Acked
 {
     let end = base + s.inflight;
     full_rows(rows, base, end);
-    table::redeliver_range(rows, base, end, p.first, p.last);
+    table::redeliver_range(rows, base, end, p);
     Acked { sub: s, head: d }
 }
 
@@ -84,14 +81,10 @@ fn letters(
     ensures { Told (removed_counts DeadLetter false (in_span p) (map inflight_at (slice from to rows.now))) (removed_events DeadLetter false cause (in_span p) (map inflight_at (slice from to rows.now))) (tally (in_span p) (map inflight_at (slice from to rows.now))) before result events.old events.new }
 {
     let mut d = before;
-    let mut i = from;
-    while i < to {
+    for i in from..to {
         let row = rows[i];
         if p.has(row[DSEQ]) {
             d = acks::dead(events, d, entry::entry_of(row), cause);
-            i += 1;
-        } else {
-            i += 1;
         }
     }
     d
@@ -118,11 +111,11 @@ fn count(
     match counts {
         AckCount::Uncounted => d,
         AckCount::Dequeue => {
-            let k = table::count_range(rows, base, end, p.first, p.last);
+            let k = table::count_range(rows, base, end, p);
             d.count_dequeued(k as u64)
         }
         AckCount::Expiry => {
-            let k = table::count_range(rows, base, end, p.first, p.last);
+            let k = table::count_range(rows, base, end, p);
             d.count_expired(k as u64)
         }
         AckCount::DeadLetter => letters(rows, events, base, end, d, p, cause),
@@ -145,9 +138,9 @@ fn remove(
 {
     let mut r = count(rows, events, base, s, d, p, counts, cause);
     let end = base + s.inflight;
-    let out = table::remove_range(rows, base, end, d.used, p.first, p.last);
+    let out = table::remove_range(rows, base, end, d.used, p);
     s.inflight = s.inflight - out.rows;
-    s.freed = state::less(s.freed, out.freed);
+    s.freed = s.freed.saturating_sub(out.freed);
     r.used = r.used - out.rows;
     Acked { sub: s, head: r }
 }
@@ -222,7 +215,7 @@ pub(crate) fn ack_at(
     a: Ack,
 ) -> Head
     requires { Fits subs.old d (length rows.old) (length events.old) × (i < d.consumers) }
-    ensures { (id : Id) → position_from 0 id (take d.consumers subs.old) ≡ At i → Leaves (acked id (ack_of a)) d result subs.old rows.old events.old subs.new rows.new events.new × Room d result }
+    ensures { (id : Id) → position_from 0 id (take d.consumers subs.old) ≡ Some i → Leaves (acked id (ack_of a)) d result subs.old rows.old events.old subs.new rows.new events.new × Room d result }
 {
     let base = consumers::base_of(subs, i);
     let s = consumers::load(subs, i);

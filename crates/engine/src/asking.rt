@@ -2,6 +2,7 @@
 ghost use Rattle.std.specs.Prelude.{◌≡◌, true};
 ghost use Rattle.definition.specs.Base.{is_some};
 ghost use Rattle.definition.specs.Words.{decode};
+ghost use Rattle.state.specs.Answers.{told};
 ghost use Rattle.state.specs.Ready.{Ready};
 ghost use Rattle.engine.specs.Performs.{PerformsBy};
 
@@ -9,7 +10,7 @@ use crate::requests;
 use consumers::SubRow;
 use entry::Row;
 use model::Id;
-use state::{Answer, Event, Head};
+use state::{Answer, Answered, Event, Head};
 
 // Code 4.
 pub(crate) fn ask_ack(
@@ -20,12 +21,12 @@ pub(crate) fn ask_ack(
     w: [u64; 8],
 ) -> Answer
     requires { Ready d subs.old rows.old events.old × (is_some (decode 4 w) ≡ true) }
-    ensures { PerformsBy (decode 4 w) d result subs.old rows.old events.old subs.new rows.new events.new }
+    ensures { PerformsBy (decode 4 w) d (told d result) subs.old rows.old events.old subs.new rows.new events.new }
 {
     let id = Id::of_words(w[0], w[1], w[2]);
     let a = acks::ack_of(w);
-    let r = requests::ack(subs, rows, events, d, id, a, w[6]);
-    Answer::done(0, r)
+    let head = requests::ack(subs, rows, events, d, id, a, w[6]);
+    Ok(Answered { answer: 0, head })
 }
 
 // Code 5.
@@ -37,7 +38,7 @@ pub(crate) fn ask_pull(
     w: [u64; 8],
 ) -> Answer
     requires { Ready d subs.old rows.old events.old × (is_some (decode 5 w) ≡ true) }
-    ensures { PerformsBy (decode 5 w) d result subs.old rows.old events.old subs.new rows.new events.new }
+    ensures { PerformsBy (decode 5 w) d (told d result) subs.old rows.old events.old subs.new rows.new events.new }
 {
     let id = Id::of_words(w[0], w[1], w[2]);
     let timeout = words::signed_of(w[3]);

@@ -13,7 +13,7 @@ use consumers::SubRow;
 use entry::Row;
 use state::Event;
 
-// How many calls were done, and how many events they have written.
+// How many calls were done, and how many events they have written: C's struct (include/destination.h).
 #[repr(C)]
 #[derive(Clone, Copy)]
 pub struct Done {
@@ -21,7 +21,7 @@ pub struct Done {
     pub events: usize,
 }
 
-// A call in nine words: its code, and the eight after it.
+// A call in nine words: its code, and the eight after it. Not a From: a station reads nine words otherwise.
 fn call_of(w: [u64; 9]) -> Call
     ensures { result ≡ new_call (at 0 w) (eight_words w) }
 {
@@ -56,9 +56,8 @@ fn run_each(
     requires { (state_short (lengths_of (lent head.old subs.old rows.old) 0) ≡ false) × (sound_buffers (lent head.old subs.old rows.old) ≡ true) }
     ensures { Batched (batch (lengths_of (lent head.old subs.old rows.old) (length events.old)) (length outcomes.old) words.now (view (lent head.old subs.old rows.old))) (lent head.old subs.old rows.old) (lent head.new subs.new rows.new) events.old events.new outcomes.old outcomes.new result }
 {
-    let mut i = 0;
     let mut from = 0;
-    while i < words.len() {
+    for i in 0..words.len() {
         if outcomes.len() <= i {
             return Done {
                 calls: i,
@@ -75,10 +74,9 @@ fn run_each(
         let r = step_from(head, subs, rows, events, from, c);
         outcomes[i] = [r.refusal, r.answer, r.events as u64];
         from += r.events;
-        i += 1;
     }
     Done {
-        calls: i,
+        calls: words.len(),
         events: from,
     }
 }

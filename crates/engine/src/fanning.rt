@@ -111,8 +111,7 @@ pub(crate) fn fan_out_all(
     let mut expired = 0;
     let mut over = 0;
     let mut base = 0;
-    let mut i = 0;
-    while i < n {
+    for i in 0..n {
         let s = consumers::load(subs, i);
         let r = fan_out(rows, base, s, limit, used, e, by);
         let t = r.sub;
@@ -121,7 +120,6 @@ pub(crate) fn fan_out_all(
         over = over + r.over;
         base = base + t.inflight + t.held;
         consumers::store(subs, i, t);
-        i += 1;
     }
     let mut d = before;
     d.used = used;

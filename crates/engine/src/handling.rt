@@ -4,6 +4,7 @@ ghost use Rattle.definition.specs.Base.{is_some};
 ghost use Rattle.definition.specs.Words.{decode};
 ghost use Rattle.definition.specs.Words as Words;
 ghost use Rattle.joins.specs.Joins.{spec_of};
+ghost use Rattle.state.specs.Answers.{told};
 ghost use Rattle.state.specs.Ready.{Ready};
 ghost use Rattle.engine.specs.Performs.{PerformsBy};
 
@@ -24,14 +25,14 @@ pub(crate) fn enqueue(
     w: [u64; 8],
 ) -> Answer
     requires { Ready d subs.old rows.old events.old × (is_some (decode 1 w) ≡ true) }
-    ensures { PerformsBy (decode 1 w) d result subs.old rows.old events.old subs.new rows.new events.new }
+    ensures { PerformsBy (decode 1 w) d (told d result) subs.old rows.old events.old subs.new rows.new events.new }
 {
     let c = Call::new(Call::ENQUEUE, w);
     let e = c.entry_of();
     arrivals::enqueue(subs, rows, events, d, e, w[6])
 }
 
-// The consumer in a join's words.
+// The consumer in a join's words. Not a From: eight words are those of any call.
 fn spec_of(w: [u64; 8]) -> SubSpec
     requires { is_some (decode 2 w) ≡ true }
     ensures { spec_of result ≡ Words.spec_in w }
@@ -61,7 +62,7 @@ pub(crate) fn join(
     w: [u64; 8],
 ) -> Answer
     requires { Ready d subs.old rows.old events.old × (is_some (decode 2 w) ≡ true) }
-    ensures { PerformsBy (decode 2 w) d result subs.old rows.old events.old subs.new rows.new events.new }
+    ensures { PerformsBy (decode 2 w) d (told d result) subs.old rows.old events.old subs.new rows.new events.new }
 {
     let spec = spec_of(w);
     arrivals::join(subs, rows, events, d, spec, w[6])
@@ -76,7 +77,7 @@ pub(crate) fn leave(
     w: [u64; 8],
 ) -> Answer
     requires { Ready d subs.old rows.old events.old × (is_some (decode 3 w) ≡ true) }
-    ensures { PerformsBy (decode 3 w) d result subs.old rows.old events.old subs.new rows.new events.new }
+    ensures { PerformsBy (decode 3 w) d (told d result) subs.old rows.old events.old subs.new rows.new events.new }
 {
     let id = Id::of_words(w[0], w[1], w[2]);
     let last = words::signed_of(w[3]);
@@ -92,7 +93,7 @@ pub(crate) fn release(
     w: [u64; 8],
 ) -> Answer
     requires { Ready d subs.old rows.old events.old × (is_some (decode 15 w) ≡ true) }
-    ensures { PerformsBy (decode 15 w) d result subs.old rows.old events.old subs.new rows.new events.new }
+    ensures { PerformsBy (decode 15 w) d (told d result) subs.old rows.old events.old subs.new rows.new events.new }
 {
     let id = Id::of_words(w[0], w[1], w[2]);
     departures::release(subs, rows, events, d, id, w[3])

@@ -1,16 +1,17 @@
 // The public calls of a destination on lent buffers, total, with refusals in the paper's order.
 #![tactic(auto)]
 
-ghost use Rattle.std.specs.Prelude.{◌≡◌, true, false, ◌<◌, eqb, length};
+ghost use Rattle.std.specs.Prelude.{◌≡◌, true, false, ◌<◌, length};
 ghost use Rattle.definition.specs.Base.{whether◌then◌else◌};
 ghost use Rattle.definition.specs.Words.{share_of, open_words};
 ghost use Rattle.definition.specs.Base.{is_some};
 ghost use Rattle.definition.specs.Calls.{short};
 ghost use Rattle.definition.specs.Words.{decode};
 ghost use Rattle.definition.specs.Layout.{sound_buffers, lengths_of, buffer_step, lent};
+ghost use Rattle.model.specs.Refusal.{refusal_number};
 ghost use Rattle.state.specs.State.{stored_head};
 ghost use Rattle.engine.specs.Called.{outcome, Called};
-ghost use Rattle.engine.specs.Opened.{opened_head, counted, finished};
+ghost use Rattle.engine.specs.Opened.{opened_head, finished, stored_after};
 
 mod acking;
 mod arrivals;
@@ -28,10 +29,11 @@ pub use batch::{Done, calls};
 use calls::Call;
 use consumers::SubRow;
 use entry::Row;
+use model::Refusal;
 use state::{Answer, Event, Head};
 use stats::Stats;
 
-// The refusal (0: accepted), the answer, how many events were written.
+// The refusal's number (0: accepted), the answer, how many events were written: C's struct (include/destination.h).
 #[repr(C)]
 #[derive(Clone, Copy)]
 pub struct Outcome {
@@ -41,11 +43,11 @@ pub struct Outcome {
 }
 
 impl Outcome {
-    pub fn refused(refusal: u64) -> Outcome
-        ensures { result ≡ outcome refusal 0 0 }
+    pub fn refused(refusal: Refusal) -> Outcome
+        ensures { result ≡ outcome (refusal_number refusal) 0 0 }
     {
         Outcome {
-            refusal,
+            refusal: u64::from(refusal),
             answer: 0,
             events: 0,
         }
@@ -97,7 +99,7 @@ fn open(head: &mut [u64], c: Call) -> Outcome
     ensures head_after { head.new ≡ (whether open_words c.words then stored_head (opened_head c.words) head.old else head.old) }
 {
     if !c.opens() {
-        return Outcome::refused(3);
+        return Outcome::refused(Refusal::Arguments);
     }
     let w = c.words;
     let d = opened(w);
@@ -112,17 +114,19 @@ fn open(head: &mut [u64], c: Call) -> Outcome
 // Stores what a call leaves, with one call more used; a refused one stores nothing.
 pub fn finish(head: &mut [u64], a: Answer) -> Outcome
     ensures value { result ≡ finished a }
-    ensures head_after { head.new ≡ (whether eqb a.refusal 0 then stored_head (counted a.head) head.old else head.old) }
+    ensures head_after { head.new ≡ stored_after a head.old }
 {
-    if a.refusal != 0 {
-        return Outcome::refused(a.refusal);
-    }
-    let d = a.head;
-    state::store(head, d.counted());
-    Outcome {
-        refusal: 0,
-        answer: a.answer,
-        events: d.events,
+    match a {
+        Err(refusal) => Outcome::refused(refusal),
+        Ok(done) => {
+            let d = done.head;
+            state::store(head, d.counted());
+            Outcome {
+                refusal: 0,
+                answer: done.answer,
+                events: d.events,
+            }
+        }
     }
 }
 
@@ -139,7 +143,7 @@ fn run(
 {
     let d = state::load(head, subs);
     if d.calls_used == d.call_limit {
-        return Outcome::refused(9);
+        return Outcome::refused(Refusal::CallsUsedUp);
     }
     if (c.code < Call::ADD_PRODUCER) | (c.code == Call::RELEASE) {
         let a = perform::perform(subs, rows, events, d, c);
@@ -164,7 +168,7 @@ fn step(
         return open(head, c);
     }
     if !c.in_range() {
-        return Outcome::refused(3);
+        return Outcome::refused(Refusal::Arguments);
     }
     run(head, subs, rows, events, c)
 }
@@ -181,16 +185,16 @@ pub fn call(
     ensures { Called (buffer_step (lent head.old subs.old rows.old) (length events.old) c.code c.words) (lent head.old subs.old rows.old) (lent head.new subs.new rows.new) events.old events.new result }
 {
     if !sound::whole(head, subs, rows) {
-        return Outcome::refused(1);
+        return Outcome::refused(Refusal::Short);
     }
     if events.len() < state::EVENTS {
-        return Outcome::refused(1);
+        return Outcome::refused(Refusal::Short);
     }
     if c.code == Call::OPEN {
         return open(head, c);
     }
     if !sound::sound(head, subs, rows) {
-        return Outcome::refused(2);
+        return Outcome::refused(Refusal::NotSound);
     }
     step(head, subs, rows, events, c)
 }

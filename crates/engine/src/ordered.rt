@@ -26,6 +26,7 @@ pub(crate) fn place_from_end(rows: &[Row], from: usize, to: usize, seq: u64) -> 
     requires { (from ≤ to) × (to ≤ length rows.now) × (rows_in_order (slice from to rows.now) ≡ true) }
     ensures { result ≡ place_of from to seq rows.now }
 {
+    // A while: it goes down, and answers the place above the row that it looks at.
     let mut i = to;
     while from < i {
         if rows[i - 1][0] < seq {

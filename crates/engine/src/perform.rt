@@ -3,6 +3,7 @@ ghost use Rattle.std.specs.Prelude.{◌≡◌, true, false, ◌<◌, length};
 ghost use Rattle.definition.specs.Base.{is_some};
 ghost use Rattle.definition.specs.Words.{decode};
 ghost use Rattle.producers.specs.Producers.{head_fits};
+ghost use Rattle.state.specs.Answers.{told};
 ghost use Rattle.state.specs.Ready.{Ready};
 ghost use Rattle.engine.specs.Performs.{PerformsBy, HeadBy, on_tables};
 
@@ -21,10 +22,11 @@ pub(crate) fn perform(
     c: Call,
 ) -> Answer
     requires { Ready d subs.old rows.old events.old × (is_some (decode c.code c.words) ≡ true) × (0 < c.code) × (on_tables c.code ≡ true) }
-    ensures { PerformsBy (decode c.code c.words) d result subs.old rows.old events.old subs.new rows.new events.new }
+    ensures { PerformsBy (decode c.code c.words) d (told d result) subs.old rows.old events.old subs.new rows.new events.new }
 {
     let code = c.code;
     let w = c.words;
+    // A match on numbers, no closures: the codes are the papers' and C's, and each step takes what it needs of the words.
     match code {
         Call::ENQUEUE => handling::enqueue(subs, rows, events, d, w),
         Call::JOIN => handling::join(subs, rows, events, d, w),
@@ -43,7 +45,7 @@ pub(crate) fn perform(
 // Codes 11 to 14.
 pub(crate) fn perform_head(head: &mut [u64], d: Head, c: Call) -> Answer
     requires { (head_fits (length head.old) d ≡ true) × (is_some (decode c.code c.words) ≡ true) × (on_tables c.code ≡ false) }
-    ensures { HeadBy (decode c.code c.words) d head.old result head.new }
+    ensures { HeadBy (decode c.code c.words) d head.old (told d result) head.new }
 {
     let code = c.code;
     let w = c.words;

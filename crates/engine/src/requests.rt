@@ -1,12 +1,12 @@
 // What a consumer asks (codes 4 to 7), on a sound destination with a call left.
-ghost use Rattle.std.specs.Prelude.{◌≡◌, true, ◌<◌, ◌≤◌, ◌^◌, take};
+ghost use Rattle.std.specs.Prelude.{◌≡◌, true, ◌<◌, ◌≤◌, ◌^◌, take, Some};
 ghost use Rattle.model.specs.declared.Id.{Id};
 ghost use Rattle.definition.specs.Base.{is_some};
 ghost use Rattle.definition.specs.Destination.{ack};
 ghost use Rattle.definition.specs.Words.{decode};
-ghost use Rattle.entry.specs.declared.Found.TheVariants.{At};
 ghost use Rattle.consumers.specs.Table.{position_from};
 ghost use Rattle.acks.specs.Acks.{ack_of, acked};
+ghost use Rattle.state.specs.Answers.{told};
 ghost use Rattle.state.specs.Ready.{Ready};
 ghost use Rattle.engine.specs.Performs.{PerformsBy};
 ghost use Rattle.engine.specs.Requests.{sent_on, Absent, Sends, Pulled};
@@ -14,9 +14,9 @@ ghost use Rattle.engine.specs.Requests.{sent_on, Absent, Sends, Pulled};
 use crate::acking;
 use acks::Ack;
 use consumers::SubRow;
-use entry::{Found, Row};
+use entry::Row;
 use model::Id;
-use state::{Answer, Event, Head};
+use state::{Answer, Answered, Event, Head};
 
 // The ack of the consumer at a place, `touch_idle`, and the dispatch where anything can go.
 fn ack_present(
@@ -29,7 +29,7 @@ fn ack_present(
     clock: u64,
 ) -> Head
     requires { Ready d subs.old rows.old events.old × (clock ≤ 2 ^ 62) × (i < d.consumers) }
-    ensures { (id : Id) → position_from 0 id (take d.consumers subs.old) ≡ At i → Sends (sent_on clock (acked id (ack_of a))) d result subs.old rows.old events.old subs.new rows.new events.new }
+    ensures { (id : Id) → position_from 0 id (take d.consumers subs.old) ≡ Some i → Sends (sent_on clock (acked id (ack_of a))) d result subs.old rows.old events.old subs.new rows.new events.new }
 {
     let acked = acking::ack_at(subs, rows, events, d, i, a).touch_idle(clock);
     if !dispatch::goes(subs, acked.consumers, acked.waiting, acked.queue) {
@@ -75,8 +75,8 @@ pub(crate) fn ack(
     ensures { Sends (ack clock id (ack_of a)) d result subs.old rows.old events.old subs.new rows.new events.new }
 {
     match consumers::position(subs, d.consumers, id) {
-        Found::At(i) => ack_present(subs, rows, events, d, i, a, clock),
-        Found::Nothing => ack_absent(subs, rows, events, d, id, a, clock),
+        Some(i) => ack_present(subs, rows, events, d, i, a, clock),
+        None => ack_absent(subs, rows, events, d, id, a, clock),
     }
 }
 
@@ -89,11 +89,11 @@ pub(crate) fn pull_timeout(
     w: [u64; 8],
 ) -> Answer
     requires { Ready d subs.old rows.now events.old × (is_some (decode 6 w) ≡ true) }
-    ensures { PerformsBy (decode 6 w) d result subs.old rows.now events.old subs.new rows.now events.new }
+    ensures { PerformsBy (decode 6 w) d (told d result) subs.old rows.now events.old subs.new rows.now events.new }
 {
     let id = Id::of_words(w[0], w[1], w[2]);
-    let r = pulls::pull_timeout(subs, rows, events, d, id, w[3]);
-    Answer::done(0, r)
+    let head = pulls::pull_timeout(subs, rows, events, d, id, w[3]);
+    Ok(Answered { answer: 0, head })
 }
 
 // `Dest::set_prefetch` (code 7).
@@ -105,15 +105,15 @@ pub(crate) fn set_prefetch(
     w: [u64; 8],
 ) -> Answer
     requires { Ready d subs.old rows.old events.old × (is_some (decode 7 w) ≡ true) }
-    ensures { PerformsBy (decode 7 w) d result subs.old rows.old events.old subs.new rows.new events.new }
+    ensures { PerformsBy (decode 7 w) d (told d result) subs.old rows.old events.old subs.new rows.new events.new }
 {
     let id = Id::of_words(w[0], w[1], w[2]);
     calls::words_fit(w);
     let prefetch = words::int_of(w[3]);
     let clock = w[4];
     pulls::set_prefetch(subs, rows, events, d, id, prefetch);
-    let sent = dispatch::dispatch(subs, rows, events, d, clock);
-    Answer::done(0, sent)
+    let head = dispatch::dispatch(subs, rows, events, d, clock);
+    Ok(Answered { answer: 0, head })
 }
 
 // `Dest::pull`.
@@ -127,10 +127,10 @@ pub(crate) fn pull(
     clock: u64,
 ) -> Answer
     requires { Ready d subs.old rows.old events.old × (clock ≤ 2 ^ 62) }
-    ensures { Pulled clock id timeout d result subs.old rows.old events.old subs.new rows.new events.new }
+    ensures { Pulled clock id timeout d (told d result) subs.old rows.old events.old subs.new rows.new events.new }
 {
     if !pulls::register(subs, rows, events, d, id) {
-        return Answer::done(0, d);
+        return Ok(Answered { answer: 0, head: d });
     }
     let sent = dispatch::dispatch(subs, rows, events, d, clock);
     pulls::answer_pull(subs, rows, events, sent, id, timeout)

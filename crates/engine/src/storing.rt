@@ -5,6 +5,7 @@ ghost use Rattle.definition.specs.Base.{tally};
 ghost use Rattle.definition.specs.Layout.{sub_rows};
 ghost use Rattle.entry.specs.Entry.{row_of};
 ghost use Rattle.consumers.specs.Table.{on_first, held_back_row};
+ghost use Rattle.state.specs.Answers.{refusal_of};
 ghost use Rattle.state.specs.State.{first_waiting};
 ghost use Rattle.state.specs.Fits.{fits};
 ghost use Rattle.table.specs.Table.{place_of, insert_row};
@@ -15,6 +16,7 @@ ghost use Rattle.engine.specs.Arrivals.{rows_in_order, FannedOut, Standing, Arri
 use crate::{fanning, ordered};
 use consumers::{Sub, SubRow};
 use entry::{Entry, Row};
+use model::Refusal;
 use state::Head;
 
 // The producer connection's word in a row.
@@ -27,15 +29,10 @@ fn count_from(rows: &[Row], from: usize, to: usize, conn: u64) -> usize
     requires { (from ≤ to) × (to ≤ length rows.now) }
     ensures { result ≡ tally (came_from conn) (slice from to rows.now) }
 {
-    let mut count = 0;
-    let mut i = from;
-    while i < to {
-        if conn == rows[i][PRODUCER] {
-            count += 1;
-        }
-        i += 1;
-    }
-    count
+    rows[from..to]
+        .iter()
+        .filter(|row| conn == row[PRODUCER])
+        .count()
 }
 
 // How many of a consumer's rows, from its first on, belong to connections: copies of a queue's browsers belong to none.
@@ -58,12 +55,10 @@ fn taken_from(subs: &[SubRow], rows: &[Row], d: Head, conn: u64) -> usize
     let queue = d.queue;
     let mut count = 0;
     let mut base = 0;
-    let mut i = 0;
-    while i < n {
+    for i in 0..n {
         let s = consumers::load(subs, i);
         count += count_from(rows, base, base + own_of(s, queue), conn);
         base += s.inflight + s.held;
-        i += 1;
     }
     count
 }
@@ -96,8 +91,7 @@ fn is_fanned_out(subs: &[SubRow], rows: &[Row], n: usize, seq: u64) -> bool
     ensures { result ≡ holds seq (take (sub_rows (take n subs.now)) rows.now) }
 {
     let mut base = 0;
-    let mut i = 0;
-    while i < n {
+    for i in 0..n {
         let s = consumers::load(subs, i);
         let from = base + s.inflight;
         let to = from + s.held;
@@ -108,7 +102,6 @@ fn is_fanned_out(subs: &[SubRow], rows: &[Row], n: usize, seq: u64) -> bool
             return true;
         }
         base = to;
-        i += 1;
     }
     false
 }
@@ -142,24 +135,24 @@ fn over_share(subs: &[SubRow], rows: &[Row], d: Head, e: Entry) -> bool
     d.share < (rows_from(subs, rows, d, e.producer) + rows_for(subs, d, e)) as u64
 }
 
-// The refusal that is an entry's own: 4 where its number is held, 14 where it goes over its connection's share, 5 where too few rows
-// are free, else 0. A share of 512 or more is not looked at.
-pub(crate) fn refusal(subs: &[SubRow], rows: &[Row], d: Head, e: Entry) -> u64
+// Whether an entry is stored: refused where its number is held, where it goes over its connection's share, and where too few rows
+// are free. A share of 512 or more is not looked at.
+pub(crate) fn admit(subs: &[SubRow], rows: &[Row], d: Head, e: Entry) -> Result<(), Refusal>
     requires { Standing d subs.now rows.now }
-    ensures { result ≡ own_refusal_of e d subs.now rows.now }
+    ensures { refusal_of result ≡ own_refusal_of e d subs.now rows.now }
 {
     if is_held(subs, rows, d, e.seq) {
-        return 4;
+        return Err(Refusal::NumberHeld);
     }
     if d.share < entry::SHARE_MOST {
         if over_share(subs, rows, d, e) {
-            return 14;
+            return Err(Refusal::ShareUsedUp);
         }
     }
     if d.free_rows() < rows_for(subs, d, e) {
-        return 5;
+        return Err(Refusal::RowsFull);
     }
-    0
+    Ok(())
 }
 
 // ---- stored on a queue

@@ -35,8 +35,6 @@ pub const SEQ_END: u64 = 9223372036854775808;
 
 pub const SIZE_END: u64 = 4294967296;
 
-const MOST_I32: i32 = 2147483647;
-
 #[derive(Clone, Copy)]
 pub struct Entry {
     pub seq: u64,
@@ -48,13 +46,6 @@ pub struct Entry {
     pub size: u64,
 }
 
-// Where something stands in a table, if it does.
-#[derive(Clone, Copy)]
-pub enum Found {
-    At(usize),
-    Nothing,
-}
-
 impl Entry {
     pub fn expired(self, now: i64) -> bool
         ensures { result ≡ expired now self }
@@ -63,15 +54,13 @@ impl Entry {
         0 < at && at <= now
     }
 
-    // One more delivery: redelivery.saturating_add(1).
-    pub fn redelivered(mut self) -> Entry
+    // One more delivery.
+    pub fn redelivered(self) -> Entry
         ensures { result ≡ redelivered self }
     {
-        if self.redelivery < MOST_I32 {
-            self.redelivery = self.redelivery + 1;
-            self
-        } else {
-            self
+        Entry {
+            redelivery: self.redelivery.saturating_add(1),
+            ..self
         }
     }
 }
@@ -94,6 +83,7 @@ pub fn selects(match_word: u64, selector: u64) -> bool
     }
 }
 
+// Not a From: ten words are rows of several kinds, and the name says which.
 pub fn entry_of(row: Row) -> Entry
     ensures { result ≡ entry_of row }
 {
@@ -140,7 +130,7 @@ pub fn inflight_row(e: Entry, dseq: u64) -> Row
     row_of(e, dseq, 0, 0)
 }
 
-// Kept for a consumer that left within a transaction.
+// Kept for a consumer that left within a transaction: the three words of its identifier, as the row holds them.
 pub fn reserved_row(e: Entry, conn: u64, session: u64, value: u64) -> Row
     ensures { result ≡ row_of e conn session value }
 {

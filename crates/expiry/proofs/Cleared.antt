@@ -18,7 +18,7 @@ use Rattle.consumers.proofs.Laws.{on-first, on-length, clear-rows, clear_first, 
 use Rattle.consumers.proofs.Strict.{strict-cleared, tables-strict, strict-tables}
 use Rattle.consumers.proofs.Lists.{on-past}
 use Rattle.state.specs.declared.Head.{Head}
-use Rattle.state.specs.declared.Answer as State
+use Rattle.state.specs.Answers as State
 use Rattle.state.specs.State.{head_view, kind_by, refused_as, done_as}
 use Rattle.state.specs.Fits.{Fits, fits}
 use Rattle.state.specs.Leaves.{Leaves, LeavesIf, Room}
@@ -28,13 +28,13 @@ use Rattle.state.proofs.View.{is-queue}
 use Rattle.expiry.specs.Expiry.{emptied_head, clear_out, SweepAnswers}
 
 -- a test has failed
-pub refused : (b : Bool) → b ≡ false → (also : Type 0) (f : Dest → Destination.Out) (g : Dest → Destination.Answer) (d : Head) (subs rows events : List Row) (r : State.Answer) → r ≡ refused_as 2 d
+pub refused : (b : Bool) → b ≡ false → (also : Type 0) (f : Dest → Destination.Out) (g : Dest → Destination.Answer) (d : Head) (subs rows events : List Row) (r : State.Replied) → r ≡ refused_as 2 d
     → LeavesIf b also f d r.head subs rows events subs rows events × SweepAnswers b g d subs rows r
 refused b h also f g d subs rows events r e = (
-  unless-touched b also f d r.head subs rows events subs rows events h (record { same_head = ap (λ (y : State.Answer). y.head) e; same-subs = refl; same_rows = refl; same-events = refl }),
+  unless-touched b also f d r.head subs rows events subs rows events h (record { same_head = ap (λ (y : State.Replied). y.head) e; same-subs = refl; same_rows = refl; same-events = refl }),
   record {
-    refusal = ap (λ (y : State.Answer). y.refusal) e ∙ sym (ap (λ (y : Bool). whether◌then◌else◌ {A = ℕ} y 0 2) h);
-    answer = λ ps qs _. ap (λ (y : State.Answer). y.answer) e ∙ sym (ap (λ (y : Bool). whether◌then◌else◌ {A = ℕ} y (g (head_view d subs rows ps qs)).answer 0) h);
+    refusal = ap (λ (y : State.Replied). y.refusal) e ∙ sym (ap (λ (y : Bool). whether◌then◌else◌ {A = ℕ} y 0 2) h);
+    answer = λ ps qs _. ap (λ (y : State.Replied). y.answer) e ∙ sym (ap (λ (y : Bool). whether◌then◌else◌ {A = ℕ} y (g (head_view d subs rows ps qs)).answer 0) h);
   },
 )
 
@@ -101,7 +101,7 @@ module _ (d : Head) (subs rows events : List Row) (t : fits subs d (length rows)
       ap (λ (x : ℕ). d.waiting + d.reserved + x) (m ∙ sym h) ∙ ap₂ (λ (x y : ℕ). x + y + held_rows (subs_at (kind_by d.queue) ws rows)) (sym w) (sym a)
 
   -- what `clear` leaves and answers
-  pub clears : (subs'' : List Row) (r : State.Answer) → subs'' ≡ subs' → r ≡ done_as total (emptied_head d)
+  pub clears : (subs'' : List Row) (r : State.Replied) → subs'' ≡ subs' → r ≡ done_as total (emptied_head d)
       → LeavesIf (fits subs d (length rows) (length events)) (Room d r.head) clear_out d r.head subs rows events subs'' rows events × SweepAnswers (fits subs d (length rows) (length events)) clear d subs rows r
   clears subs'' r es er = rw (es, er) (
     when-leaves (fits subs d (length rows) (length events)) _ clear_out d (emptied_head d) subs rows events subs' rows events t (leaves-cleared, record { room = omega (arith, facts.sent); as_many = refl }),

@@ -26,7 +26,7 @@ use Rattle.table.proofs.Lists.{slice-take, agree-drop}
 use Rattle.consumers.proofs.View.{subs-agree}
 use Rattle.consumers.proofs.Strict.{strict-agree, tables-strict, strict-tables, all_left, all_right}
 use Rattle.state.specs.declared.Head.{Head}
-use Rattle.state.specs.declared.Answer as State
+use Rattle.state.specs.Answers as State
 use Rattle.state.specs.State.{head_view, strict_tables, kind_by, with_counters, with_used, with_waiting, first_waiting, touched, due_by, done_as}
 use Rattle.state.specs.Fits.{Fits}
 use Rattle.state.specs.Leaves.{silent, both, Leaves, LeavesIf, Room}
@@ -312,10 +312,10 @@ module _ (most clock now : ℕ) (d : Head) (is : now ≡ due_by clock d) (subs r
 
       -- what `sweep` leaves and answers, where its test holds
       module _ (test : Bool) (holds_test : test ≡ true) where
-        Done : State.Answer → Type 0
+        Done : State.Replied → Type 0
         Done a = LeavesIf test (Room d a.head) (sweep_out clock most) d a.head subs rows events subs' rows'' events × SweepAnswers test (sweep_expired clock most) d subs rows a
 
-        answers : (a : State.Answer) → a.refusal ≡ 0 → ((ps : List Id) (qs : List Audit) → a.answer ≡ (sweep_expired clock most (head_view d subs rows ps qs)).answer) → SweepAnswers test (sweep_expired clock most) d subs rows a
+        answers : (a : State.Replied) → a.refusal ≡ 0 → ((ps : List Id) (qs : List Audit) → a.answer ≡ (sweep_expired clock most (head_view d subs rows ps qs)).answer) → SweepAnswers test (sweep_expired clock most) d subs rows a
         answers a e h = record {
           refusal = e ∙ sym (if-true 0 2 holds_test);
           answer = λ ps qs _. h ps qs ∙ sym (if-true _ 0 holds_test);
@@ -337,7 +337,7 @@ module _ (most clock now : ℕ) (d : Head) (is : now ≡ due_by clock d) (subs r
           answers (done_as 0 right) refl (λ ps qs. sym (ap (λ (x : Destination.Answer). x.answer) (rests ps qs (sym (total-is ps qs) ∙ z)))),
         )
 
-        sweep-ends : (a : State.Answer) → a ≡ sweep_finished r.gone clock right
+        sweep-ends : (a : State.Replied) → a ≡ sweep_finished r.gone clock right
             → LeavesIf test (Room d a.head) (sweep_out clock most) d a.head subs rows events subs' rows'' events × SweepAnswers test (sweep_expired clock most) d subs rows a
         unfolding Done
         sweep-ends a e = by-test (ltb 0 r.gone)
@@ -346,7 +346,7 @@ module _ (most clock now : ℕ) (d : Head) (is : now ≡ due_by clock d) (subs r
 
     -- the same from the head that the first part leaves
     pub sweep-from : (x : Head) → x ≡ left → (r : Swept) (subs' rows'' : List Row) → SubsSwept most now x w.gone subs rows' subs' rows'' r → (test : Bool) → test ≡ true
-        → (a : State.Answer) → a ≡ sweep_finished r.gone clock (with_used r.used (with_waiting x.waiting x))
+        → (a : State.Replied) → a ≡ sweep_finished r.gone clock (with_used r.used (with_waiting x.waiting x))
         → LeavesIf test (Room d a.head) (sweep_out clock most) d a.head subs rows events subs' rows'' events × SweepAnswers test (sweep_expired clock most) d subs rows a
     sweep-from x e r subs' rows'' g test sure a q =
         sweep-ends r subs' rows'' (subst (λ (y : Head). SubsSwept most now y w.gone subs rows' subs' rows'' r) e g) test sure a

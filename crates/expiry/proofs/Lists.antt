@@ -5,7 +5,6 @@ use mathlib.Core.List.{List, [], ◌∷◌, ◌++◌, append_assoc, map}
 use mathlib.Core.Option.{Option, none, some}
 use Prim.Native.Nat.{ℕ, zero, suc, ◌+◌, ◌-◌, ◌≤◌, ◌<◌, ◌^◌}
 use native.Mathlib.Omega.{arith}
-use borrow.Author.Tests.{eq-eqb, ne_eqb}
 use lib.Dec.{eqb, leb, ltb}
 use lib.IntN.{pos}
 use lib.ListN.{length, take, drop, get_or, length-append}
@@ -24,22 +23,12 @@ use Rattle.table.specs.Table.{has_seq, remove_rows, removed_rows}
 use Rattle.table.proofs.Lists.{slice-parts, parts}
 use Rattle.table.proofs.Segments.{kept-length}
 use Rattle.table.proofs.Laws.{remove-length, remove-after, remove-parts, gone-parts}
-use Rattle.expiry.specs.declared.Next.{Next}
+use Rattle.std.specs.Prelude as Std
+use Rattle.std.specs.Prelude.{Some, None, MatchOption}
 use Rattle.expiry.specs.declared.Swept.{Swept}
 use Rattle.expiry.specs.Sweep.{next_of, Listed, sweep_listed, swept, SweepFine, Shorter, StaysStrict}
 
 -- ---- the soonest
-
--- what stands at a place; at the end, nothing
-abbrev pub found_at : ℕ → ℕ → List Row → Option Entry
-found_at at to rows = whether eqb at to then none else some (entry_of (get_or rows at []))
-
-module _ (at to : ℕ) (rows : List Row) where
-  pub found_none : at ≡ to → found_at at to rows ≡ none
-  found_none h = rw (eq-eqb at to h)
-
-  pub found_some : (at ≡ to → ⊥) → found_at at to rows ≡ some (entry_of (get_or rows at []))
-  found_some h = rw (ne_eqb at to h)
 
 -- by the word that holds the expiration
 pub by_word : (now : ℕ) (row : Row) (b : Bool) → now ≤ 2 ^ 62 → (ltb 0 (get_or row 1 0) && leb (get_or row 1 0) now) ≡ b → expired (pos now) (entry_of row) ≡ b
@@ -64,41 +53,57 @@ module _ (now : ℕ) (e : Entry) (n : Option Entry) where
   met-later f h q s = rw (h, q, s)
 
 -- none of no rows
-pub soonest-start : (now i : ℕ) (rows : List Row) → found_at i i rows ≡ soonest now (map entry_of (slice i i rows))
-soonest-start now i rows = found_none i i rows refl ∙ sym (ap (λ (l : List Row). soonest now (map entry_of l)) (slice_empty i rows))
+pub soonest-start : (now i : ℕ) (rows : List Row) → none ≡ soonest now (map entry_of (slice i i rows))
+soonest-start now i rows = sym (ap (λ (l : List Row). soonest now (map entry_of l)) (slice_empty i rows))
 
 -- one row more at the front
-module _ (now i j to at : ℕ) (rows : List Row) (h : i + 1 ≡ j) (b : j ≤ to) (l : to ≤ length rows) (c : now ≤ 2 ^ 62) (q : found_at at to rows ≡ soonest now (map entry_of (slice j to rows))) where
+module _ (now i j to : ℕ) (rows : List Row) (n : Option Entry) (h : i + 1 ≡ j) (b : j ≤ to) (l : to ≤ length rows) (c : now ≤ 2 ^ 62) (q : n ≡ soonest now (map entry_of (slice j to rows))) where
   abbrev row : Row
   row = get_or rows i []
-
-  abbrev best : Row
-  best = get_or rows at []
 
   abbrev is_late : Bool
   is_late = ltb 0 (get_or row 1 0) && leb (get_or row 1 0) now
 
-  soonest-turn : (m : Option Entry) → m ≡ next now (entry_of row) (found_at at to rows) → m ≡ soonest now (map entry_of (slice i to rows))
+  soonest-turn : (m : Option Entry) → m ≡ next now (entry_of row) n → m ≡ soonest now (map entry_of (slice i to rows))
   soonest-turn m s =
       let k : suc i ≡ j = omega arith in
       let cut : slice i to rows ≡ row ∷ slice j to rows = slice-cons i to rows [] (omega arith) l ∙ ap (λ (y : ℕ). row ∷ slice y to rows) k in
       s ∙ ap (next now (entry_of row)) q ∙ sym (ap (λ (y : List Row). soonest now (map entry_of y)) cut)
 
-  here : found_at i to rows ≡ some (entry_of row)
-  here = found_some i to rows (λ e. omega (arith, e))
+  pub soonest-not : is_late ≡ false → n ≡ soonest now (map entry_of (slice i to rows))
+  soonest-not t = soonest-turn n (met-not now (entry_of row) n (by_word now row false c t))
 
-  pub soonest-not : is_late ≡ false → found_at at to rows ≡ soonest now (map entry_of (slice i to rows))
-  soonest-not t = soonest-turn (found_at at to rows) (met-not now (entry_of row) (found_at at to rows) (by_word now row false c t))
+  module _ (t : is_late ≡ true) where
+    pub soonest-first : n ≡ none → some (entry_of row) ≡ soonest now (map entry_of (slice i to rows))
+    soonest-first e = soonest-turn (some (entry_of row)) (met-first now (entry_of row) n (by_word now row true c t) e)
 
-  pub soonest-first : is_late ≡ true → at ≡ to → found_at i to rows ≡ soonest now (map entry_of (slice i to rows))
-  soonest-first t e = soonest-turn (found_at i to rows) (here ∙ met-first now (entry_of row) (found_at at to rows) (by_word now row true c t) (found_none at to rows e))
+    pub soonest-sooner : (f : Entry) → n ≡ some f → is_sooner (entry_of row) f ≡ true → some (entry_of row) ≡ soonest now (map entry_of (slice i to rows))
+    soonest-sooner f e s = soonest-turn (some (entry_of row)) (met-sooner now (entry_of row) n f (by_word now row true c t) e s)
 
-  module _ (t : is_late ≡ true) (e : at ≡ to → ⊥) where
-    pub soonest-sooner : is_sooner (entry_of row) (entry_of best) ≡ true → found_at i to rows ≡ soonest now (map entry_of (slice i to rows))
-    soonest-sooner s = soonest-turn (found_at i to rows) (here ∙ met-sooner now (entry_of row) (found_at at to rows) (entry_of best) (by_word now row true c t) (found_some at to rows e) s)
+    pub soonest-later : (f : Entry) → n ≡ some f → is_sooner (entry_of row) f ≡ false → n ≡ soonest now (map entry_of (slice i to rows))
+    soonest-later f e s = soonest-turn n (met-later now (entry_of row) n f (by_word now row true c t) e s)
 
-    pub soonest-later : is_sooner (entry_of row) (entry_of best) ≡ false → found_at at to rows ≡ soonest now (map entry_of (slice i to rows))
-    soonest-later s = soonest-turn (found_at at to rows) (met-later now (entry_of row) (found_at at to rows) (entry_of best) (by_word now row true c t) (found_some at to rows e) s)
+-- what was found stays or is replaced, by what a test of it answered
+module _ (now i j to : ℕ) (rows : List Row) (o : Std.Option Entry) (h : i + 1 ≡ j) (b : j ≤ to) (l : to ≤ length rows) (c : now ≤ 2 ^ 62) (q : next_of o ≡ soonest now (map entry_of (slice j to rows)))
+    (t : (ltb 0 (get_or (get_or rows i []) 1 0) && leb (get_or (get_or rows i []) 1 0) now) ≡ true) (e : Entry) (is : e ≡ entry_of (get_or rows i [])) (r : Bool)
+  where
+    abbrev met : Entry
+    met = entry_of (get_or rows i [])
+
+    taken : (m : Std.Option Entry) → o ≡ m → (P : Entry → Type 0) → MatchOption m (r ≡ true) P → ((f : Entry) → P f → r ≡ is_sooner e f) → r ≡ true → some e ≡ soonest now (map entry_of (slice i to rows))
+    taken None s P m k y = ap some is ∙ soonest-first now i j to rows (next_of o) h b l c q t (ap next_of s)
+    taken (Some f) s P m k y = ap some is ∙ soonest-sooner now i j to rows (next_of o) h b l c q t f (ap next_of s) (ap (λ (x : Entry). is_sooner x f) (sym is) ∙ sym (k f m) ∙ y)
+
+    kept : (m : Std.Option Entry) → o ≡ m → (P : Entry → Type 0) → MatchOption m (r ≡ true) P → ((f : Entry) → P f → r ≡ is_sooner e f) → r ≡ false → next_of o ≡ soonest now (map entry_of (slice i to rows))
+    kept None s P m k y = absurd (cc (m, y))
+    kept (Some f) s P m k y = soonest-later now i j to rows (next_of o) h b l c q t f (ap next_of s) (ap (λ (x : Entry). is_sooner x f) (sym is) ∙ sym (k f m) ∙ y)
+
+    module _ (P : Entry → Type 0) (m : MatchOption o (r ≡ true) P) (k : (f : Entry) → P f → r ≡ is_sooner e f) where
+      pub soonest-taken : r ≡ true → some e ≡ soonest now (map entry_of (slice i to rows))
+      soonest-taken y = taken o refl P m k y
+
+      pub soonest-kept : r ≡ false → next_of o ≡ soonest now (map entry_of (slice i to rows))
+      soonest-kept y = kept o refl P m k y
 
 -- ---- what the definition says
 
@@ -254,31 +259,31 @@ module _ (most now from : ℕ) (rows₀ : List Row) (w₀ : Swept) where
   turn-start f = record { same = refl; fine = f; shorter = record { length = omega arith; tail = refl; gone = f.gone }; past = refl; strict = λ h. h; said = refl }
 
   module _ (rows : List Row) (w : Swept) (g : Turn most now from rows₀ w₀ rows w) where
-    pub turn-next : (n : Next) (k : ℕ) (rows' : List Row) → w.gone < most → next_of n ≡ soonest now (map entry_of (slice from (from + w.length) rows)) → n.found ≡ true
-        → k ≡ removed_rows (has_seq n.entry.seq) from (from + w.length) w.used rows → rows' ≡ remove_rows (has_seq n.entry.seq) from (from + w.length) w.used rows
+    pub turn-next : (n : Entry) (k : ℕ) (rows' : List Row) → w.gone < most → some n ≡ soonest now (map entry_of (slice from (from + w.length) rows))
+        → k ≡ removed_rows (has_seq n.seq) from (from + w.length) w.used rows → rows' ≡ remove_rows (has_seq n.seq) from (from + w.length) w.used rows
         → Turn most now from rows₀ w₀ rows' (record { used = w.used - k; length = w.length - k; gone = w.gone + 1 })
     unfolding sweep_listed
-    turn-next n k rows' h q t is made =
+    turn-next n k rows' h q is made =
         let f = g.fine in
         let u : w.used ≤ length rows = omega (arith, f.used, f.room) in
-        let few : k ≤ w.length = k-few from w rows f.rows u n.entry k rows' is made in
-        let l : length rows' ≡ length rows = length-turn from w rows f.rows u n.entry k rows' is made in
-        let e : soonest now (sweep_listed from w rows).list ≡ some n.entry = sym q ∙ ap (λ (b : Bool). whether◌then◌else◌ {A = Option Entry} b (some n.entry) none) t in
+        let few : k ≤ w.length = k-few from w rows f.rows u n k rows' is made in
+        let l : length rows' ≡ length rows = length-turn from w rows f.rows u n k rows' is made in
+        let e : soonest now (sweep_listed from w rows).list ≡ some n = sym q in
         record {
           same = l ∙ g.same;
           fine = record { rows = omega (arith, f.rows, few); used = omega (arith, f.used); room = omega (arith, l, f.room); gone = omega arith; few = f.few; clock = f.clock };
           shorter = record { length = omega (arith, g.shorter.length); tail = omega (arith, g.shorter.tail, few, f.rows); gone = omega arith };
-          past = past-turn from w rows f.rows u n.entry k rows' is made w₀.used (omega (arith, g.shorter.tail, g.shorter.length)) ∙ g.past;
-          strict = λ s. strict-turn from w rows f.rows u n.entry k rows' is made (g.strict s);
-          said = ap (swept most now) (listed-turn from w rows f.rows u n.entry k rows' is made) ∙ swept-turn most now (sweep_listed from w rows) n.entry h e ∙ g.said;
+          past = past-turn from w rows f.rows u n k rows' is made w₀.used (omega (arith, g.shorter.tail, g.shorter.length)) ∙ g.past;
+          strict = λ s. strict-turn from w rows f.rows u n k rows' is made (g.strict s);
+          said = ap (swept most now) (listed-turn from w rows f.rows u n k rows' is made) ∙ swept-turn most now (sweep_listed from w rows) n h e ∙ g.said;
         }
 
     -- nothing has expired
-    pub turn-none : (n : Next) → next_of n ≡ soonest now (map entry_of (slice from (from + w.length) rows)) → n.found ≡ false
+    pub turn-none : none ≡ soonest now (map entry_of (slice from (from + w.length) rows))
         → sweep_listed from w rows ≡ swept most now (sweep_listed from w₀ rows₀)
     unfolding sweep_listed
-    turn-none n q t =
-        let e : soonest now (sweep_listed from w rows).list ≡ none = sym q ∙ ap (λ (b : Bool). whether◌then◌else◌ {A = Option Entry} b (some n.entry) none) t in
+    turn-none q =
+        let e : soonest now (sweep_listed from w rows).list ≡ none = sym q in
         sym (swept_none most now (sweep_listed from w rows) e) ∙ g.said
 
     -- the budget is used up

@@ -7,7 +7,7 @@ use Rattle.definition.specs.Destination as Destination
 use Rattle.definition.specs.Destination.{Out, sweep_expired, clear}
 use Rattle.definition.specs.Layout.{Row}
 use Rattle.state.specs.declared.Head.{Head}
-use Rattle.state.specs.declared.Answer as State
+use Rattle.state.specs.Answers as State
 use Rattle.state.specs.State.{head_view, with_counters, with_reserved_count, with_waiting, with_used, touched, done_as}
 
 -- no row is in use
@@ -23,10 +23,10 @@ abbrev pub sweep_out : ℕ → ℕ → Dest → Out
 sweep_out now most t = record { dest = (sweep_expired now most t).dest; events = [] }
 
 -- the end of it: how many went, counted, and the idle mark
-abbrev pub sweep_finished : ℕ → ℕ → Head → State.Answer
+abbrev pub sweep_finished : ℕ → ℕ → Head → State.Replied
 sweep_finished gone now d = whether ltb 0 gone then done_as gone (touched now (with_counters (with_expired_by d.stats gone) d)) else done_as 0 d
 
 -- answered as the definition has it; refused with 2 where a test fails
-pub record SweepAnswers (test : Bool) (f : Dest → Destination.Answer) (d : Head) (subs rows : List Row) (r : State.Answer) : Type 0 where
+pub record SweepAnswers (test : Bool) (f : Dest → Destination.Answer) (d : Head) (subs rows : List Row) (r : State.Replied) : Type 0 where
   pub refusal : r.refusal ≡ (whether test then 0 else 2)
   pub answer : (producers : List Id) (audits : List Audit) → length producers ≡ d.producers → r.answer ≡ (whether test then (f (head_view d subs rows producers audits)).answer else 0)

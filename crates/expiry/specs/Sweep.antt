@@ -1,5 +1,6 @@
 -- The sweep of one list of rows, and of the consumers, and what the definition makes of them. Assumes nothing.
-use Rattle.std.specs.Prelude.{◌≡◌, ℕ, ◌+◌, ◌-◌, ◌≤◌, ◌^◌, Bool, true, List, map, length, take}
+use Rattle.std.specs.Prelude.{◌≡◌, ℕ, ◌+◌, ◌-◌, ◌≤◌, ◌^◌, Bool, true, List, map, length, take, Some, None}
+use Rattle.std.specs.Prelude as Std
 use Rattle.std.proofs.Math.Option.{Option, none, some}
 use Rattle.std.proofs.Math.Seq.{slice}
 use Rattle.entry.specs.Entry.{entry_of}
@@ -10,12 +11,12 @@ use Rattle.definition.specs.Layout.{Row, sub_rows, entry_strict}
 use Rattle.state.specs.declared.Head.{Head}
 use Rattle.state.specs.State.{head_view, with_used}
 use Rattle.state.specs.Leaves.{silent, Leaves}
-use Rattle.expiry.specs.declared.Next.{Next}
 use Rattle.expiry.specs.declared.Swept.{Swept}
 
 -- the entry that was found, if one was
-abbrev pub next_of : Next → Option Entry
-next_of n = whether n.found then some n.entry else none
+abbrev pub next_of : Std.Option Entry → Option Entry
+next_of (Some e) = some e
+next_of None = none
 
 -- the rows in use about a list, its entries, and how many went
 pub record Listed : Type 0 where

@@ -65,9 +65,8 @@ fn rings_ok(head: &[u64], n: u64) -> bool
     requires n_bound { n ≤ 8 }
     ensures { result ≡ rings_formed n (drop 113 head.now) }
 {
-    let mut left = n;
-    let mut from = 113;
-    while 0 < left {
+    for k in 0..n as usize {
+        let from = 113 + 1029 * k;
         let ring = Audit {
             start: head[from + 3] as usize,
             count: head[from + 4] as usize,
@@ -75,8 +74,6 @@ fn rings_ok(head: &[u64], n: u64) -> bool
         if !ring.sound() {
             return false;
         }
-        left -= 1;
-        from += 1029;
     }
     true
 }

@@ -21,7 +21,6 @@ use Rattle.definition.specs.Destination.{Spec, new_sub, count, joined}
 use Rattle.definition.specs.Layout.{Row, held_at, browser_at, tpending_at, each_sub, subs_at, sub_rows, entry_strict, sub_strict, subs_strict}
 use Rattle.definition.proofs.Tests.{if-true, if-false, and_both}
 use Rattle.definition.proofs.Lists.{all_append, all_end}
-use Rattle.consumers.specs.declared.Sub.{Sub}
 use Rattle.consumers.specs.Consumers.{sub_words, sub_view}
 use Rattle.consumers.specs.Table.{fitting}
 use Rattle.consumers.proofs.View.{sub-stored, subs-before, subs-around, rows_append, inflight-stored, held-stored}

@@ -1,6 +1,9 @@
 -- Whether a row gets into a snapshot, and whether a consumer may join, by the tests. Assumes nothing.
+use Rattle.std.specs.Prelude.{Some, None, Ok, Err}
+use Rattle.std.specs.Result.{is_err}
+use Rattle.std.specs.Prelude as Std
 use mathlib.Core.Path.{◌≡◌, refl, sym, ap, ap₂, ◌∙◌}
-use mathlib.Core.Bool.{Bool, true, false, not, ◌&&◌}
+use mathlib.Core.Bool.{Bool, true, false, not, ◌&&◌, true≢false}
 use mathlib.Core.List.{List, ◌++◌, map}
 use mathlib.Core.Option.{Option}
 use Prim.Native.Nat.{ℕ, ◌+◌, ◌-◌, ◌≤◌, ◌<◌}
@@ -11,6 +14,9 @@ use lib.IntN.{pos}
 use lib.ListN.{length, take, drop, length-append, length-map, length-drop}
 use lib.Seq.{slice, length-take-le, drop-drop}
 use Rattle.entry.specs.Entry.{entry_of, expired, selects}
+use Rattle.model.specs.declared.Refusal.{Refusal}
+use Rattle.state.specs.Answers.{refusal_of}
+use Rattle.state.proofs.Told.{numbered}
 use Rattle.definition.specs.Base.{whether◌then◌else◌, is_some, tally}
 use Rattle.definition.specs.Types.{Id, Audit, Entry, Held, Dest}
 use Rattle.definition.specs.Types as Def
@@ -20,8 +26,6 @@ use Rattle.definition.specs.Calls as Calls
 use Rattle.definition.specs.Layout.{Row, held_at, sub_rows}
 use Rattle.table.proofs.Lists.{slice-take}
 use Rattle.table.proofs.Segments.{tally-map}
-use Rattle.entry.specs.declared.Found.{Found}
-use Rattle.entry.specs.declared.Found.TheVariants.{At, Nothing}
 use Rattle.consumers.specs.Table.{position_from}
 use Rattle.definition.proofs.Stored.{subs-length}
 use Rattle.consumers.proofs.Seek.{found_at, found_none}
@@ -29,40 +33,39 @@ use Rattle.consumers.proofs.Laws.{consumer-rows}
 use Rattle.state.specs.declared.Head.{Head}
 use Rattle.state.specs.State.{head_view, kind_by, rows_free, first_waiting, due_by}
 use Rattle.joins.specs.declared.SubSpec.{SubSpec}
-use Rattle.joins.specs.Joins.{spec_of, gone_at, shown_by, snapped, snapshot_of, is_found, join_refusal}
+use Rattle.joins.specs.Joins.{spec_of, snapshot_of, is_found, join_refusal}
 
--- ---- a row and a snapshot
+-- ---- a refusal, and none
 
-module _ (now selector : ℕ) (w : Row) where
-  pub snapped-gone : gone_at now w ≡ true → snapped now selector w ≡ false
-  snapped-gone g = rw g
+module _ {T : Type 0} where
+  pub refused-number : (r : Std.Result T Refusal) → is_err r ≡ true → refusal_of r ≡ 0 → ⊥
+  refused-number (Ok x) h z = true≢false (sym h)
+  refused-number (Err r) h z = omega (arith, z, numbered r)
 
-  pub snapped-shown : gone_at now w ≡ false → shown_by selector w ≡ true → snapped now selector w ≡ true
-  snapped-shown g s = rw (g, s)
-
-  pub snapped-not : gone_at now w ≡ false → shown_by selector w ≡ false → snapped now selector w ≡ false
-  snapped-not g s = rw (g, s)
+  pub accepted-number : (r : Std.Result T Refusal) → is_err r ≡ false → refusal_of r ≡ 0
+  accepted-number (Ok x) h = refl
+  accepted-number (Err r) h = absurd (true≢false h)
 
 -- ---- the refusal, test by test
 
-module _ (p : SubSpec) (subs : List Row) (d : Head) (k : ℕ) (f : Found) (e : f ≡ position_from 0 (spec_of p).id (take d.consumers subs)) where
-  pub refusal-present : (i : ℕ) → f ≡ At i → 6 ≡ join_refusal p subs d k
+module _ (p : SubSpec) (subs : List Row) (d : Head) (k : ℕ) (f : Std.Option ℕ) (e : f ≡ position_from 0 (spec_of p).id (take d.consumers subs)) where
+  pub refusal-present : (i : ℕ) → f ≡ Some i → 6 ≡ join_refusal p subs d k
   refusal-present i q = rw (sym e ∙ q)
 
-  pub refusal-full : f ≡ Nothing → 32 ≤ d.consumers → 7 ≡ join_refusal p subs d k
+  pub refusal-full : f ≡ None → 32 ≤ d.consumers → 7 ≡ join_refusal p subs d k
   refusal-full q n = rw (sym e ∙ q, le-leb 32 d.consumers n)
 
-  pub refusal-rows : f ≡ Nothing → d.consumers < 32 → rows_free d < k → 5 ≡ join_refusal p subs d k
+  pub refusal-rows : f ≡ None → d.consumers < 32 → rows_free d < k → 5 ≡ join_refusal p subs d k
   refusal-rows q n h = rw (sym e ∙ q, lt-leb 32 d.consumers n, lt-ltb (rows_free d) k h)
 
-  pub refusal-none : f ≡ Nothing → d.consumers < 32 → k ≤ rows_free d → 0 ≡ join_refusal p subs d k
+  pub refusal-none : f ≡ None → d.consumers < 32 → k ≤ rows_free d → 0 ≡ join_refusal p subs d k
   refusal-none q n h = rw (sym e ∙ q, lt-leb 32 d.consumers n, le-ltb (rows_free d) k h)
 
 -- ---- the numbers as the definition has them of the view
 
-is_found_lem : (o : Option Def.Sub) (f : Found) → ((i : ℕ) → f ≡ At i → is_some o ≡ true) → (f ≡ Nothing → is_some o ≡ false) → is_some o ≡ is_found f
-is_found_lem o (At i) g h = g i refl
-is_found_lem o Nothing g h = h refl
+is_found_lem : (o : Option Def.Sub) (f : Std.Option ℕ) → ((i : ℕ) → f ≡ Some i → is_some o ≡ true) → (f ≡ None → is_some o ≡ false) → is_some o ≡ is_found f
+is_found_lem o (Some i) g h = g i refl
+is_found_lem o None g h = h refl
 
 module _ (d : Head) (subs rows : List Row) (ps : List Id) (qs : List Audit) (n : d.consumers ≤ length subs)
     (u : sub_rows (take d.consumers subs) + (d.reserved + d.waiting) ≡ d.used) (b : d.used ≤ length rows) where

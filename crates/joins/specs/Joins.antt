@@ -1,5 +1,5 @@
 -- A consumer that joins: what is asked for, whether it may join, and what the numbers and the rows are after it. Assumes nothing.
-use Rattle.std.specs.Prelude.{◌≡◌, Bool, true, false, not, ◌&&◌, ◌||◌, List, [], ◌∷◌, ◌++◌, ℕ, ◌+◌, ◌-◌, ◌≤◌, ◌^◌, eqb, leb, ltb, pos, length, take, drop}
+use Rattle.std.specs.Prelude.{◌≡◌, Bool, true, false, not, ◌&&◌, ◌||◌, List, [], ◌∷◌, ◌++◌, ℕ, ◌+◌, ◌-◌, ◌≤◌, ◌^◌, eqb, leb, ltb, pos, length, take, drop, Option, Some, None}
 use Rattle.std.proofs.Math.Seq.{slice}
 use Rattle.stats.specs.Counted.{with_expired_by}
 use Rattle.entry.specs.Entry.{expired, selects, entry_of}
@@ -11,8 +11,6 @@ use Rattle.definition.specs.Calls.{joining, own_refusal, snapshot_rows}
 use Rattle.definition.specs.Layout.{Row}
 use Rattle.table.specs.Table.{open_gap, compacted}
 use Rattle.consumers.specs.declared.Sub.{Sub}
-use Rattle.entry.specs.declared.Found.{Found}
-use Rattle.entry.specs.declared.Found.TheVariants.{At, Nothing}
 use Rattle.consumers.specs.Table.{position_from}
 use Rattle.state.specs.declared.Head.{Head}
 use Rattle.state.specs.State.{head_view, with_counters, with_used, with_waiting, with_consumers, not_idle, first_waiting, first_reserved, rows_free}
@@ -51,9 +49,9 @@ copied_from at from to selector rs = take at rs ++ (keep (shown_by selector) (sl
 
 -- ---- whether it may join
 
-abbrev pub is_found : Found → Bool
-is_found (At i) = true
-is_found Nothing = false
+abbrev pub is_found : Option ℕ → Bool
+is_found (Some i) = true
+is_found None = false
 
 -- the refusal, with so many rows for its snapshot
 abbrev pub join_refusal : SubSpec → List Row → Head → ℕ → ℕ

@@ -7,16 +7,17 @@ ghost use Rattle.definition.specs.Base.{tally};
 ghost use Rattle.definition.specs.Destination.{joined};
 ghost use Rattle.table.specs.Table.{compacted};
 ghost use Rattle.consumers.specs.Consumers.{sub_words};
+ghost use Rattle.state.specs.Answers.{refusal_of};
 ghost use Rattle.state.specs.Fits.{fits};
 ghost use Rattle.state.specs.Leaves.{silent, LeavesIf};
 ghost use Rattle.joins.specs.Joins.{spec_of, new_of, gone_at, shown_by, snapped, snapshot_of, copied_from, join_refusal, Refused, joins_when, browsed_head, browsed_rows, joined_head, joined_rows, Browses};
 
 use consumers::{Sub, SubRow};
-use entry::{Found, Row};
-use model::Id;
+use entry::Row;
+use model::{Id, Refusal};
 use state::{Event, Head};
 
-// What a consumer asks for. The identifier is kept as its three words.
+// What a consumer asks for. The identifier is kept as its three words, as a consumer's row has them.
 #[derive(Clone, Copy)]
 pub struct SubSpec {
     pub conn: u64,
@@ -49,20 +50,10 @@ fn count_snapped(rows: &[Row], from: usize, to: usize, selector: u64, by: u64) -
     requires { (from ≤ to) × (to ≤ length rows.now) × (by ≤ 2 ^ 62) }
     ensures { result ≡ tally (snapped by selector) (slice from to rows.now) }
 {
-    let mut count = 0;
-    let mut i = from;
-    while i < to {
-        let row = rows[i];
-        if is_gone(row, by) {
-            i += 1;
-        } else if is_shown(row, selector) {
-            count += 1;
-            i += 1;
-        } else {
-            i += 1;
-        }
-    }
-    count
+    rows[from..to]
+        .iter()
+        .filter(|row| !is_gone(**row, by) && is_shown(**row, selector))
+        .count()
 }
 
 // How many rows its snapshot gets.
@@ -82,19 +73,7 @@ fn purge(rows: &mut [Row], from: usize, to: usize, by: u64) -> usize
     ensures value { result ≡ tally (gone_at by) (slice from to rows.old) }
     ensures rows_after { rows.new ≡ compacted (gone_at by) from to rows.old }
 {
-    let mut gone = 0;
-    let mut i = from;
-    while i < to {
-        let row = rows[i];
-        if is_gone(row, by) {
-            gone += 1;
-            i += 1;
-        } else {
-            rows[i - gone] = row;
-            i += 1;
-        }
-    }
-    gone
+    table::remove_expired(rows, from, to, to, by)
 }
 
 // Copies of the rows of from..to that a selector takes stand from a place on.
@@ -103,15 +82,11 @@ fn copy_shown(rows: &mut [Row], from: usize, to: usize, at: usize, selector: u64
     ensures { rows.new ≡ copied_from at from to selector rows.old }
 {
     let mut j = at;
-    let mut i = from;
-    while i < to {
+    for i in from..to {
         let row = rows[i];
         if is_shown(row, selector) {
             rows[j] = row;
             j += 1;
-            i += 1;
-        } else {
-            i += 1;
         }
     }
 }
@@ -179,36 +154,42 @@ fn admit(
     }
 }
 
-// The refusal, with so many rows for its snapshot: 6, 7, 5, or 0 for none.
-fn refusal_of(subs: &[SubRow], d: Head, spec: SubSpec, k: usize) -> u64
-    ensures { result ≡ join_refusal spec subs.now d k }
+// Whether a consumer may join with so many rows for its snapshot.
+fn refusal_of(subs: &[SubRow], d: Head, spec: SubSpec, k: usize) -> Result<(), Refusal>
+    ensures { refusal_of result ≡ join_refusal spec subs.now d k }
 {
     let id = Id::of_words(spec.conn, spec.session, spec.value);
     match consumers::position(subs, d.consumers, id) {
-        Found::At(_) => 6,
-        Found::Nothing => {
+        Some(_) => Err(Refusal::ConsumerHere),
+        None => {
             if state::CONSUMERS <= d.consumers {
-                return 7;
+                return Err(Refusal::ConsumersFull);
             }
             if d.free_rows() < k {
-                return 5;
+                return Err(Refusal::RowsFull);
             }
-            0
+            Ok(())
         }
     }
 }
 
-// Why a consumer may not join: 6 for a present one, 7 where 32 are present, 5 for too few free rows, 0 where it may. 2 where the
-// numbers do not fit the tables or the clock is above 2^62.
-pub fn refusal(subs: &[SubRow], rows: &[Row], d: Head, spec: SubSpec, clock: u64) -> u64
-    ensures { Refused (fits subs.now d (length rows.now) 545 && leb clock (2 ^ 62)) clock spec d subs.now rows.now result }
+// Whether a consumer may join: refused where it is there, where 32 are there, and for too few free rows. Where the numbers do not fit
+// the tables, or the clock is above 2^62, not sound.
+pub fn refusal(
+    subs: &[SubRow],
+    rows: &[Row],
+    d: Head,
+    spec: SubSpec,
+    clock: u64,
+) -> Result<(), Refusal>
+    ensures { Refused (fits subs.now d (length rows.now) 545 && leb clock (2 ^ 62)) clock spec d subs.now rows.now (refusal_of result) }
 {
     let by = d.due(clock);
     if entry::CLOCK_MOST < clock {
-        return 2;
+        return Err(Refusal::NotSound);
     }
     if !state::fits(subs, d, rows.len(), state::EVENTS) {
-        return 2;
+        return Err(Refusal::NotSound);
     }
     let k = snapshot_rows(rows, d, spec, by);
     refusal_of(subs, d, spec, k)
@@ -234,7 +215,7 @@ pub fn join(
         return d;
     }
     let k = snapshot_rows(rows, d, spec, by);
-    if refusal_of(subs, d, spec, k) != 0 {
+    if refusal_of(subs, d, spec, k).is_err() {
         return d;
     }
     if !(d.queue | (d.waiting == 0)) {

@@ -3,7 +3,8 @@
 
 ghost use Rattle.std.specs.Prelude.{◌≡◌, length};
 
-use program::Input;
+use program::{Input, Source};
+use reading::How;
 
 // ---- reading
 
@@ -28,21 +29,20 @@ fn say_verdict(rt: HostRuntime, buf: &[u8], n: usize) {
 fn check_text(rt: HostRuntime, from: &mut Input) {
     let mut buf = buffer();
     let g = program::read(rt, b"layoutcheck", from, &mut buf, 0);
-    if g.how == reading::FAILED {
-        return;
+    match g.how {
+        How::Full => {
+            program::message(rt, b"layoutcheck", b"a text of 1048576 bytes or more\n");
+        }
+        How::End | How::Again => say_verdict(rt, &buf, g.n),
+        How::Failed => {}
     }
-    if g.how == reading::FULL {
-        program::message(rt, b"layoutcheck", b"a text of 1048576 bytes or more\n");
-        return;
-    }
-    say_verdict(rt, &buf, g.n);
 }
 
 // ---- the argument
 
 fn main(rt: HostRuntime) {
-    let mut s = program::open_argument(rt, b"layoutcheck", b"usage: layoutcheck [FILE]\n");
-    if s.how == program::OPENED {
-        check_text(rt, &mut s.input);
+    let source = program::open_argument(rt, b"layoutcheck", b"usage: layoutcheck [FILE]\n");
+    if let Source::Opened(mut input) = source {
+        check_text(rt, &mut input);
     }
 }

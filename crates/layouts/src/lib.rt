@@ -19,6 +19,7 @@ const LAST_LAYOUT: u64 = 65535;
 const LAST_SELECTOR: u64 = 63;
 
 // The refusal (0 none, 3 out of range, 12 a gap, 13 an overlap) and the answer: beside 12 and 13 the layout found.
+// Not a Result: the struct is C's, and `checked` and `looked_up` tell of both fields.
 #[repr(C)]
 #[derive(Clone, Copy)]
 pub struct Checked {
@@ -31,29 +32,15 @@ pub struct Checked {
 fn row_in_range(row: LayoutRow) -> bool
     ensures { result ≡ row_in_range row }
 {
-    let first = row[0];
-    let last = row[1];
-    let selector = row[2];
-    if LAST_LAYOUT < first {
-        return false;
-    }
-    if LAST_LAYOUT < last {
-        return false;
-    }
-    if LAST_SELECTOR < selector {
-        return false;
-    }
-    first <= last
+    let [first, last, selector] = row;
+    first <= LAST_LAYOUT && last <= LAST_LAYOUT && selector <= LAST_SELECTOR && first <= last
 }
 
 // Whether a row covers a layout, both ends included.
 pub fn covers(row: LayoutRow, layout: u64) -> bool
     ensures { result ≡ covers row layout }
 {
-    if layout < row[0] {
-        return false;
-    }
-    layout <= row[1]
+    row[0] <= layout && layout <= row[1]
 }
 
 // The layout after the row's, where the row covers this one.
@@ -61,10 +48,7 @@ fn past(row: LayoutRow, at: u64) -> u64
     requires { row_in_range row ≡ true }
     ensures { result ≡ past row at }
 {
-    if covers(row, at) {
-        return row[1] + 1;
-    }
-    at
+    if covers(row, at) { row[1] + 1 } else { at }
 }
 
 fn size(row: LayoutRow) -> u64
@@ -80,9 +64,10 @@ fn next(row: LayoutRow) -> u16
     ensures { result ≡ next row }
 {
     if row[1] < LAST_LAYOUT {
-        return (row[1] + 1) as u16;
+        (row[1] + 1) as u16
+    } else {
+        0
     }
-    0
 }
 
 fn start(row: LayoutRow) -> u16
@@ -101,11 +86,8 @@ fn column(table: &[LayoutRow], k: usize, padding: u16) -> [u16; 64]
     ensures { result ≡ column table.now k padding }
 {
     let mut out = [padding; 64];
-    let mut i = 0;
-    while i < table.len() {
-        let row = table[i];
+    for (i, row) in table.iter().enumerate() {
         out[i] = row[k] as u16;
-        i += 1;
     }
     out
 }
@@ -113,10 +95,7 @@ fn column(table: &[LayoutRow], k: usize, padding: u16) -> [u16; 64]
 fn lane(first: u16, last: u16, layout: u16) -> bool
     ensures { result ≡ lane first last layout }
 {
-    if layout < first {
-        return false;
-    }
-    layout <= last
+    first <= layout && layout <= last
 }
 
 fn lane_count(firsts: &[u16; 64], lasts: &[u16; 64], layout: u16) -> u16
@@ -125,10 +104,9 @@ fn lane_count(firsts: &[u16; 64], lasts: &[u16; 64], layout: u16) -> u16
     ensures { result ≡ lane_count firsts.now lasts.now layout }
 {
     let mut count: u16 = 0;
-    let mut i = 0;
-    while i < 64 {
+    // An index: two columns side by side, added up lane by lane.
+    for i in 0..64 {
         count += lane(firsts[i], lasts[i], layout) as u16;
-        i += 1;
     }
     count
 }
@@ -138,13 +116,7 @@ fn lower(found: bool, layout: u16, lowest: u64) -> u64
     ensures { result ≡ lower found layout lowest }
 {
     let at = layout as u64;
-    if lowest <= at {
-        return lowest;
-    }
-    if found {
-        return at;
-    }
-    lowest
+    if at < lowest && found { at } else { lowest }
 }
 
 // ---- a table
@@ -152,17 +124,7 @@ fn lower(found: bool, layout: u16, lowest: u64) -> u64
 fn in_range(table: &[LayoutRow]) -> bool
     ensures { result ≡ table_in_range table.now }
 {
-    if ROWS < table.len() {
-        return false;
-    }
-    let mut i = 0;
-    while i < table.len() {
-        if !row_in_range(table[i]) {
-            return false;
-        }
-        i += 1;
-    }
-    true
+    table.len() <= ROWS && table.iter().all(|row| row_in_range(*row))
 }
 
 // Once through the table, each row that covers the layout reached taking it past its last.
@@ -171,16 +133,15 @@ fn walk(table: &[LayoutRow], at: u64) -> u64
     ensures { result ≡ walk at table.now }
 {
     let mut reached = at;
-    let mut i = 0;
-    while i < table.len() {
-        reached = past(table[i], reached);
-        i += 1;
+    for row in table {
+        reached = past(*row, reached);
     }
     reached
 }
 
-// The lowest layout that no row covers; 65,536 for none. It is 0, or the one after a row's last. Where the rows stand by rising
-// layouts, one walk shows that there is none.
+// The lowest layout that no row covers. It is 0, or the one after a row's last. Where the rows stand by rising layouts, one walk
+// shows that there is none.
+// 65,536 for none, as `lowest_gap` and `lowest_overlap` have it: an Option is no plainer, since the least so far starts there.
 fn gap(table: &[LayoutRow]) -> u64
     requires { table_in_range table.now ≡ true }
     ensures { result ≡ lowest_gap table.now }
@@ -191,11 +152,9 @@ fn gap(table: &[LayoutRow]) -> u64
     let firsts = column(table, 0, 1);
     let lasts = column(table, 1, 0);
     let mut lowest = lower(lane_count(&firsts, &lasts, 0) == 0, 0, LAYOUTS);
-    let mut i = 0;
-    while i < table.len() {
-        let at = next(table[i]);
+    for row in table {
+        let at = next(*row);
         lowest = lower(lane_count(&firsts, &lasts, at) == 0, at, lowest);
-        i += 1;
     }
     lowest
 }
@@ -206,10 +165,8 @@ fn sizes(table: &[LayoutRow]) -> u64
     ensures { result ≡ sizes table.now }
 {
     let mut sum = 0;
-    let mut i = 0;
-    while i < table.len() {
-        sum += size(table[i]);
-        i += 1;
+    for row in table {
+        sum += size(*row);
     }
     sum
 }
@@ -222,11 +179,9 @@ fn overlap(table: &[LayoutRow]) -> u64
     let firsts = column(table, 0, 1);
     let lasts = column(table, 1, 0);
     let mut lowest = LAYOUTS;
-    let mut i = 0;
-    while i < table.len() {
-        let at = start(table[i]);
+    for row in table {
+        let at = start(*row);
         lowest = lower(1 < lane_count(&firsts, &lasts, at), at, lowest);
-        i += 1;
     }
     lowest
 }
@@ -235,13 +190,10 @@ fn overlap(table: &[LayoutRow]) -> u64
 fn selector_at(table: &[LayoutRow], layout: u64) -> u64
     ensures { result ≡ selector_at table.now layout }
 {
-    let mut i = 0;
-    while i < table.len() {
-        let row = table[i];
-        if covers(row, layout) {
+    for row in table {
+        if covers(*row, layout) {
             return row[2];
         }
-        i += 1;
     }
     0
 }

@@ -1,33 +1,31 @@
 -- The rows that cover a layout. Assumes nothing.
+use Rattle.std.proofs.Common.{Option, MatchOption, unwrap_or}
+use Rattle.std.specs.List.{AllWithin, HoldsAt}
+use Rattle.std.proofs.lemmas.Iterator.{index_from_first}
 use Prim.Native.Nat.{ℕ, suc, ◌+◌, ◌≤◌, ◌<◌}
 use native.Mathlib.Nat.{zero-add}
 use native.Mathlib.Numerals.{add-one}
 use native.Mathlib.Omega.{arith}
-use mathlib.Core.Path.{◌≡◌, ap, ◌∙◌}
+use mathlib.Core.Path.{◌≡◌, refl, ap, ◌∙◌}
 use mathlib.Core.Bool.{true, false}
 use mathlib.Core.List.{List, [], ◌∷◌}
 use lib.ListN.{length, get_or, drop, length-drop, drop_of_length-le}
 use lib.Seq.{get_or-drop}
 use Rattle.words.proofs.Tests.{by-test}
 use Rattle.layouts.specs.Layouts.{covers, cover_count}
-use Rattle.layouts.proofs.Rows.{rows_next}
 use Rattle.layouttext.specs.Verdict.{cover_at, next_cover}
 use Rattle.layouttext.specs.Claims.{Two}
 
 -- ---- a place after another
 
-module _ (l : ℕ) (t : List (List ℕ)) (i : ℕ) where
-  pub cover-here : i < length t → covers (get_or t i []) l ≡ true → cover_at l (drop i t) ≡ 0
-  unfolding cover_at
-  cover-here h e = rw (rows_next t i h, e)
+pub cover-end : (l : ℕ) (t : List (List ℕ)) (i : ℕ) → length t ≤ i → cover_at l (drop i t) ≡ 0
+unfolding cover_at
+cover-end l t i h = rw (drop_of_length-le t h)
 
-  pub cover-later : i < length t → covers (get_or t i []) l ≡ false → cover_at l (drop i t) ≡ suc (cover_at l (drop (i + 1) t))
-  unfolding cover_at
-  cover-later h e = rw (rows_next t i h, e)
-
-  pub cover-end : length t ≤ i → cover_at l (drop i t) ≡ 0
-  unfolding cover_at
-  cover-end h = rw (drop_of_length-le t h)
+-- where the first row is that covers a layout
+pub cover-position : (l : ℕ) (t : List (List ℕ)) (r : Option ℕ) → MatchOption r (AllWithin (λ (row : List ℕ). covers row l ≡ false) t 0 (length t)) (λ (i : ℕ). (i < length t) × HoldsAt (λ (row : List ℕ). covers row l ≡ true) t i × AllWithin (λ (row : List ℕ). covers row l ≡ false) t 0 i) → cover_at l t ≡ unwrap_or r (length t)
+unfolding cover_at
+cover-position l t r h = index_from_first (cover_at l) (λ (row : List ℕ). covers row l ≡ true) (λ (row : List ℕ). covers row l ≡ false) refl (λ x xs e. rw e) (λ x xs e. rw (e, add-one (cover_at l xs))) t r h
 
 -- ---- two rows
 

@@ -1,10 +1,13 @@
 -- The words of a line, and the lines of a text, one by one. Assumes nothing.
+use Rattle.std.proofs.Common.{Option, Some, None}
+use Rattle.std.specs.Prelude.{Ok, Err}
 use Prim.Native.Nat.{ℕ, ◌+◌, ◌-◌, ◌≤◌, ◌<◌}
 use native.Mathlib.Omega.{arith}
 use mathlib.Core.Path.{◌≡◌, refl, ap, sym, ◌∙◌}
+use mathlib.Core.Bool.{true, false, true≢false}
 use mathlib.Core.List.{List, [], ◌∷◌, ◌++◌}
-use borrow.Author.Tests.{eq-eqb, ne_eqb, eqb-true, eqb-false, lt-ltb, le-ltb, ltb-true, ltb-false}
-use lib.Dec.{eqb, ltb}
+use borrow.Author.Tests.{eq-eqb, ne_eqb, lt-ltb, le-ltb, ltb-true, ltb-false}
+use lib.Dec.{ltb}
 use lib.ListN.{length, take, drop, set, replicate, length-set}
 use lib.Seq.{length-take-le}
 use Rattle.words.proofs.Tests.{by-test}
@@ -12,39 +15,39 @@ use Rattle.words.proofs.Lists.{set_next}
 use Rattle.stats.specs.Counted.{more}
 use Rattle.textwords.specs.declared.Stop.TheVariants.{Remark}
 use Rattle.textwords.specs.Text.{run, words_of}
-use Rattle.textwords.specs.declared.Number.TheVariants.{Of, Bad}
 use Rattle.textwords.specs.Numbers.{number_of}
 use Rattle.calltext.proofs.Gathering.{remark-part}
 use Rattle.texting.specs.Lines.{lines_of}
 use Rattle.texting.proofs.Taking.{Taken, lines_end}
-use Rattle.layouttext.specs.declared.Parsed.{Parsed}
-use Rattle.layouttext.specs.Rows.{parsed_row, without_row, gather_row, line_row, row_fault, line_kind, Reading, row_reading, read_from, Reads, RowKept}
+use Rattle.layouttext.specs.declared.Fault.{Fault}
+use Rattle.layouttext.specs.declared.Fault.TheVariants.{NotARow, ManyRows}
+use Rattle.layouttext.specs.Rows.{ParsedRow, on_line, judged_row, gather_row, line_row, row_fault, line_kind, Reading, row_reading, read_from, Reads, RowKept}
 
 -- ---- words
 
 module _ (n : ℕ) (row : List ℕ) where
-  pub words_row : n ≡ 3 → gather_row n row [] ≡ parsed_row 0 row
+  pub words_row : n ≡ 3 → gather_row n row [] ≡ Ok (Some row)
   unfolding gather_row
   words_row e = rw (eq-eqb n 3 e)
 
-  pub words-none : (n ≡ 3 → ⊥) → n ≡ 0 → gather_row n row [] ≡ without_row 1
+  pub words-none : (n ≡ 3 → ⊥) → n ≡ 0 → gather_row n row [] ≡ Ok None
   unfolding gather_row
   words-none h e = rw (ne_eqb n 3 h, eq-eqb n 0 e)
 
-  pub words-few : (n ≡ 3 → ⊥) → (n ≡ 0 → ⊥) → gather_row n row [] ≡ without_row 2
+  pub words-few : (n ≡ 3 → ⊥) → (n ≡ 0 → ⊥) → gather_row n row [] ≡ Err NotARow
   unfolding gather_row
   words-few h e = rw (ne_eqb n 3 h, ne_eqb n 0 e)
 
   module _ (w : List ℕ) (ws : List (List ℕ)) where
-    pub too_many : n ≡ 3 → gather_row n row (w ∷ ws) ≡ without_row 2
+    pub too_many : n ≡ 3 → gather_row n row (w ∷ ws) ≡ Err NotARow
     unfolding gather_row
     too_many e = rw (eq-eqb n 3 e)
 
-    pub no_number : (n ≡ 3 → ⊥) → number_of w ≡ Bad → gather_row n row (w ∷ ws) ≡ without_row 2
+    pub no_number : (n ≡ 3 → ⊥) → number_of w ≡ None → gather_row n row (w ∷ ws) ≡ Err NotARow
     unfolding gather_row
     no_number h e = rw (ne_eqb n 3 h, e)
 
-    pub one_number : (n ≡ 3 → ⊥) → (v : ℕ) → number_of w ≡ Of v → gather_row n row (w ∷ ws) ≡ gather_row (n + 1) (set row n v) ws
+    pub one_number : (n ≡ 3 → ⊥) → (v : ℕ) → number_of w ≡ Some v → gather_row n row (w ∷ ws) ≡ gather_row (n + 1) (set row n v) ws
     unfolding gather_row
     one_number h v e = rw (ne_eqb n 3 h, e)
 
@@ -54,51 +57,53 @@ parsed-part l e h = ap (λ (t : List ℕ). gather_row 0 (replicate 3 0) (words_o
 
 -- ---- kinds
 
-module _ (count : ℕ) (p : Parsed) where
-  pub kind-other : 0 < p.kind → line_kind count p ≡ p.kind
+module _ (count : ℕ) (row : List ℕ) where
+  pub kind-many : 63 < count → line_kind count (Ok (Some row)) ≡ Err ManyRows
   unfolding line_kind
-  kind-other h = rw (lt-ltb 0 p.kind h)
+  kind-many k = rw (lt-ltb 63 count k)
 
-  pub kind-many : p.kind ≤ 0 → 63 < count → line_kind count p ≡ 7
+  pub kind_row : count ≤ 63 → line_kind count (Ok (Some row)) ≡ judged_row row (row_fault row)
   unfolding line_kind
-  kind-many h k = rw (le-ltb 0 p.kind h, lt-ltb 63 count k)
+  kind_row k = rw (le-ltb 63 count k)
 
-  pub kind_row : p.kind ≤ 0 → count ≤ 63 → line_kind count p ≡ row_fault p.row
-  unfolding line_kind
-  kind_row h k = rw (le-ltb 0 p.kind h, le-ltb 63 count k)
+is-row : (p : ParsedRow) {row : List ℕ} → p ≡ Ok (Some row) → on_line p (λ r. true) false (λ g. false) ≡ true
+is-row p e = ap (λ (q : ParsedRow). on_line q (λ r. true) false (λ g. false)) e
 
-  -- a row that is taken is one of 64, and nothing is wrong with it
-  pub row-few : line_kind count p ≡ 0 → count < 64
-  row-few e = by-test (ltb 0 p.kind)
-      (λ t. let h = ltb-true 0 p.kind t in absurd (omega (arith, kind-other h)))
-      (λ t. let h = ltb-false 0 p.kind t in by-test (ltb 63 count)
-      (λ u. let k = ltb-true 63 count u in absurd (omega (arith, kind-many h k)))
-      (λ u. let k = ltb-false 63 count u in omega arith))
+judged-right : {r row : List ℕ} (o : Option Fault) → judged_row r o ≡ Ok (Some row) → (o ≡ None) × (r ≡ row)
+judged-right {r} None e = (refl, ap (λ (q : ParsedRow). on_line q (λ x. x) [] (λ g. [])) e)
+judged-right (Some f) e = absurd (true≢false (sym (is-row (Err f) e)))
 
-  pub row-right : line_kind count p ≡ 0 → row_fault p.row ≡ 0
-  row-right e = by-test (ltb 0 p.kind)
-      (λ t. let h = ltb-true 0 p.kind t in absurd (omega (arith, kind-other h)))
-      (λ t. let h = ltb-false 0 p.kind t in sym (kind_row h (let k = row-few e in omega arith)) ∙ e)
+-- a row that is taken is one of 64, and nothing is wrong with it
+pub row-taken : (count : ℕ) (p : ParsedRow) {row : List ℕ} → line_kind count p ≡ Ok (Some row) → (count < 64) × (row_fault row ≡ None)
+unfolding line_kind
+row-taken count (Ok (Some r)) {row} e = by-test (ltb 63 count)
+    (λ u. absurd (true≢false (sym (is-row (Err ManyRows) (sym (kind-many count r (ltb-true 63 count u)) ∙ e)))))
+    (λ u.
+    let k = ltb-false 63 count u in
+    let j = judged-right (row_fault r) (sym (kind_row count r k) ∙ e) in
+    (omega arith, ap row_fault (sym j.1) ∙ j.0))
+row-taken count (Ok None) e = absurd (true≢false (sym (is-row (Ok None) e)))
+row-taken count (Err f) e = absurd (true≢false (sym (is-row (Err f) e)))
 
 -- ---- lines
 
 module _ (rows : List (List ℕ)) (lines : List ℕ) (n : ℕ) where
-  pub read_none : read_from rows lines n [] ≡ row_reading rows lines 0 n
+  pub read_none : read_from rows lines n [] ≡ row_reading rows lines None n
   unfolding read_from
   read_none = refl
 
-  module _ (l : List ℕ) (ls : List (List ℕ)) (kind : ℕ) (q : kind ≡ line_kind (length rows) (line_row l)) where
-    pub read-fault : 1 < kind → read_from rows lines n (l ∷ ls) ≡ row_reading rows lines kind n
+  module _ (l : List ℕ) (ls : List (List ℕ)) where
+    pub read-fault : (f : Fault) → line_kind (length rows) (line_row l) ≡ Err f → read_from rows lines n (l ∷ ls) ≡ row_reading rows lines (Some f) n
     unfolding read_from
-    read-fault h = let f : kind ≡ 0 → ⊥ = λ z. omega arith in let g : kind ≡ 1 → ⊥ = λ z. omega arith in rw (sym q, ne_eqb kind 0 f, ne_eqb kind 1 g)
+    read-fault f q = rw q
 
-    pub read-row : kind ≡ 0 → read_from rows lines n (l ∷ ls) ≡ read_from (rows ++ ((line_row l).row ∷ [])) (lines ++ (n ∷ [])) (more n) ls
+    pub read-row : (row : List ℕ) → line_kind (length rows) (line_row l) ≡ Ok (Some row) → read_from rows lines n (l ∷ ls) ≡ read_from (rows ++ (row ∷ [])) (lines ++ (n ∷ [])) (more n) ls
     unfolding read_from
-    read-row h = rw (sym q, eq-eqb kind 0 h)
+    read-row row q = rw q
 
-    pub read-empty : kind ≡ 1 → read_from rows lines n (l ∷ ls) ≡ read_from rows lines (more n) ls
+    pub read-empty : line_kind (length rows) (line_row l) ≡ Ok None → read_from rows lines n (l ∷ ls) ≡ read_from rows lines (more n) ls
     unfolding read_from
-    read-empty h = let f : kind ≡ 0 → ⊥ = λ z. omega arith in rw (sym q, ne_eqb kind 0 f, eq-eqb kind 1 h)
+    read-empty q = rw q
 
 -- ---- at a place in a text, with the rows so far at the front of the buffers
 
@@ -106,7 +111,7 @@ module _ (rows : List (List ℕ)) (lines : List ℕ) (count n at : ℕ) (t : Lis
   pub state : Reading
   state = read_from (take count rows) (take count lines) n (lines_of (drop at t))
 
-  pub state-none : length t ≤ at → state ≡ row_reading (take count rows) (take count lines) 0 n
+  pub state-none : length t ≤ at → state ≡ row_reading (take count rows) (take count lines) None n
   unfolding state
   state-none h = ap (read_from (take count rows) (take count lines) n) (lines_end t at h) ∙ read_none (take count rows) (take count lines) n
 
@@ -115,88 +120,65 @@ pub state-start : (rows : List (List ℕ)) (lines t : List ℕ) → state rows l
 unfolding state
 state-start rows lines t = refl
 
-module _ (count n kind : ℕ) (row : List ℕ) (rows : List (List ℕ)) (lines : List ℕ) where
-  pub kept_row : kind ≡ 0 → RowKept count n kind row rows lines (count + 1) (set rows count row) (set lines count n)
-  kept_row e = let t = eq-eqb kind 0 e in record { next = rw t; rows = rw t; lines = rw t }
+-- what a buffer has after a line was kept
+module _ {count n r : ℕ} {rows rows' : List (List ℕ)} {lines lines' : List ℕ} where
+  pub kept-lengths : (p : ParsedRow) → RowKept count n p rows lines r rows' lines' → (length rows' ≡ length rows) × (length lines' ≡ length lines)
+  kept-lengths (Ok (Some row)) k = (ap length k.rows ∙ length-set rows count row, ap length k.lines ∙ length-set lines count n)
+  kept-lengths (Ok None) k = (ap length k.rows, ap length k.lines)
+  kept-lengths (Err f) k = (ap length k.rows, ap length k.lines)
 
-  pub kept-none : (kind ≡ 0 → ⊥) → RowKept count n kind row rows lines count rows lines
-  kept-none e = let t = ne_eqb kind 0 e in record { next = rw t; rows = rw t; lines = rw t }
-
--- what a buffer has after a row was kept
-module _ {count n kind r : ℕ} {row : List ℕ} {rows rows' : List (List ℕ)} {lines lines' : List ℕ} (k : RowKept count n kind row rows lines r rows' lines') where
-  pub kept-lengths : (length rows' ≡ length rows) × (length lines' ≡ length lines)
-  kept-lengths = by-test (eqb kind 0)
-      (λ t.
-      let e : rows' ≡ set rows count row = rw t at k.rows in
-      let f : lines' ≡ set lines count n = rw t at k.lines in
-      (ap length e ∙ length-set rows count row, ap length f ∙ length-set lines count n))
-      (λ t.
-      let e : rows' ≡ rows = rw t at k.rows in
-      let f : lines' ≡ lines = rw t at k.lines in
-      (ap length e, ap length f))
-
-  pub kept-few : count ≤ 64 → (kind ≡ 0 → count < 64) → r ≤ 64
-  kept-few h f = by-test (eqb kind 0)
-      (λ t. let e : r ≡ count + 1 = rw t at k.next in let g = f (eqb-true kind 0 t) in omega arith)
-      (λ t. let e : r ≡ count = rw t at k.next in omega arith)
+  pub kept-few : (p : ParsedRow) → RowKept count n p rows lines r rows' lines' → count ≤ 64 → ((row : List ℕ) → p ≡ Ok (Some row) → count < 64) → r ≤ 64
+  kept-few (Ok (Some row)) k h f = let g = f row refl in omega (arith, k.next)
+  kept-few (Ok None) k h f = omega (arith, k.next)
+  kept-few (Err x) k h f = omega (arith, k.next)
 
 module _ (rows : List (List ℕ)) (lines : List ℕ) (count n at : ℕ) (t : List ℕ) (low : count ≤ 64) (long : 64 ≤ length rows) (wide : 64 ≤ length lines) where
-  -- the kind of the next line
+  -- what the next line is
   kind-here :
-      (e : ℕ) {kind : ℕ} {p : Parsed}
+      (e : ℕ) {p v : ParsedRow}
       → p ≡ line_row (take (e - at) (drop at t))
-      → kind ≡ line_kind count p
-      → kind ≡ line_kind (length (take count rows)) (line_row (take (e - at) (drop at t)))
-  kind-here e q k = let c = length-take-le count rows (omega arith) in k ∙ (λ i. line_kind (sym c i) (q i))
+      → v ≡ line_kind count p
+      → line_kind (length (take count rows)) (line_row (take (e - at) (drop at t))) ≡ v
+  kind-here e q k = let c = length-take-le count rows (omega arith) in sym (k ∙ (λ i. line_kind (sym c i) (q i)))
 
   pub state-fault :
-      {e kind : ℕ} {p : Parsed}
+      {e : ℕ} {p : ParsedRow}
       → Taken t at e
       → p ≡ line_row (take (e - at) (drop at t))
-      → kind ≡ line_kind count p
-      → 1 < kind
-      → state rows lines count n at t ≡ row_reading (take count rows) (take count lines) kind n
+      → (f : Fault)
+      → Err f ≡ line_kind count p
+      → state rows lines count n at t ≡ row_reading (take count rows) (take count lines) (Some f) n
   unfolding state
-  state-fault {e} {kind} {p} w q k h =
+  state-fault {e} w q f k =
       let l = take (e - at) (drop at t) in
-      rw w.lines (read-fault (take count rows) (take count lines) n l (lines_of (drop (e + 1) t)) kind (kind-here e q k) h)
+      rw w.lines (read-fault (take count rows) (take count lines) n l (lines_of (drop (e + 1) t)) f (kind-here e q k))
 
   pub state-passed :
-      {e kind r m : ℕ} {p : Parsed} {rows' : List (List ℕ)} {lines' : List ℕ}
+      {e r m : ℕ} {p : ParsedRow} {rows' : List (List ℕ)} {lines' : List ℕ}
       → Taken t at e
       → m ≡ more n
       → p ≡ line_row (take (e - at) (drop at t))
-      → kind ≡ line_kind count p
-      → kind ≤ 1
-      → RowKept count n kind p.row rows lines r rows' lines'
+      → (o : Option (List ℕ))
+      → Ok o ≡ line_kind count p
+      → RowKept count n (Ok o) rows lines r rows' lines'
       → state rows' lines' r m (e + 1) t ≡ state rows lines count n at t
   unfolding state
-  state-passed {e} {kind} {r} {m} {p} {rows'} {lines'} w y q k h x =
+  state-passed {e} {r} {m} {p} {rows'} {lines'} w y q (Some row) k x =
       let l = take (e - at) (drop at t) in
       let ls = lines_of (drop (e + 1) t) in
-      let c = kind-here e q k in
-      by-test (eqb kind 0)
-      (λ b.
-      let z = eqb-true kind 0 b in
-      let f : count < 64 = row-few count p (sym k ∙ z) in
-      let re : r ≡ count + 1 = rw b at x.next in
-      let xe : rows' ≡ set rows count p.row = rw b at x.rows in
-      let ye : lines' ≡ set lines count n = rw b at x.lines in
-      let xs : take r rows' ≡ take count rows ++ ((line_row l).row ∷ []) = (λ i. take (re i) (xe i)) ∙ set_next rows count p.row (omega arith) ∙ ap (λ (z : Parsed). take count rows ++ (z.row ∷ [])) q in
-      let ys : take r lines' ≡ take count lines ++ (n ∷ []) = (λ i. take (re i) (ye i)) ∙ set_next lines count n (omega arith) in
-      (λ i. read_from (xs i) (ys i) (y i) ls) ∙ sym (read-row (take count rows) (take count lines) n l ls kind c z) ∙ ap (read_from (take count rows) (take count lines) n) (sym w.lines))
-      (λ b.
-      let z = eqb-false kind 0 b in
-      let one : kind ≡ 1 = omega (arith, z) in
-      let re : r ≡ count = rw b at x.next in
-      let xe : rows' ≡ rows = rw b at x.rows in
-      let ye : lines' ≡ lines = rw b at x.lines in
-      (λ i. read_from (take (re i) (xe i)) (take (re i) (ye i)) (y i) ls) ∙ sym (read-empty (take count rows) (take count lines) n l ls kind c one) ∙ ap (read_from (take count rows) (take count lines) n) (sym w.lines))
+      let f : count < 64 = (row-taken count p (sym k)).0 in
+      let xs : take r rows' ≡ take count rows ++ (row ∷ []) = (λ i. take (x.next i) (x.rows i)) ∙ set_next rows count row (omega arith) in
+      let ys : take r lines' ≡ take count lines ++ (n ∷ []) = (λ i. take (x.next i) (x.lines i)) ∙ set_next lines count n (omega arith) in
+      (λ i. read_from (xs i) (ys i) (y i) ls) ∙ sym (read-row (take count rows) (take count lines) n l ls row (kind-here e q k)) ∙ ap (read_from (take count rows) (take count lines) n) (sym w.lines)
+  state-passed {e} {r} {m} {p} {rows'} {lines'} w y q None k x =
+      let l = take (e - at) (drop at t) in
+      let ls = lines_of (drop (e + 1) t) in
+      (λ i. read_from (take (x.next i) (x.rows i)) (take (x.next i) (x.lines i)) (y i) ls) ∙ sym (read-empty (take count rows) (take count lines) n l ls (kind-here e q k)) ∙ ap (read_from (take count rows) (take count lines) n) (sym w.lines)
 
 -- an answer and buffers that are a reading's
-pub reads : {rows : List (List ℕ)} {lines : List ℕ} {kind n count : ℕ} {x : Reading} → count ≤ 64 → row_reading (take count rows) (take count lines) kind n ≡ x → Reads x (record { kind = kind; line = n; count = count }) rows lines
+pub reads : {rows : List (List ℕ)} {lines : List ℕ} {fault : Option Fault} {n count : ℕ} {x : Reading} → count ≤ 64 → row_reading (take count rows) (take count lines) fault n ≡ x → Reads x (record { fault = fault; line = n; count = count }) rows lines
 reads h e = record {
-  kind = ap (λ (x : Reading). x.kind) e;
+  fault = ap (λ (x : Reading). x.fault) e;
   line = ap (λ (x : Reading). x.line) e;
   rows = ap (λ (x : Reading). x.rows) e;
   lines = ap (λ (x : Reading). x.lines) e;

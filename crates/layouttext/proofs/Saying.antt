@@ -1,4 +1,5 @@
 -- What is said, part by part. Assumes nothing.
+use Rattle.std.proofs.Common.{Some, None}
 use Prim.Native.Nat.{ℕ, ◌-◌}
 use native.Mathlib.Omega.{arith}
 use mathlib.Core.Path.{◌≡◌, ap, sym, ◌∙◌}
@@ -8,36 +9,38 @@ use lib.ListN.{length, get_or, take, drop}
 use Rattle.callfile.specs.Placed.{Puts}
 use Rattle.layouts.specs.declared.Checked.{Checked}
 use Rattle.layouts.specs.Layouts.{checked}
+use Rattle.layouttext.specs.declared.Fault.{Fault}
+use Rattle.layouttext.specs.declared.Fault.TheVariants.{NotARow, FirstOut, LastOut, SelectorOut, FirstAbove, ManyRows}
 use Rattle.layouttext.specs.declared.Read.{Read}
 use Rattle.layouttext.specs.Rows.{Reading, Reads}
 use Rattle.layouttext.specs.Verdict.{overlapping, found, judged}
 use Rattle.layouttext.proofs.Covers.{Found}
 use Rattle.layouttext.specs.Messages.{not_row, first_out, last_out, selector_out, first_above, many_rows, row_complaint, fault_text, gap_text, both_text, rows_text, accepted_text, verdict_text}
 
-module _ (kind : ℕ) where
-  pub says_row : kind ≡ 2 → not_row ≡ row_complaint kind
+module _ {f : Fault} where
+  pub says_row : f ≡ NotARow → not_row ≡ row_complaint f
   unfolding row_complaint
   says_row e = rw e
 
-  pub says_first : kind ≡ 3 → first_out ≡ row_complaint kind
+  pub says_first : f ≡ FirstOut → first_out ≡ row_complaint f
   unfolding row_complaint
   says_first e = rw e
 
-  pub says_last : kind ≡ 4 → last_out ≡ row_complaint kind
+  pub says_last : f ≡ LastOut → last_out ≡ row_complaint f
   unfolding row_complaint
   says_last e = rw e
 
-  pub says-selector : kind ≡ 5 → selector_out ≡ row_complaint kind
+  pub says_selector : f ≡ SelectorOut → selector_out ≡ row_complaint f
   unfolding row_complaint
-  says-selector e = rw e
+  says_selector e = rw e
 
-  pub says-above : kind ≡ 6 → first_above ≡ row_complaint kind
+  pub says_above : f ≡ FirstAbove → first_above ≡ row_complaint f
   unfolding row_complaint
-  says-above e = rw e
+  says_above e = rw e
 
-  pub says-many : (kind ≡ 2 → ⊥) → (kind ≡ 3 → ⊥) → (kind ≡ 4 → ⊥) → (kind ≡ 5 → ⊥) → (kind ≡ 6 → ⊥) → many_rows ≡ row_complaint kind
+  pub says_many : f ≡ ManyRows → many_rows ≡ row_complaint f
   unfolding row_complaint
-  says-many a b d e f = rw (ne_eqb kind 2 a, ne_eqb kind 3 b, ne_eqb kind 4 d, ne_eqb kind 5 e, ne_eqb kind 6 f)
+  says_many e = rw e
 
 -- two rows by their places
 pub overlap-text :
@@ -68,13 +71,13 @@ module _ (rows : List (List ℕ)) (lines : List ℕ) {r c : Checked} (e : r ≡ 
 
 -- what a reading left, and what is said of it
 module _ {x : Reading} {r : Read} {rows : List (List ℕ)} {lines : List ℕ} (k : Reads x r rows lines) where
-  pub judged-fault : (r.kind ≡ 0 → ⊥) → fault_text r.line r.kind ≡ verdict_text (judged x)
+  pub judged-fault : (f : Fault) → r.fault ≡ Some f → fault_text r.line f ≡ verdict_text (judged x)
   unfolding verdict_text
-  judged-fault h = rw (ne_eqb x.kind 0 (λ e. h (k.kind ∙ e))) (λ i. fault_text (k.line i) (k.kind i))
+  judged-fault f h = rw (sym k.fault ∙ h) (ap (λ (n : ℕ). fault_text n f) k.line)
 
-  pub judged-found : r.kind ≡ 0 → found (take (r.count - 0) (drop 0 rows)) (take (r.count - 0) (drop 0 lines)) (checked (take (r.count - 0) (drop 0 rows))) ≡ judged x
+  pub judged-found : r.fault ≡ None → found (take (r.count - 0) (drop 0 rows)) (take (r.count - 0) (drop 0 lines)) (checked (take (r.count - 0) (drop 0 rows))) ≡ judged x
   judged-found h =
       let z : r.count - 0 ≡ r.count = omega arith in
       let a : take (r.count - 0) rows ≡ x.rows = ap (λ (n : ℕ). take n rows) z ∙ k.rows in
       let b : take (r.count - 0) lines ≡ x.lines = ap (λ (n : ℕ). take n lines) z ∙ k.lines in
-      rw (eq-eqb x.kind 0 (sym k.kind ∙ h)) (λ i. found (a i) (b i) (checked (a i)))
+      rw (sym k.fault ∙ h) (λ i. found (a i) (b i) (checked (a i)))

@@ -1,11 +1,12 @@
 -- What specs/Claims.antt claims of a verdict. Assumes nothing.
+use Rattle.std.specs.Prelude.{Some, None, Ok, Err, is_some}
 use Prim.Native.Nat.{ℕ, ◌≤◌}
 use native.Mathlib.Omega.{arith}
 use mathlib.Core.Path.{◌≡◌, refl, ap, sym, ◌∙◌}
 use mathlib.Core.Bool.{true, true≢false}
 use mathlib.Core.List.{List, [], ◌∷◌, ◌++◌}
-use borrow.Author.Tests.{le-leb, ltb-false, eqb-true, eq-eqb, ne_eqb}
-use lib.Dec.{eqb, ltb}
+use borrow.Author.Tests.{le-leb, ltb-false}
+use lib.Dec.{ltb}
 use lib.ListN.{length, length-append}
 use Rattle.words.proofs.Tests.{by-test}
 use Rattle.stats.specs.Counted.{more}
@@ -14,25 +15,25 @@ use Rattle.layouts.specs.Layouts.{first, last, selector, cover_count, row_in_ran
 use Rattle.layouts.proofs.Answers.{Case, out, bare, twice, once, case-of}
 use Rattle.layouts.proofs.Theorems.{overlap-is-lowest}
 use Rattle.texting.specs.Lines.{lines_of}
-use Rattle.layouttext.specs.Rows.{line_row, row_fault, line_kind, read_from}
+use Rattle.layouttext.specs.Rows.{ParsedRow, on_line, line_row, row_fault, line_kind, row_reading, read_from}
 use Rattle.layouttext.specs.Verdict.{found, reading_of, verdict_of}
 use Rattle.layouttext.specs.Claims.{RowsInRange, FaultFirst, Said, fine, gapped, doubled, VerdictRight}
-use Rattle.layouttext.proofs.Lines.{row-few, row-right}
+use Rattle.layouttext.proofs.Lines.{row-taken}
 use Rattle.layouttext.proofs.Covers.{two}
 
 -- ---- rows in range
 
 -- a row with which nothing is wrong is in range
-pub right-in-range : (row : List ℕ) → row_fault row ≡ 0 → row_in_range row ≡ true
+pub right-in-range : (row : List ℕ) → row_fault row ≡ None → row_in_range row ≡ true
 unfolding row_fault row_in_range
 right-in-range row e = by-test (ltb 65535 (first row))
-    (λ t. absurd (let z = rw t at e in omega (arith, z)))
+    (λ t. absurd (true≢false (let z = rw t at e in ap is_some z)))
     (λ t. by-test (ltb 65535 (last row))
-    (λ u. absurd (let z = rw (t, u) at e in omega (arith, z)))
+    (λ u. absurd (true≢false (let z = rw (t, u) at e in ap is_some z)))
     (λ u. by-test (ltb 63 (selector row))
-    (λ v. absurd (let z = rw (t, u, v) at e in omega (arith, z)))
+    (λ v. absurd (true≢false (let z = rw (t, u, v) at e in ap is_some z)))
     (λ v. by-test (ltb (last row) (first row))
-    (λ w. absurd (let z = rw (t, u, v, w) at e in omega (arith, z)))
+    (λ w. absurd (true≢false (let z = rw (t, u, v, w) at e in ap is_some z)))
     (λ w. rw (le-leb (first row) 65535 (ltb-false 65535 (first row) t), le-leb (last row) 65535 (ltb-false 65535 (last row) u), le-leb (selector row) 63 (ltb-false 63 (selector row) v), le-leb (first row) (last row) (ltb-false (last row) (first row) w))))))
 
 all_more : (t : List (List ℕ)) (row : List ℕ) → all_in_range t ≡ true → row_in_range row ≡ true → all_in_range (t ++ (row ∷ [])) ≡ true
@@ -45,21 +46,25 @@ record Few (t : List (List ℕ)) : Type 0 where
   few : length t ≤ 64
   ranged : all_in_range t ≡ true
 
+-- by what the next line is
+few-next :
+    (l : List ℕ) (ls rows : List (List ℕ)) (lines : List ℕ) (n : ℕ)
+    → Few rows
+    → ((r : List (List ℕ)) (m : List ℕ) (k : ℕ) → Few r → Few (read_from r m k ls).rows)
+    → (v : ParsedRow)
+    → line_kind (length rows) (line_row l) ≡ v
+    → Few (on_line v (λ row. read_from (rows ++ (row ∷ [])) (lines ++ (n ∷ [])) (more n) ls) (read_from rows lines (more n) ls) (λ x. row_reading rows lines (Some x) n)).rows
+few-next l ls rows lines n f later (Ok (Some row)) q =
+    let h = row-taken (length rows) (line_row l) q in
+    let g : Few (rows ++ (row ∷ [])) = record { few = omega (arith, h.0, length-append rows (row ∷ [])); ranged = all_more rows row f.ranged (right-in-range row h.1) } in
+    later (rows ++ (row ∷ [])) (lines ++ (n ∷ [])) (more n) g
+few-next l ls rows lines n f later (Ok None) q = later rows lines (more n) f
+few-next l ls rows lines n f later (Err x) q = f
+
 read-few : (ls : List (List ℕ)) (rows : List (List ℕ)) (lines : List ℕ) (n : ℕ) → Few rows → Few (read_from rows lines n ls).rows
 unfolding read_from
 read-few [] rows lines n f = f
-read-few (l ∷ ls) rows lines n f =
-    let p = line_row l in
-    let kind = line_kind (length rows) p in
-    by-test (eqb kind 0)
-    (λ t.
-    let z = eqb-true kind 0 t in
-    let h = row-few (length rows) p z in
-    let g : Few (rows ++ (p.row ∷ [])) = record { few = omega (arith, length-append rows (p.row ∷ [])); ranged = all_more rows p.row f.ranged (right-in-range p.row (row-right (length rows) p z)) } in
-    rw t (read-few ls (rows ++ (p.row ∷ [])) (lines ++ (n ∷ [])) (more n) g))
-    (λ t. by-test (eqb kind 1)
-    (λ u. rw (t, u) (read-few ls rows lines (more n) f))
-    (λ u. rw (t, u) f))
+read-few (l ∷ ls) rows lines n f = few-next l ls rows lines n f (λ r m k g. read-few ls r m k g) (line_kind (length rows) (line_row l)) refl
 
 pub rows-in-range : RowsInRange
 unfolding table_in_range
@@ -71,7 +76,7 @@ rows-in-range text =
 
 pub fault-first : FaultFirst
 unfolding verdict_of
-fault-first text h = rw (ne_eqb (reading_of text).kind 0 h)
+fault-first text f h = rw h
 
 said-by : {rows : List (List ℕ)} (lines : List ℕ) {c : Checked} → Case rows c → c ≡ checked rows → table_in_range rows ≡ true → Said rows lines c (found rows lines c)
 said-by lines (out e) q h = absurd (true≢false (sym h ∙ e))
@@ -87,4 +92,4 @@ pub verdict-right : VerdictRight
 unfolding verdict_of
 verdict-right text z =
     let r = reading_of text in
-    rw (eq-eqb r.kind 0 z) (said-by r.lines (case-of r.rows) refl (rows-in-range text))
+    rw z (said-by r.lines (case-of r.rows) refl (rows-in-range text))

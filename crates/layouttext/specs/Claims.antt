@@ -1,7 +1,8 @@
 -- What is claimed of a verdict; proofs/Theorems.antt has the proofs. Assumes nothing.
-use Rattle.std.specs.Prelude.{ℕ, ◌<◌, ◌≡◌, true, List, [], length, get_or}
+use Rattle.std.specs.Prelude.{Some, None, ℕ, ◌<◌, ◌≡◌, true, List, [], length, get_or}
 use Rattle.layouts.specs.declared.Checked.{Checked}
 use Rattle.layouts.specs.Layouts.{covers, table_in_range, says, checked}
+use Rattle.layouttext.specs.declared.Fault.{Fault}
 use Rattle.layouttext.specs.Verdict.{Verdict, fault, gap, accepted, cover_at, next_cover, overlapping, reading_of, verdict_of}
 
 -- the rows taken from any text are at most 64, and in range; so the check of them never answers 3
@@ -10,7 +11,7 @@ RowsInRange = (text : List ℕ) → table_in_range (reading_of text).rows ≡ tr
 
 -- a line at fault is said first
 abbrev pub FaultFirst : Type 0
-FaultFirst = (text : List ℕ) → ((reading_of text).kind ≡ 0 → ⊥) → verdict_of text ≡ fault (reading_of text).line (reading_of text).kind
+FaultFirst = (text : List ℕ) (f : Fault) → (reading_of text).fault ≡ Some f → verdict_of text ≡ fault (reading_of text).line f
 
 -- the two rows of an overlap: two places, both in the table, of rows that cover the layout
 pub record Two (l : ℕ) (t : List (List ℕ)) : Type 0 where
@@ -27,4 +28,4 @@ pub data Said (rows : List (List ℕ)) (lines : List ℕ) : Checked → Verdict 
 
 -- where no line is at fault, what is said is what the check answers
 abbrev pub VerdictRight : Type 0
-VerdictRight = (text : List ℕ) → (reading_of text).kind ≡ 0 → Said (reading_of text).rows (reading_of text).lines (checked (reading_of text).rows) (verdict_of text)
+VerdictRight = (text : List ℕ) → (reading_of text).fault ≡ None → Said (reading_of text).rows (reading_of text).lines (checked (reading_of text).rows) (verdict_of text)

@@ -1,8 +1,9 @@
 -- A verdict in words, as bytes. Assumes nothing.
-use Rattle.std.specs.Prelude.{ℕ, List, [], ◌∷◌, ◌++◌, eqb}
-use Rattle.words.specs.Pick.{whether◌then◌else◌}
+use Rattle.std.specs.Prelude.{ℕ, List, [], ◌∷◌, ◌++◌}
 use Rattle.callfile.specs.Lines.{field, newline}
 use Rattle.layouts.specs.Layouts.{first, last, selector}
+use Rattle.layouttext.specs.declared.Fault.{Fault}
+use Rattle.layouttext.specs.declared.Fault.TheVariants.{NotARow, FirstOut, LastOut, SelectorOut, FirstAbove, ManyRows}
 use Rattle.layouttext.specs.Verdict.{Verdict, fault, gap, overlap, accepted}
 
 -- `: not a row: want three numbers, first, last and selector`, and the end of a line
@@ -58,14 +59,13 @@ abbrev pub accepted_words : List ℕ
 accepted_words = 97 ∷ 99 ∷ 99 ∷ 101 ∷ 112 ∷ 116 ∷ 101 ∷ 100 ∷ 58 ∷ 32 ∷ 48 ∷ 32 ∷ 116 ∷ 111 ∷ 32 ∷ 54 ∷ 53 ∷ 53 ∷ 51 ∷ 53 ∷ 32 ∷ 99 ∷ 111 ∷ 118 ∷ 101 ∷ 114 ∷ 101 ∷ 100 ∷ 32 ∷ 111 ∷ 110 ∷ 99 ∷ 101 ∷ 32 ∷ 101 ∷ 97 ∷ 99 ∷ 104 ∷ 44 ∷ 32 ∷ 114 ∷ 111 ∷ 119 ∷ 115 ∷ 58 ∷ []
 
 -- what is wrong with a line
-unfoldable pub row_complaint : ℕ → List ℕ
-row_complaint kind =
-    whether eqb kind 2 then not_row
-    else whether eqb kind 3 then first_out
-    else whether eqb kind 4 then last_out
-    else whether eqb kind 5 then selector_out
-    else whether eqb kind 6 then first_above
-    else many_rows
+unfoldable pub row_complaint : Fault → List ℕ
+row_complaint NotARow = not_row
+row_complaint FirstOut = first_out
+row_complaint LastOut = last_out
+row_complaint SelectorOut = selector_out
+row_complaint FirstAbove = first_above
+row_complaint ManyRows = many_rows
 
 -- some words, and a number after a space
 abbrev pub numbered : List ℕ → ℕ → List ℕ
@@ -75,8 +75,8 @@ numbered words n = words ++ field n
 unfoldable pub row_text : List ℕ → List ℕ → List ℕ
 row_text words row = numbered words (first row) ++ (field (last row) ++ field (selector row))
 
-unfoldable pub fault_text : ℕ → ℕ → List ℕ
-fault_text n kind = numbered line_word n ++ row_complaint kind
+unfoldable pub fault_text : ℕ → Fault → List ℕ
+fault_text n f = numbered line_word n ++ row_complaint f
 
 unfoldable pub gap_text : ℕ → List ℕ
 gap_text l = numbered gap_words l ++ newline
@@ -93,7 +93,7 @@ unfoldable pub accepted_text : ℕ → List ℕ
 accepted_text count = numbered accepted_words count ++ newline
 
 unfoldable pub verdict_text : Verdict → List ℕ
-verdict_text (fault n kind) = fault_text n kind
+verdict_text (fault n f) = fault_text n f
 verdict_text (gap l) = gap_text l
 verdict_text (overlap l m r n s) = both_text l m n ++ rows_text r s
 verdict_text (accepted count) = accepted_text count

@@ -1,15 +1,16 @@
 -- What is said of a text of rows. Assumes nothing.
-use Rattle.std.specs.Prelude.{ℕ, suc, ◌+◌, List, [], ◌∷◌, eqb, length, get_or, drop}
+use Rattle.std.specs.Prelude.{Option, Some, None, ℕ, suc, ◌+◌, List, [], ◌∷◌, eqb, length, get_or, drop}
 use Rattle.words.specs.Pick.{whether◌then◌else◌}
 use Rattle.layouts.specs.declared.Checked.{Checked}
 use Rattle.layouts.specs.Layouts.{covers, checked}
 use Rattle.texting.specs.Lines.{lines_of}
+use Rattle.layouttext.specs.declared.Fault.{Fault}
 use Rattle.layouttext.specs.Rows.{Reading, read_from}
 
 -- a line at fault, with its number and what is wrong; a layout that no row covers; a layout that two rows cover, with the line of each and the row;
 -- or so many rows, which cover each layout once
 pub data Verdict : Type 0 where
-  fault : ℕ → ℕ → Verdict
+  fault : ℕ → Fault → Verdict
   gap : ℕ → Verdict
   overlap : ℕ → ℕ → List ℕ → ℕ → List ℕ → Verdict
   accepted : ℕ → Verdict
@@ -35,8 +36,12 @@ abbrev pub found : List (List ℕ) → List ℕ → Checked → Verdict
 found rows lines c = whether eqb c.refusal 12 then gap c.answer else whether eqb c.refusal 13 then overlapping rows lines c.answer else accepted (length rows)
 
 -- a line at fault comes before what the check answers
+abbrev pub fault_before : Option Fault → ℕ → Verdict → Verdict
+fault_before None n v = v
+fault_before (Some f) n v = fault n f
+
 abbrev pub judged : Reading → Verdict
-judged r = whether eqb r.kind 0 then found r.rows r.lines (checked r.rows) else fault r.line r.kind
+judged r = fault_before r.fault r.line (found r.rows r.lines (checked r.rows))
 
 -- a text, its lines counted from 1
 abbrev pub reading_of : List ℕ → Reading

@@ -1,94 +1,79 @@
 // A table of layouts as text, a row a line: what is said of it.
 #![tactic(auto)]
 
-ghost use Rattle.std.specs.Prelude.{◌≡◌, [], ◌+◌, ◌<◌, ◌≤◌, length, drop, replicate};
+ghost use Rattle.std.specs.Prelude.{Some, Ok, ◌≡◌, List, ℕ, [], ◌+◌, ◌<◌, ◌≤◌, length, drop, replicate};
 ghost use Rattle.callfile.specs.Lines.{field};
 ghost use Rattle.callfile.specs.Placed.{Puts, PutLine};
 ghost use Rattle.texting.specs.Lines.{lines_of};
 ghost use Rattle.textwords.specs.Text.{words_of};
 ghost use Rattle.layouts.specs.Layouts.{cover_count, checked};
-ghost use Rattle.layouttext.specs.Rows.{without_row, gather_row, line_row, row_fault, line_kind, read_from, Reads, RowKept};
+ghost use Rattle.layouttext.specs.Rows.{gather_row, line_row, row_fault, line_kind, read_from, Reads, RowKept};
 ghost use Rattle.layouttext.specs.Verdict.{cover_at, overlapping, found, verdict_of};
 ghost use Rattle.layouttext.specs.Messages.{row_complaint, numbered, row_text, fault_text, gap_text, both_text, rows_text, accepted_text, verdict_text};
 
 use layouts::LayoutRow;
-use textwords::{Number, Stop};
+use textwords::Stop;
 
 // Room for what is said.
 pub const ROOM: usize = 512;
 
-// A line of text: what it is, and the row.
+// What is wrong with a line.
 #[derive(Clone, Copy)]
-struct Parsed {
-    kind: u64,
-    row: LayoutRow,
+enum Fault {
+    NotARow,
+    FirstOut,
+    LastOut,
+    SelectorOut,
+    FirstAbove,
+    ManyRows,
 }
 
-// What ended the reading of a text, the number of that line, and how many rows there are.
+// What a line is: a row, nothing, or at fault.
+type ParsedRow = Result<Option<LayoutRow>, Fault>;
+
+// The fault that ended the reading of a text, the number of that line, and how many rows there are.
 #[derive(Clone, Copy)]
 struct Read {
-    kind: u64,
+    fault: Option<Fault>,
     line: u64,
     count: usize,
 }
 
-// What a line can be; from 2 on it is at fault.
-const ROW: u64 = 0;
-
-const EMPTY: u64 = 1;
-
-const NOT_A_ROW: u64 = 2;
-
-const FIRST_OUT: u64 = 3;
-
-const LAST_OUT: u64 = 4;
-
-const SELECTOR_OUT: u64 = 5;
-
-const FIRST_ABOVE: u64 = 6;
-
-const MANY_ROWS: u64 = 7;
-
-// What the check answers.
+// What the check answers. Numbers: the struct that has them is C's.
 const GAP: u64 = 12;
 
 const OVERLAP: u64 = 13;
 
 // ---- a line
 
-fn without_row(kind: u64) -> Parsed
-    ensures { result ≡ without_row kind }
-{
-    Parsed { kind, row: [0; 3] }
-}
-
 // So many words were numbers, and no more words are left.
-fn end_of_words(n: usize, row: LayoutRow) -> Parsed
+fn end_of_words(n: usize, row: LayoutRow) -> ParsedRow
     ensures { result ≡ gather_row n row [] }
 {
     if n == 3 {
-        return Parsed { kind: ROW, row };
+        return Ok(Some(row));
     }
     if n == 0 {
-        return without_row(EMPTY);
+        return Ok(None);
     }
-    without_row(NOT_A_ROW)
+    Err(Fault::NotARow)
 }
 
 // The words of a line, without its remark.
-fn row_in(text: &[u8]) -> Parsed
+fn row_in(text: &[u8]) -> ParsedRow
     ensures { result ≡ gather_row 0 (replicate 3 0) (words_of text.now) }
 {
     let mut row = [0u64; 3];
     let mut n = 0;
     let mut i = textwords::scan(text, 0, Stop::Word);
+    // A while: the place moves on by a word at each turn.
     while i < text.len() {
         if n == 3 {
-            return without_row(NOT_A_ROW);
+            return Err(Fault::NotARow);
         }
         let e = textwords::scan(text, i, Stop::Blank);
-        let Number::Of(v) = textwords::number_of(&text[i..e]) else {
-            return without_row(NOT_A_ROW);
+        let Some(v) = textwords::number_of(&text[i..e]) else {
+            return Err(Fault::NotARow);
         };
         row[n] = v;
         n += 1;
@@ -97,7 +82,7 @@ fn row_in(text: &[u8]) -> Parsed
     end_of_words(n, row)
 }
 
-fn parse(line: &[u8]) -> Parsed
+fn parse(line: &[u8]) -> ParsedRow
     ensures { result ≡ line_row line.now }
 {
     let e = textwords::scan(line, 0, Stop::Remark);
@@ -105,56 +90,50 @@ fn parse(line: &[u8]) -> Parsed
 }
 
 // What is wrong with a row.
-fn row_fault(row: LayoutRow) -> u64
+fn row_fault(row: LayoutRow) -> Option<Fault>
     ensures { result ≡ row_fault row }
 {
     if 65535 < row[0] {
-        return FIRST_OUT;
+        return Some(Fault::FirstOut);
     }
     if 65535 < row[1] {
-        return LAST_OUT;
+        return Some(Fault::LastOut);
     }
     if 63 < row[2] {
-        return SELECTOR_OUT;
+        return Some(Fault::SelectorOut);
     }
     if row[1] < row[0] {
-        return FIRST_ABOVE;
+        return Some(Fault::FirstAbove);
     }
-    ROW
+    None
 }
 
 // What a line is, after so many rows.
-fn line_kind(count: usize, p: Parsed) -> u64
+fn line_kind(count: usize, p: ParsedRow) -> ParsedRow
     ensures { result ≡ line_kind count p }
 {
-    let kind = p.kind;
-    let row = p.row;
-    if 0 < kind {
-        return kind;
-    }
+    let Some(row) = p? else {
+        return Ok(None);
+    };
     if 63 < count {
-        return MANY_ROWS;
+        return Err(Fault::ManyRows);
     }
-    row_fault(row)
+    match row_fault(row) {
+        Some(fault) => Err(fault),
+        None => Ok(Some(row)),
+    }
 }
 
 // ---- a text
 
 // A row goes to the end of the rows, and its line's number to that of the lines; an empty line does not.
-fn keep(
-    rows: &mut [LayoutRow],
-    lines: &mut [u64],
-    count: usize,
-    n: u64,
-    kind: u64,
-    row: LayoutRow,
-) -> usize
-    requires { (kind ≡ 0 → count < 64) × (64 ≤ length rows.old) × (64 ≤ length lines.old) }
-    ensures { RowKept count n kind row rows.old lines.old result rows.new lines.new }
+fn keep(rows: &mut [LayoutRow], lines: &mut [u64], count: usize, n: u64, p: ParsedRow) -> usize
+    requires { ((row : List ℕ) → p ≡ Ok (Some row) → count < 64) × (64 ≤ length rows.old) × (64 ≤ length lines.old) }
+    ensures { RowKept count n p rows.old lines.old result rows.new lines.new }
 {
-    if kind != ROW {
+    let Ok(Some(row)) = p else {
         return count;
-    }
+    };
     rows[count] = row;
     lines[count] = n;
     count + 1
@@ -168,24 +147,23 @@ fn read_rows(text: &[u8], rows: &mut [LayoutRow], lines: &mut [u64]) -> Read
     let mut count = 0;
     let mut n = 1;
     let mut at = 0;
+    // A while: the place moves on by a line at each turn.
     while at < text.len() {
         let e = textwords::scan(text, at, Stop::LineEnd);
-        let p = parse(&text[at..e]);
-        let kind = line_kind(count, p);
-        if EMPTY < kind {
+        let p = line_kind(count, parse(&text[at..e]));
+        if let Err(fault) = p {
             return Read {
-                kind,
+                fault: Some(fault),
                 line: n,
                 count,
             };
         }
-        let row = p.row;
-        count = keep(rows, lines, count, n, kind, row);
+        count = keep(rows, lines, count, n, p);
         n = stats::more_of(n);
         at = e + 1;
     }
     Read {
-        kind: 0,
+        fault: None,
         line: n,
         count,
     }
@@ -223,30 +201,30 @@ fn put_row(out: &mut [u8], at: usize, words: &[u8], row: LayoutRow) -> usize
 // ---- what is said
 
 // What is wrong with a line.
-fn put_complaint(out: &mut [u8], at: usize, kind: u64) -> usize
+fn put_complaint(out: &mut [u8], at: usize, fault: Fault) -> usize
     requires { at + 64 ≤ length out.old }
-    ensures { Puts (row_complaint kind) at out.old result out.new × (result ≤ at + 64) }
+    ensures { Puts (row_complaint fault) at out.old result out.new × (result ≤ at + 64) }
 {
-    match kind {
-        NOT_A_ROW => callfile::put_all(
+    match fault {
+        Fault::NotARow => callfile::put_all(
             out,
             at,
             b": not a row: want three numbers, first, last and selector\n",
         ),
-        FIRST_OUT => callfile::put_all(out, at, b": 3: first is not 0 to 65535\n"),
-        LAST_OUT => callfile::put_all(out, at, b": 3: last is not 0 to 65535\n"),
-        SELECTOR_OUT => callfile::put_all(out, at, b": 3: selector is not 0 to 63\n"),
-        FIRST_ABOVE => callfile::put_all(out, at, b": 3: first is above last\n"),
-        _ => callfile::put_all(out, at, b": 3: more than 64 rows\n"),
+        Fault::FirstOut => callfile::put_all(out, at, b": 3: first is not 0 to 65535\n"),
+        Fault::LastOut => callfile::put_all(out, at, b": 3: last is not 0 to 65535\n"),
+        Fault::SelectorOut => callfile::put_all(out, at, b": 3: selector is not 0 to 63\n"),
+        Fault::FirstAbove => callfile::put_all(out, at, b": 3: first is above last\n"),
+        Fault::ManyRows => callfile::put_all(out, at, b": 3: more than 64 rows\n"),
     }
 }
 
-fn put_fault(out: &mut [u8], line: u64, kind: u64) -> usize
+fn put_fault(out: &mut [u8], line: u64, fault: Fault) -> usize
     requires { 512 ≤ length out.old }
-    ensures { Puts (fault_text line kind) 0 out.old result out.new × (result ≤ 512) }
+    ensures { Puts (fault_text line fault) 0 out.old result out.new × (result ≤ 512) }
 {
     let a = put_named(out, 0, b"line", line);
-    put_complaint(out, a, kind)
+    put_complaint(out, a, fault)
 }
 
 fn put_gap(out: &mut [u8], layout: u64) -> usize
@@ -296,14 +274,13 @@ fn put_accepted(out: &mut [u8], count: usize) -> usize
 fn cover_from(rows: &[LayoutRow], from: usize, layout: u64) -> usize
     ensures { result ≡ from + cover_at layout (drop from rows.now) }
 {
-    let mut i = from;
-    while i < rows.len() {
-        if layouts::covers(rows[i], layout) {
-            return i;
-        }
-        i += 1;
-    }
-    i
+    let Some(rest) = rows.get(from..) else {
+        return from;
+    };
+    from + rest
+        .iter()
+        .position(|row| layouts::covers(*row, layout))
+        .unwrap_or(rest.len())
 }
 
 // The first two rows that cover a layout, where two do.
@@ -342,8 +319,8 @@ fn put_verdict(text: &[u8], out: &mut [u8]) -> usize
     let mut lines = [0u64; 64];
     let r = read_rows(text, &mut rows, &mut lines);
     let count = r.count;
-    if r.kind != 0 {
-        return put_fault(out, r.line, r.kind);
+    if let Some(fault) = r.fault {
+        return put_fault(out, r.line, fault);
     }
     put_found(out, &rows[0..count], &lines[0..count])
 }

@@ -18,9 +18,8 @@ use Rattle.words.specs.Pick.{whether◌then◌else◌}
 use Rattle.words.specs.Words.{unsigned}
 use Rattle.words.proofs.Signed.{flip}
 use Rattle.words.proofs.Tests.{by-test}
-use Rattle.leafcases.specs.declared.parse.Digits.TheVariants as D
-use Rattle.leafcases.specs.declared.parse.Number.TheVariants as N
-use Rattle.leafcases.specs.Parse.{next_digit, and_then, spelled_after, digits_of, positive, negative, spelled, word_length, same_bytes, split, words_after, no_values, with_spelled, values_of}
+use Rattle.std.specs.Prelude.{Some, None, option_and_then}
+use Rattle.leafcases.specs.Parse.{next_digit, spelled_after, digits_of, positive, negative, spelled, word_length, same_bytes, split, words_after, values_of}
 
 -- ---- numbers
 
@@ -33,11 +32,11 @@ minus (suc n) h i =
 
 -- the digits from i on are that at i and those after it
 pub digits_step : (s : List ℕ) (v i : ℕ) → i < length s
-    → spelled_after v (drop i s) ≡ and_then (next_digit v (get_or s i 0)) (λ w. spelled_after w (drop (i + 1) s))
+    → spelled_after v (drop i s) ≡ option_and_then (λ w. spelled_after w (drop (i + 1) s)) (next_digit v (get_or s i 0))
 unfolding spelled_after
 digits_step s v i h = rw (drop-cons s i 0 h, add-one)
 
-pub digits-done : (s : List ℕ) (v i : ℕ) → length s ≤ i → spelled_after v (drop i s) ≡ D.Value v
+pub digits-done : (s : List ℕ) (v i : ℕ) → length s ≤ i → spelled_after v (drop i s) ≡ Some v
 unfolding spelled_after
 digits-done s v i h = rw (drop_of_length-le s h)
 
@@ -46,18 +45,18 @@ unfolding digits_of
 some-digits [] h = absurd (omega arith)
 some-digits (b ∷ bs) h = refl
 
-pub no-digits : (s : List ℕ) → length s ≤ 0 → D.Bad ≡ digits_of s
+pub no-digits : (s : List ℕ) → length s ≤ 0 → None ≡ digits_of s
 unfolding digits_of
 no-digits [] h = refl
 no-digits (b ∷ bs) h = absurd (omega arith)
 
-pub no_number : (s : List ℕ) → length s ≤ 0 → N.Bad ≡ spelled s
+pub no_number : (s : List ℕ) → length s ≤ 0 → None ≡ spelled s
 unfolding spelled
 no_number [] h = refl
 no_number (b ∷ bs) h = absurd (omega arith)
 
 pub some_number : (s : List ℕ) → 0 < length s
-    → spelled s ≡ (whether eqb (get_or s 0 0) 45 then negative (digits_of (drop 1 s)) else positive (digits_of s))
+    → spelled s ≡ (whether eqb (get_or s 0 0) 45 then option_and_then negative (digits_of (drop 1 s)) else option_and_then positive (digits_of s))
 unfolding spelled
 some_number [] h = absurd (omega arith)
 some_number (b ∷ bs) h = refl
@@ -152,7 +151,7 @@ words-end s n h = rw (le-ltb n (length s) h)
 -- a turn of the loop over a line's numbers: n is where the word ends
 pub values-step : (s : List ℕ) (at n count : ℕ) (values : List ℕ) → at < length s → n ≡ at + 1 + word_length (drop (at + 1) s)
     → values_of (words_after at s) values count
-    ≡ with_spelled (spelled (take (n - (at + 1)) (drop (at + 1) s))) (λ x. whether leb 9 count then no_values else values_of (words_after n s) (set values count (unsigned x)) (count + 1))
+    ≡ option_and_then (λ x. whether leb 9 count then None else values_of (words_after n s) (set values count (unsigned x)) (count + 1)) (spelled (take (n - (at + 1)) (drop (at + 1) s)))
 unfolding values_of
 values-step s at n count values h e =
     let k : n - (at + 1) ≡ word_length (drop (at + 1) s) = omega arith in

@@ -1,18 +1,16 @@
 -- Texts and the numbers that they spell, as one table that antt computes. Assumes nothing.
-use Rattle.std.specs.Prelude.{◌-◌, ◌^◌, Bool, true, false, ◌&&◌, List, [], ◌∷◌, eqb, T, ℤ, pos, negsuc}
+use Rattle.std.specs.Prelude.{◌-◌, ◌^◌, Bool, true, false, ◌&&◌, List, [], ◌∷◌, eqb, T, ℤ, pos, negsuc, Option, Some, None}
 use Rattle.std.specs.Int.Signed.{le_z}
 use Rattle.words.specs.Pick.{every}
-use Rattle.leafcases.specs.declared.parse.Number.{Number}
-use Rattle.leafcases.specs.declared.parse.Number.TheVariants as N
 use Rattle.leafcases.specs.Parse.{next_digit, spelled_after, digits_of, positive, negative, spelled, word_length}
 
-abbrev is : Number → ℤ → Bool
-is (N.Value a) b = le_z a b && le_z b a
-is N.Bad b = false
+abbrev is : Option ℤ → ℤ → Bool
+is (Some a) b = le_z a b && le_z b a
+is None b = false
 
-abbrev bad : Number → Bool
-bad (N.Value a) = false
-bad N.Bad = true
+abbrev bad : Option ℤ → Bool
+bad (Some a) = false
+bad None = true
 
 cases : List Bool
 unfolding next_digit spelled_after digits_of positive negative spelled word_length

@@ -1,9 +1,10 @@
 -- A case against the definitions of the leaf functions, and what is counted. Assumes nothing.
-use Rattle.std.specs.Prelude.{ℕ, Bool, true, false, ◌&&◌, List, eqb, ℤ, pos, get_or}
+use Rattle.std.specs.Prelude.{ℕ, Bool, true, false, ◌&&◌, List, eqb, ℤ, pos, get_or, Result, Ok, Err}
 use Rattle.words.specs.Pick.{whether◌then◌else◌}
 use Rattle.words.specs.Words.{signed, unsigned, int, is_int}
 use Rattle.entry.specs.declared.Entry.{Entry}
 use Rattle.entry.specs.Entry.{expired, redelivered}
+use Rattle.broker.specs.declared.OutOfRange.{OutOfRange}
 use Rattle.broker.specs.declared.Admission.{Admission}
 use Rattle.broker.specs.declared.Arrival.{Arrival}
 use Rattle.broker.specs.declared.ExpiryOptions.{ExpiryOptions}
@@ -44,8 +45,9 @@ unfoldable pub redelivered_same : List ℕ → Bool
 redelivered_same v =
     is_int (value_word v 0) && eqb (unsigned (redelivered (entry_with (pos 0) (int (value_word v 0)))).redelivery) (value_word v 1)
 
-unfoldable pub admission_same : Admission → ℕ → ℕ → Bool
-admission_same a admitted limited = eqb a.refusal 0 && (flag_is a.admitted admitted && flag_is a.limited limited)
+unfoldable pub admission_same : Result Admission OutOfRange → ℕ → ℕ → Bool
+admission_same (Ok a) admitted limited = flag_is a.admitted admitted && flag_is a.limited limited
+admission_same (Err e) admitted limited = false
 
 -- LIMIT FLAG USED SIZE ADMITTED FLAG_AFTER
 unfoldable pub admit_memory_same : List ℕ → Bool
@@ -54,11 +56,11 @@ admit_memory_same v =
     flag_is limited (value_word v 1)
     && admission_same (admit_memory (value_word v 0) limited (value_word v 2) (value_word v 3)) (value_word v 4) (value_word v 5)
 
-unfoldable pub arrival_same : Arrival → ℕ → ℕ → ℕ → Bool
-arrival_same a live expiration timestamp =
-    eqb a.refusal 0
-    && (flag_is a.live live
-    && (eqb (unsigned a.expiration) expiration && eqb (unsigned a.timestamp) timestamp))
+unfoldable pub arrival_same : Result Arrival OutOfRange → ℕ → ℕ → ℕ → Bool
+arrival_same (Ok a) live expiration timestamp =
+    flag_is a.live live
+    && (eqb (unsigned a.times.expiration) expiration && eqb (unsigned a.times.timestamp) timestamp)
+arrival_same (Err e) live expiration timestamp = false
 
 abbrev pub options : Bool → ℤ → ℤ → ExpiryOptions
 options clock ttl ceiling = record { default_ttl = ttl; ttl_ceiling = ceiling; use_broker_clock = clock }

@@ -1,50 +1,42 @@
 -- How a line of the list is read: bytes, digits, numbers and names. Assumes nothing.
-use Rattle.std.specs.Prelude.{ℕ, suc, ◌+◌, ◌*◌, ◌-◌, ◌^◌, Bool, true, false, ◌&&◌, ◌||◌, List, [], ◌∷◌, eqb, leb, ltb, length, take, drop, set, ℤ, pos, neg_ℤ}
+use Rattle.std.specs.Prelude.{ℕ, suc, ◌+◌, ◌*◌, ◌-◌, ◌^◌, Bool, true, false, ◌&&◌, ◌||◌, List, [], ◌∷◌, eqb, leb, ltb, length, take, drop, set, ℤ, pos, neg_ℤ, Option, Some, None, option_and_then}
 use Rattle.words.specs.Pick.{whether◌then◌else◌}
 use Rattle.words.specs.Words.{unsigned}
-use Rattle.leafcases.specs.declared.parse.Digits.{Digits}
-use Rattle.leafcases.specs.declared.parse.Digits.TheVariants as D
-use Rattle.leafcases.specs.declared.parse.Number.{Number}
-use Rattle.leafcases.specs.declared.parse.Number.TheVariants as N
 use Rattle.leafcases.specs.declared.parse.Values.{Values}
 use Rattle.leafcases.specs.declared.parse.Line.{Line}
 use Rattle.leafcases.specs.declared.parse.Kind.{Kind}
 use Rattle.leafcases.specs.declared.parse.Kind.TheVariants as K
 
 -- a number and one more digit: bad where the byte is none, or ten times the number is past 2 ^ 63
-unfoldable pub next_digit : ℕ → ℕ → Digits
+unfoldable pub next_digit : ℕ → ℕ → Option ℕ
 next_digit v b =
-    whether ltb b 48 || ltb 57 b || ltb 922337203685477580 v then D.Bad
-    else D.Value (v * 10 + (b - 48))
-
-abbrev pub and_then : Digits → (ℕ → Digits) → Digits
-and_then (D.Value v) f = f v
-and_then D.Bad f = D.Bad
+    whether ltb b 48 || ltb 57 b || ltb 922337203685477580 v then None
+    else Some (v * 10 + (b - 48))
 
 -- a number and the digits after it
-unfoldable pub spelled_after : ℕ → List ℕ → Digits
-spelled_after v [] = D.Value v
-spelled_after v (b ∷ bs) = and_then (next_digit v b) (λ w. spelled_after w bs)
+unfoldable pub spelled_after : ℕ → List ℕ → Option ℕ
+spelled_after v [] = Some v
+spelled_after v (b ∷ bs) = option_and_then (λ w. spelled_after w bs) (next_digit v b)
 
 -- one digit or more
-unfoldable pub digits_of : List ℕ → Digits
-digits_of [] = D.Bad
+unfoldable pub digits_of : List ℕ → Option ℕ
+digits_of [] = None
 digits_of (b ∷ bs) = spelled_after 0 (b ∷ bs)
 
 -- as an i64, with no sign before it
-unfoldable pub positive : Digits → Number
-positive (D.Value v) = whether ltb v (2 ^ 63) then N.Value (pos v) else N.Bad
-positive D.Bad = N.Bad
+unfoldable pub positive : ℕ → Option ℤ
+positive v = whether ltb v (2 ^ 63) then Some (pos v) else None
 
 -- and after a minus
-unfoldable pub negative : Digits → Number
-negative (D.Value v) = whether leb v (2 ^ 63) then N.Value (neg_ℤ (pos v)) else N.Bad
-negative D.Bad = N.Bad
+unfoldable pub negative : ℕ → Option ℤ
+negative v = whether leb v (2 ^ 63) then Some (neg_ℤ (pos v)) else None
 
 -- the i64 that a text spells
-unfoldable pub spelled : List ℕ → Number
-spelled [] = N.Bad
-spelled (b ∷ bs) = whether eqb b 45 then negative (digits_of bs) else positive (digits_of (b ∷ bs))
+unfoldable pub spelled : List ℕ → Option ℤ
+spelled [] = None
+spelled (b ∷ bs) =
+    whether eqb b 45 then option_and_then negative (digits_of bs)
+    else option_and_then positive (digits_of (b ∷ bs))
 
 -- how many bytes stand before a space or the end
 unfoldable pub word_length : List ℕ → ℕ
@@ -83,17 +75,10 @@ numbers_wanted K.Bad = 0
 abbrev pub zeros : List ℕ
 zeros = 0 ∷ 0 ∷ 0 ∷ 0 ∷ 0 ∷ 0 ∷ 0 ∷ 0 ∷ 0 ∷ []
 
-abbrev pub no_values : Values
-no_values = record { values = zeros; count = 0; good = false }
-
-abbrev pub with_spelled : Number → (ℤ → Values) → Values
-with_spelled (N.Value x) f = f x
-with_spelled N.Bad f = no_values
-
 -- the numbers of these words, each as the word of 64 bits that holds it, put after the n that are there; nine at most
-unfoldable pub values_of : List (List ℕ) → List ℕ → ℕ → Values
-values_of [] values n = record { values = values; count = n; good = true }
-values_of (w ∷ ws) values n = with_spelled (spelled w) (λ x. whether leb 9 n then no_values else values_of ws (set values n (unsigned x)) (n + 1))
+unfoldable pub values_of : List (List ℕ) → List ℕ → ℕ → Option Values
+values_of [] values n = Some (record { values = values; count = n })
+values_of (w ∷ ws) values n = option_and_then (λ x. whether leb 9 n then None else values_of ws (set values n (unsigned x)) (n + 1)) (spelled w)
 
 abbrev pub on_head : ℕ → List (List ℕ) → List (List ℕ)
 on_head b [] = (b ∷ []) ∷ []
@@ -108,15 +93,19 @@ split (b ∷ bs) = whether eqb b 32 then [] ∷ split bs else on_head b (split b
 unfoldable pub words_after : ℕ → List ℕ → List (List ℕ)
 words_after n s = whether ltb n (length s) then split (drop (n + 1) s) else []
 
--- the kind, if the numbers are good and as many as it wants
-unfoldable pub kind_with : Kind → Values → Kind
-kind_with kind v = whether v.good && eqb v.count (numbers_wanted kind) then kind else K.Bad
+-- the kind, if the numbers are as many as it wants
+unfoldable pub kind_with : Kind → ℕ → Kind
+kind_with kind count = whether eqb count (numbers_wanted kind) then kind else K.Bad
 
-abbrev pub line_with : Kind → Values → Line
-line_with kind v = record { values = v.values; kind = kind_with kind v }
+abbrev pub wrong_line : Line
+wrong_line = record { values = zeros; kind = K.Bad }
+
+abbrev pub line_with : Kind → Option Values → Line
+line_with kind (Some v) = record { values = v.values; kind = kind_with kind v.count }
+line_with kind None = wrong_line
 
 abbrev pub line_of_words : List (List ℕ) → Line
-line_of_words [] = record { values = zeros; kind = K.Bad }
+line_of_words [] = wrong_line
 line_of_words (name ∷ ws) = line_with (kind_named name) (values_of ws zeros 0)
 
 -- a name and its numbers
@@ -126,5 +115,5 @@ parsed_line s = line_of_words (split s)
 -- the line in the first n bytes; bad where it was cut
 unfoldable pub line_in : List ℕ → ℕ → Bool → Line
 line_in buffer n cut =
-    whether cut || ltb (length buffer) n then record { values = zeros; kind = K.Bad }
+    whether cut || ltb (length buffer) n then wrong_line
     else parsed_line (take n buffer)

@@ -4,7 +4,7 @@ ghost use Rattle.leafcases.specs.Compare.{no_count, no_counts, new_run, counted_
 
 use crate::parse::Kind;
 use audit::{Audit, Checked};
-use broker::{Admission, Arrival, ExpiryOptions, Times};
+use broker::{Admission, Arrival, ExpiryOptions, OutOfRange, Times};
 use entry::Entry;
 use stats::more_of;
 use words::{int_of, is_int, signed_of, word_of, word_of_int};
@@ -62,7 +62,7 @@ impl Count {
         if same {
             Count {
                 cases: more_of(self.cases),
-                differ: self.differ,
+                ..self
             }
         } else {
             Count {
@@ -89,48 +89,38 @@ impl Counts {
         }
     }
 
-    pub(crate) fn with(mut self, kind: Kind, same: bool) -> Counts
+    pub(crate) fn with(self, kind: Kind, same: bool) -> Counts
         ensures { result ≡ counted_as self kind same }
     {
         match kind {
-            Kind::Expired => {
-                let c = self.expired;
-                let d = c.with(same);
-                self.expired = d;
-                self
-            }
-            Kind::Redelivered => {
-                let c = self.redelivered;
-                let d = c.with(same);
-                self.redelivered = d;
-                self
-            }
-            Kind::AdmitMemory => {
-                let c = self.admit_memory;
-                let d = c.with(same);
-                self.admit_memory = d;
-                self
-            }
-            Kind::ApplyExpiryOptions => {
-                let c = self.apply_expiry_options;
-                let d = c.with(same);
-                self.apply_expiry_options = d;
-                self
-            }
-            Kind::Audit => {
-                let c = self.audit;
-                let d = c.with(same);
-                self.audit = d;
-                self
-            }
-            Kind::AuditNew => {
-                self.audits = more_of(self.audits);
-                self
-            }
-            Kind::Bad => {
-                self.bad = more_of(self.bad);
-                self
-            }
+            Kind::Expired => Counts {
+                expired: self.expired.with(same),
+                ..self
+            },
+            Kind::Redelivered => Counts {
+                redelivered: self.redelivered.with(same),
+                ..self
+            },
+            Kind::AdmitMemory => Counts {
+                admit_memory: self.admit_memory.with(same),
+                ..self
+            },
+            Kind::ApplyExpiryOptions => Counts {
+                apply_expiry_options: self.apply_expiry_options.with(same),
+                ..self
+            },
+            Kind::Audit => Counts {
+                audit: self.audit.with(same),
+                ..self
+            },
+            Kind::AuditNew => Counts {
+                audits: more_of(self.audits),
+                ..self
+            },
+            Kind::Bad => Counts {
+                bad: more_of(self.bad),
+                ..self
+            },
         }
     }
 }
@@ -190,12 +180,12 @@ fn redelivered_same(v: [u64; 9]) -> bool
     word_of_int(e.redelivery) == v[1]
 }
 
-fn admission_same(a: Admission, admitted: u64, limited: u64) -> bool
+fn admission_same(a: Result<Admission, OutOfRange>, admitted: u64, limited: u64) -> bool
     ensures { result ≡ admission_same a admitted limited }
 {
-    if a.refusal != 0 {
+    let Ok(a) = a else {
         return false;
-    }
+    };
     flag_is(a.admitted, admitted) && flag_is(a.limited, limited)
 }
 
@@ -210,16 +200,16 @@ fn admit_memory_same(v: [u64; 9]) -> bool
     admission_same(a, v[4], v[5])
 }
 
-fn arrival_same(a: Arrival, live: u64, expiration: u64, timestamp: u64) -> bool
+fn arrival_same(a: Result<Arrival, OutOfRange>, live: u64, expiration: u64, timestamp: u64) -> bool
     ensures { result ≡ arrival_same a live expiration timestamp }
 {
-    if a.refusal != 0 {
+    let Ok(a) = a else {
         return false;
-    }
+    };
     if !flag_is(a.live, live) {
         return false;
     }
-    word_of(a.expiration) == expiration && word_of(a.timestamp) == timestamp
+    word_of(a.times.expiration) == expiration && word_of(a.times.timestamp) == timestamp
 }
 
 fn apply_expiry_options_same(v: [u64; 9]) -> bool

@@ -14,31 +14,23 @@ const SHOWN: u64 = 10;
 // Ends a line: it is parsed, run and counted.
 fn finish(rt: &impl Print, line: &[u8], window: &mut [u64], r: Run) -> Run {
     let l = parse::line_of(line, r.len, r.over);
-    let kind = l.kind;
-    let before = r.audit;
     let values = l.values;
-    let t = cases::compared(window, before, kind, values);
+    let t = cases::compared(window, r.audit, l.kind, values);
     let number = stats::more_of(r.lines);
-    let counts = r.counts;
-    let after = counts.with(kind, t.same);
-    let audit = t.audit;
     Run {
-        counts: after,
-        audit,
+        counts: r.counts.with(l.kind, t.same),
+        audit: t.audit,
         lines: number,
-        shown: noted(rt, kind, t.same, number, r.shown),
+        shown: noted(rt, l.kind, t.same, number, r.shown),
         len: 0,
         over: false,
-        reading: r.reading,
+        ..r
     }
 }
 
 // Names a line that differs or is bad, up to ten of them.
 fn noted(rt: &impl Print, kind: parse::Kind, same: bool, number: u64, shown: u64) -> u64 {
-    if same {
-        return shown;
-    }
-    if SHOWN <= shown {
+    if same || SHOWN <= shown {
         return shown;
     }
     match kind {
@@ -72,10 +64,8 @@ fn fed(rt: &impl Print, line: &mut [u8], window: &mut [u64], mut r: Run, byte: u
 
 fn fed_all(rt: &impl Print, bytes: &[u8], line: &mut [u8], window: &mut [u64], start: Run) -> Run {
     let mut r = start;
-    let mut i = 0;
-    while i < bytes.len() {
-        r = fed(rt, line, window, r, bytes[i]);
-        i += 1;
+    for byte in bytes {
+        r = fed(rt, line, window, r, *byte);
     }
     r
 }
@@ -107,10 +97,11 @@ fn ended(rt: &impl Print, line: &[u8], window: &mut [u64], r: Run) -> Counts {
 // Nothing says that the input ends, so the turns are counted down from a number that no run uses up.
 fn run(rt: &(impl Input + Print), line: &mut [u8], window: &mut [u64]) -> Counts {
     let mut r = Run::new();
-    let mut turns = 18446744073709551615u64;
-    while 0 < turns && r.reading {
+    for _ in 0..u64::MAX {
+        if !r.reading {
+            break;
+        }
         r = turn(rt, line, window, r);
-        turns -= 1;
     }
     ended(rt, line, window, r)
 }

@@ -1,23 +1,10 @@
 // A line of the list: a name and numbers, with one space between.
-ghost use Rattle.std.specs.Prelude.{◌≡◌, ◌+◌, drop};
-ghost use Rattle.leafcases.specs.Parse.{next_digit, digits_of, positive, negative, spelled, word_length, same_bytes, kind_named, numbers_wanted, no_values, zeros, words_after, values_of, kind_with, parsed_line, line_in};
+ghost use Rattle.std.specs.Prelude.{◌≡◌, ◌+◌, ◌≤◌, length, drop};
+ghost use Rattle.leafcases.specs.Parse.{next_digit, digits_of, positive, negative, spelled, word_length, same_bytes, kind_named, numbers_wanted, wrong_line, zeros, words_after, values_of, kind_with, parsed_line, line_in};
 
 use words::word_of;
 
-#[derive(Clone, Copy)]
-pub(crate) enum Number {
-    Value(i64),
-    Bad,
-}
-
-// The digits of a number, without its sign.
-#[derive(Clone, Copy)]
-pub(crate) enum Digits {
-    Value(u64),
-    Bad,
-}
-
-// Functions, and what begins an audit.
+// Functions, and what begins an audit. Bad is no None: a bad line is counted too.
 #[derive(Clone, Copy)]
 pub(crate) enum Kind {
     Expired,
@@ -46,91 +33,78 @@ pub(crate) struct Line {
 pub(crate) struct Values {
     pub values: [u64; 9],
     pub count: usize,
-    pub good: bool,
 }
 
 // One more digit.
-fn next_digit(before: u64, byte: u8) -> Digits
+fn next_digit(before: u64, byte: u8) -> Option<u64>
     ensures { result ≡ next_digit before byte }
 {
     if byte < b'0' || b'9' < byte || FULL < before {
-        return Digits::Bad;
+        return None;
     }
-    Digits::Value(before * 10 + (words::wide(byte) - 48))
+    Some(before * 10 + (words::wide(byte) - 48))
 }
 
-fn digits_of(s: &[u8]) -> Digits
+// The digits of a number, without its sign.
+fn digits_of(s: &[u8]) -> Option<u64>
     ensures { result ≡ digits_of s.now }
 {
+    if s.is_empty() {
+        return None;
+    }
     let mut value = 0;
-    let mut i = 0;
-    while i < s.len() {
-        let Digits::Value(v) = next_digit(value, s[i]) else {
-            return Digits::Bad;
-        };
-        value = v;
-        i += 1;
+    for byte in s {
+        value = next_digit(value, *byte)?;
     }
-    if i == 0 {
-        Digits::Bad
-    } else {
-        Digits::Value(value)
-    }
+    Some(value)
 }
 
-fn positive(d: Digits) -> Number
-    ensures { result ≡ positive d }
+fn positive(v: u64) -> Option<i64>
+    ensures { result ≡ positive v }
 {
-    let Digits::Value(v) = d else {
-        return Number::Bad;
-    };
     if v < 9223372036854775808 {
-        Number::Value(v as i64)
+        Some(v as i64)
     } else {
-        Number::Bad
+        None
     }
 }
 
-fn negative(d: Digits) -> Number
-    ensures { result ≡ negative d }
+fn negative(v: u64) -> Option<i64>
+    ensures { result ≡ negative v }
 {
-    let Digits::Value(v) = d else {
-        return Number::Bad;
-    };
     if v == 0 {
-        Number::Value(0)
+        Some(0)
     } else if v <= 9223372036854775808 {
-        Number::Value(-1 - ((v - 1) as i64))
+        Some(-1 - ((v - 1) as i64))
     } else {
-        Number::Bad
+        None
     }
 }
 
 // The i64 that the text spells.
-pub(crate) fn number_of(s: &[u8]) -> Number
+pub(crate) fn number_of(s: &[u8]) -> Option<i64>
     ensures { result ≡ spelled s.now }
 {
-    if s.len() == 0 {
-        return Number::Bad;
+    if s.is_empty() {
+        return None;
     }
     if s[0] == b'-' {
-        return negative(digits_of(&s[1..]));
+        return negative(digits_of(&s[1..])?);
     }
-    positive(digits_of(s))
+    positive(digits_of(s)?)
 }
 
 // Where the word that starts here ends: at a space, or at the end.
 pub(crate) fn word_end(s: &[u8], from: usize) -> usize
+    requires { from ≤ length s.now }
     ensures { result ≡ from + word_length (drop from s.now) }
 {
-    let mut i = from;
-    while i < s.len() {
+    for i in from..s.len() {
         if s[i] == b' ' {
             return i;
         }
-        i += 1;
     }
-    i
+    s.len()
 }
 
 fn same_bytes(a: &[u8], b: &[u8]) -> bool
@@ -178,50 +152,41 @@ pub(crate) fn wanted(k: Kind) -> usize
     }
 }
 
-fn no_values() -> Values
-    ensures { result ≡ no_values }
-{
-    Values {
-        values: [0; 9],
-        count: 0,
-        good: false,
-    }
-}
-
 // The numbers from the space on that stands here.
-fn values_from(s: &[u8], from: usize) -> Values
+fn values_from(s: &[u8], from: usize) -> Option<Values>
     ensures { result ≡ values_of (words_after from s.now) zeros 0 }
 {
     let mut values = [0u64; 9];
     let mut count = 0;
     let mut at = from;
+    // A while: a turn goes on to the end of a word.
     while at < s.len() {
         let start = at + 1;
         at = word_end(s, start);
-        let Number::Value(v) = number_of(&s[start..at]) else {
-            return no_values();
-        };
+        let v = number_of(&s[start..at])?;
         if MOST <= count {
-            return no_values();
+            return None;
         }
         values[count] = word_of(v);
         count += 1;
     }
-    Values {
-        values,
-        count,
-        good: true,
+    Some(Values { values, count })
+}
+
+fn bad_line() -> Line
+    ensures { result ≡ wrong_line }
+{
+    Line {
+        values: [0; 9],
+        kind: Kind::Bad,
     }
 }
 
-// The kind, if the numbers are good and as many as it wants.
-fn kind_with(kind: Kind, v: Values) -> Kind
-    ensures { result ≡ kind_with kind v }
+// The kind, if the numbers are as many as it wants.
+fn kind_with(kind: Kind, count: usize) -> Kind
+    ensures { result ≡ kind_with kind count }
 {
-    if !v.good {
-        return Kind::Bad;
-    }
-    if v.count == wanted(kind) {
+    if count == wanted(kind) {
         kind
     } else {
         Kind::Bad
@@ -233,11 +198,13 @@ pub(crate) fn parsed(s: &[u8]) -> Line
 {
     let end = word_end(s, 0);
     let kind = kind_of(&s[..end]);
-    let v = values_from(s, end);
+    let Some(v) = values_from(s, end) else {
+        return bad_line();
+    };
     let values = v.values;
     Line {
         values,
-        kind: kind_with(kind, v),
+        kind: kind_with(kind, v.count),
     }
 }
 
@@ -246,10 +213,7 @@ pub(crate) fn line_of(buffer: &[u8], n: usize, cut: bool) -> Line
     ensures { result ≡ line_in buffer.now n cut }
 {
     if cut || buffer.len() < n {
-        return Line {
-            values: [0; 9],
-            kind: Kind::Bad,
-        };
+        return bad_line();
     }
     parsed(&buffer[..n])
 }

@@ -1,13 +1,16 @@
 -- The tests of equality on signed numbers and identifiers decide equality, at all values; and they are those of the words.
 -- Assumes nothing.
-use mathlib.Core.Path.{◌≡◌, refl, sym, ap}
-use mathlib.Core.Bool.{true, false, ◌&&◌, and-eq-true_iff, and-true, false≢true}
+use mathlib.Core.Path.{◌≡◌, refl, sym, ap, ◌∙◌}
+use mathlib.Core.Bool.{Bool, true, false, ◌&&◌, and_comm, and_assoc, and-eq-true_iff, false≢true}
 use Prim.Native.Nat.{ℕ, ◌<◌, ◌^◌}
 use native.Mathlib.Nat.{le_refl}
 use native.Mathlib.Omega.{arith}
 use borrow.Author.Tests.{leb-true, le-leb, eqb-true, eqb-false, eq-eqb}
 use lib.Dec.{leb, eqb}
 use lib.IntN.{ℤ, pos, negsuc}
+use Rattle.std.specs.Ordering.{int_eq}
+use Rattle.std.proofs.lemmas.Bool.Decides.{Decides-int_eq}
+use Rattle.std.specs.Bool.{one_answer}
 use Rattle.words.specs.Words.{signed}
 use Rattle.words.proofs.Tests.{by-test}
 use Rattle.words.proofs.Words.{signed-eq}
@@ -49,12 +52,6 @@ same-id-refl a = rw (eq-eqb a.conn a.conn refl, same-signed-refl a.session, same
 pub same-signed-no : (a b : ℤ) → (a ≡ b → ⊥) → same_signed a b ≡ false
 same-signed-no a b h = by-test (same_signed a b) (λ t. absurd (h (same-signed a b t))) (λ t. t)
 
-pub same-id-no : (a b : Id) → (a ≡ b → ⊥) → same_id a b ≡ false
-same-id-no a b h = by-test (same_id a b) (λ t. absurd (h (same_id_lem a b t))) (λ t. t)
-
-pub same-id-conn : (a b : Id) → a.session ≡ b.session → a.value ≡ b.value → same_id a b ≡ eqb a.conn b.conn
-same-id-conn a b p q = rw (p, q, same-signed-refl b.session, same-signed-refl b.value) (and-true (eqb a.conn b.conn))
-
 -- by the words that hold them
 pub same-signed-words : (v w : ℕ) → v < 2 ^ 64 → w < 2 ^ 64 → same_signed (signed v) (signed w) ≡ eqb v w
 same-signed-words v w h k = by-test (eqb v w)
@@ -64,3 +61,21 @@ same-signed-words v w h k = by-test (eqb v w)
 pub same-id-words : (a b c x y z : ℕ) → b < 2 ^ 64 → c < 2 ^ 64 → y < 2 ^ 64 → z < 2 ^ 64
     → same_id (id_of a b c) (id_of x y z) ≡ (eqb a x && (eqb b y && eqb c z))
 same-id-words a b c x y z hb hc hy hz = rw (same-signed-words b y hb hy, same-signed-words c z hc hz)
+
+-- `==` of identifiers as the code has it
+signed-equal : (a b : ℤ) → int_eq a b ≡ same_signed a b
+signed-equal a b = one_answer _ _ (Decides-int_eq a b) (same-signed a b, λ e. rw e (same-signed-refl b))
+
+pub id-equal : (a b : Id) → (int_eq a.value b.value && (int_eq a.session b.session && eqb a.conn b.conn)) ≡ same_id a b
+id-equal a b =
+    rw (signed-equal a.value b.value, signed-equal a.session b.session)
+    (and_comm v (s && c) ∙ ap (λ (x : Bool). x && v) (and_comm s c) ∙ and_assoc c s v)
+  where
+    v : Bool
+    v = same_signed a.value b.value
+
+    s : Bool
+    s = same_signed a.session b.session
+
+    c : Bool
+    c = eqb a.conn b.conn

@@ -1,2 +1,2 @@
 pub mod Model
-pub mod Packed
+pub mod Refusal

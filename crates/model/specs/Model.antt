@@ -42,7 +42,7 @@ ack_type k =
     else Other
 
 -- range and effect outside a transaction and in one, the reserved range of a consumer that left, what a removed entry counts as
-abbrev does : AckRange → AckEffect → AckRange → AckEffect → AckRange → AckCount → AckRule
+abbrev pub does : AckRange → AckEffect → AckRange → AckEffect → AckRange → AckCount → AckRule
 does range effect tx_range tx_effect reserved counts = record { range = range; effect = effect; tx_range = tx_range; tx_effect = tx_effect; reserved = reserved; counts = counts }
 
 -- Dest::ack and Dest::ack_reserved, by the type of the ack

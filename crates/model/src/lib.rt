@@ -2,15 +2,20 @@
 #![tactic(auto)]
 
 ghost use Rattle.std.specs.Prelude.{◌≡◌};
-ghost use Rattle.model.specs.Model.{new_id, id_of, same_id, ack_type, ack_rule};
-ghost use Rattle.model.specs.Packed.{rule_place, range_of, effect_of, count_of, unpacked};
+ghost use Rattle.model.specs.Model.{new_id, id_of, does, ack_type, rule_of, ack_rule};
+ghost use Rattle.model.specs.Refusal.{refusal_number};
+
+use AckCount::{DeadLetter, Dequeue, Expiry, Uncounted};
+use AckEffect::{Frees, Marks, Redelivers, Removes, Stays};
+use AckRange::{Between, Cumulative, Empty, Last};
 
 // ConsumerId and ProducerId: the host's numbers for their texts, one to one.
-#[derive(Clone, Copy)]
+// The value tells most identifiers apart, so it is compared first.
+#[derive(Clone, Copy, PartialEq, Eq)]
 pub struct Id {
-    pub conn: u64,
-    pub session: i64,
     pub value: i64,
+    pub session: i64,
+    pub conn: u64,
 }
 
 impl Id {
@@ -34,22 +39,48 @@ impl Id {
             value: words::signed_of(value),
         }
     }
+}
 
-    // The value tells most identifiers apart, so it is looked at first.
-    pub fn same(self, other: Id) -> bool
-        ensures { result ≡ same_id self other }
-    {
-        if self.value != other.value {
-            return false;
+// Why a call is refused.
+#[derive(Clone, Copy, PartialEq, Eq)]
+pub enum Refusal {
+    Short,
+    NotSound,
+    Arguments,
+    NumberHeld,
+    RowsFull,
+    ConsumerHere,
+    ConsumersFull,
+    ProducersFull,
+    CallsUsedUp,
+    NotOpen,
+    ShareUsedUp,
+    ReadingsTurned,
+}
+
+// Its number in the papers; 0 is for a call that is not refused.
+impl From<Refusal> for u64 {
+    ghost from_gives = { λ r n. n ≡ refusal_number r };
+
+    fn from(refusal: Refusal) -> u64 {
+        match refusal {
+            Refusal::Short => 1,
+            Refusal::NotSound => 2,
+            Refusal::Arguments => 3,
+            Refusal::NumberHeld => 4,
+            Refusal::RowsFull => 5,
+            Refusal::ConsumerHere => 6,
+            Refusal::ConsumersFull => 7,
+            Refusal::ProducersFull => 8,
+            Refusal::CallsUsedUp => 9,
+            Refusal::NotOpen => 10,
+            Refusal::ShareUsedUp => 14,
+            Refusal::ReadingsTurned => 17,
         }
-        if self.session != other.session {
-            return false;
-        }
-        self.conn == other.conn
     }
 }
 
-#[derive(Clone, Copy)]
+#[derive(Clone, Copy, PartialEq, Eq)]
 pub enum AckType {
     Delivered,
     Poison,
@@ -76,12 +107,27 @@ impl AckType {
 
     pub const EXPIRED: u8 = 6;
 
-    // How many types have a name: the bytes below it.
-    pub const NAMED: u8 = 7;
-
-    pub fn new(byte: u8) -> AckType
-        ensures { result ≡ ack_type byte }
+    fn rule(self) -> AckRule
+        ensures { result ≡ rule_of self }
     {
+        match self {
+            AckType::Delivered => does(Between, Frees, Between, Frees, Empty, Uncounted),
+            AckType::Poison => does(Between, Removes, Between, Marks, Between, DeadLetter),
+            AckType::Standard => does(Cumulative, Removes, Cumulative, Marks, Cumulative, Dequeue),
+            AckType::Redelivered => does(Between, Redelivers, Between, Marks, Empty, Uncounted),
+            AckType::Individual => does(Last, Removes, Last, Marks, Last, Dequeue),
+            AckType::Unmatched => does(Cumulative, Removes, Cumulative, Marks, Cumulative, Dequeue),
+            AckType::Expired => does(Between, Removes, Between, Marks, Between, Expiry),
+            AckType::Other => does(Empty, Stays, Between, Marks, Empty, Uncounted),
+        }
+    }
+}
+
+impl From<u8> for AckType {
+    ghost from_gives = { λ byte kind. kind ≡ ack_type byte };
+
+    #[tactic(auto, unfolding(crate::specs::Model::ack_type))]
+    fn from(byte: u8) -> AckType {
         match byte {
             AckType::DELIVERED => AckType::Delivered,
             AckType::POISON => AckType::Poison,
@@ -93,26 +139,10 @@ impl AckType {
             _ => AckType::Other,
         }
     }
-
-    // The place of a type's rule: its constant; after those for a byte without a name.
-    fn place(self) -> u8
-        ensures { result ≡ rule_place self }
-    {
-        match self {
-            AckType::Delivered => AckType::DELIVERED,
-            AckType::Poison => AckType::POISON,
-            AckType::Standard => AckType::STANDARD,
-            AckType::Redelivered => AckType::REDELIVERED,
-            AckType::Individual => AckType::INDIVIDUAL,
-            AckType::Unmatched => AckType::UNMATCHED,
-            AckType::Expired => AckType::EXPIRED,
-            AckType::Other => AckType::NAMED,
-        }
-    }
 }
 
 // Which entries an ack means: none, those from its first to its last, all up to its last, its last alone.
-#[derive(Clone, Copy)]
+#[derive(Clone, Copy, PartialEq, Eq)]
 pub enum AckRange {
     Empty,
     Between,
@@ -120,22 +150,9 @@ pub enum AckRange {
     Last,
 }
 
-impl AckRange {
-    fn of(digit: u32) -> AckRange
-        ensures { result ≡ range_of digit }
-    {
-        match digit {
-            0 => AckRange::Empty,
-            1 => AckRange::Between,
-            2 => AckRange::Cumulative,
-            _ => AckRange::Last,
-        }
-    }
-}
-
 // What becomes of such an entry in flight: it stays, is freed, is freed and marked as acknowledged in a transaction,
 // is removed, or counts one more redelivery.
-#[derive(Clone, Copy)]
+#[derive(Clone, Copy, PartialEq, Eq)]
 pub enum AckEffect {
     Stays,
     Frees,
@@ -144,22 +161,8 @@ pub enum AckEffect {
     Redelivers,
 }
 
-impl AckEffect {
-    fn of(digit: u32) -> AckEffect
-        ensures { result ≡ effect_of digit }
-    {
-        match digit {
-            0 => AckEffect::Stays,
-            1 => AckEffect::Frees,
-            2 => AckEffect::Marks,
-            3 => AckEffect::Removes,
-            _ => AckEffect::Redelivers,
-        }
-    }
-}
-
 // What a removed entry counts as; a dead letter that is not persistent is discarded.
-#[derive(Clone, Copy)]
+#[derive(Clone, Copy, PartialEq, Eq)]
 pub enum AckCount {
     Uncounted,
     Dequeue,
@@ -167,21 +170,8 @@ pub enum AckCount {
     DeadLetter,
 }
 
-impl AckCount {
-    fn of(digit: u32) -> AckCount
-        ensures { result ≡ count_of digit }
-    {
-        match digit {
-            0 => AckCount::Uncounted,
-            1 => AckCount::Dequeue,
-            2 => AckCount::Expiry,
-            _ => AckCount::DeadLetter,
-        }
-    }
-}
-
 // What an ack of some type does.
-#[derive(Clone, Copy)]
+#[derive(Clone, Copy, PartialEq, Eq)]
 pub struct AckRule {
     // Of a present consumer, outside a transaction.
     pub range: AckRange,
@@ -194,38 +184,32 @@ pub struct AckRule {
     pub counts: AckCount,
 }
 
-impl AckRule {
-    // Six hexadecimal digits for each ack type that has a name, at its constant: range and effect, the same in a transaction, reserved, counts.
-    const TABLE: [u32; 7] = [
-        0x11_11_00, 0x13_12_13, 0x23_22_21, 0x14_12_00, 0x33_32_31, 0x23_22_21, 0x13_12_12,
-    ];
-
-    // The same for all others.
-    const OTHER: u32 = 0x00_12_00;
-
-    // The rule at a place, as its six digits.
-    fn packed(place: u8) -> u32
-        ensures { unpacked result ≡ ack_rule place }
-    {
-        if place < AckType::NAMED {
-            AckRule::TABLE[place as usize]
-        } else {
-            AckRule::OTHER
-        }
+fn does(
+    range: AckRange,
+    effect: AckEffect,
+    tx_range: AckRange,
+    tx_effect: AckEffect,
+    reserved: AckRange,
+    counts: AckCount,
+) -> AckRule
+    ensures { result ≡ does range effect tx_range tx_effect reserved counts }
+{
+    AckRule {
+        range,
+        effect,
+        tx_range,
+        tx_effect,
+        reserved,
+        counts,
     }
+}
 
+impl AckRule {
+    // What an ack with this type byte does.
+    #[tactic(auto, unfolding(crate::specs::Model::ack_rule))]
     pub fn of(byte: u8) -> AckRule
         ensures { result ≡ ack_rule byte }
     {
-        let kind = AckType::new(byte);
-        let rule = AckRule::packed(kind.place());
-        AckRule {
-            range: AckRange::of(rule / 0x10_0000 % 16),
-            effect: AckEffect::of(rule / 0x1_0000 % 16),
-            tx_range: AckRange::of(rule / 0x1000 % 16),
-            tx_effect: AckEffect::of(rule / 0x100 % 16),
-            reserved: AckRange::of(rule / 0x10 % 16),
-            counts: AckCount::of(rule % 16),
-        }
+        AckType::from(byte).rule()
     }
 }

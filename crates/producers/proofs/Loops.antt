@@ -1,6 +1,10 @@
 -- The loops over groups of words, a turn at a time: k of n groups are behind, and the next stands at a place. Assumes nothing.
 use mathlib.Core.Path.{◌≡◌, refl, sym, ap, ap₂, ◌∙◌}
-use mathlib.Core.Bool.{Bool, true, false}
+use mathlib.Core.Bool.{Bool, true, false, true≢false}
+use Rattle.std.specs.Prelude.{Option, Some, None, MatchOption}
+use Rattle.std.specs.Option.{is_some}
+use borrow.Author.Tests.{lt-ltb, le-ltb}
+use lib.Dec.{ltb}
 use mathlib.Core.List.{List, ◌++◌}
 use Prim.Native.Nat.{ℕ, suc, ◌+◌, ◌-◌, ◌*◌, ◌≤◌, ◌<◌}
 use native.Mathlib.Omega.{arith}
@@ -175,3 +179,13 @@ module _ (p : List ℕ → Bool) (w n at : ℕ) (h₀ : List ℕ) where
 
   pub packing-ends : (h : List ℕ) (from to kept k : ℕ) → Packing p w n at h₀ h from to kept k → n ≤ k → (kept ≡ kept_count p w n (drop at h₀)) × (h ≡ packed p at w n h₀)
   packing-ends h from to kept k i b = (sym (count-end p w n k from kept h b) ∙ i.count, sym (pack-end p w n k from to h b) ∙ i.words)
+
+-- ---- whether one was found
+
+pub some-below : (r : Option ℕ) (n first : ℕ) → MatchOption r (n ≡ first) (λ k. (k < n) × (k ≡ first)) → is_some r ≡ true → ltb first n ≡ true
+some-below (Some k) n first h t = lt-ltb first n (omega (arith, h.0, h.1))
+some-below None n first h t = absurd (true≢false (sym t))
+
+pub none-below : (r : Option ℕ) (n first : ℕ) → MatchOption r (n ≡ first) (λ k. (k < n) × (k ≡ first)) → is_some r ≡ false → ltb first n ≡ false
+none-below (Some k) n first h t = absurd (true≢false t)
+none-below None n first h t = le-ltb first n (omega (arith, h))

@@ -13,7 +13,6 @@ use Rattle.audit.specs.declared.Audit as Ring
 use Rattle.model.specs.declared.Id.{Id}
 use Rattle.definition.specs.Types.{Audit}
 use Rattle.definition.specs.Destination.{is_producer}
-use Rattle.definition.specs.Words.{at}
 use Rattle.definition.specs.Layout.{id_at, ids_at, ring_at, audits_at, rings_formed}
 use Rattle.definition.proofs.Tests.{by-test}
 use Rattle.definition.proofs.Thin.{every-all}

@@ -300,6 +300,10 @@ module _ (i : Id) (q : ℕ) (d : Head) (h : List ℕ) where
             done = λ _ r subs rows _ _. ap₂ (λ (x : List Id) (y : List Audit). head_view d₁ subs rows x y) ids-new (audits-new r) ∙ sym (ap (λ (a : Answer). a.dest) (tested-by i q (head_dest d h subs rows) c none missing));
           }
 
+          -- a new audit is in range, so that nothing is refused
+          pub fresh-accepted : (checked_at n q d₁ h₁).result.refusal ≡ 0
+          fresh-accepted = ap (λ (x : HeadLeft). x.result.refusal) (checked-is n (n + 1) q h₁ one few₁ long₁ ok₁ d₁)
+
           pub fresh-performs : PerformsInHead (testing i q) d h (checked_at n q d₁ h₁).result (checked_at n q d₁ h₁).words
           fresh-performs = subst (λ (x : HeadLeft). PerformsInHead (testing i q) d h x.result x.words) (sym (checked-is n (n + 1) q h₁ one few₁ long₁ ok₁ d₁)) fresh
 

@@ -1,11 +1,12 @@
 -- Words written from a place on: what stands before them, at their place and after them. Assumes nothing.
 use mathlib.Core.Path.{◌≡◌, refl, sym, ap, ap₂, ◌∙◌}
 use mathlib.Core.List.{List, [], ◌∷◌, ◌++◌, append_assoc}
-use Prim.Native.Nat.{ℕ, suc, ◌+◌, ◌≤◌, ◌<◌}
+use Prim.Native.Nat.{ℕ, suc, ◌+◌, ◌-◌, ◌≤◌}
 use native.Mathlib.Omega.{arith}
 use lib.ListN.{length, take, drop, get_or, set, length-append, length-drop, take-append-drop}
-use lib.Seq.{slice, slice_empty, length-slice, length-take-le, drop-drop, drop_at, take_at, take-add, get_or-drop, sets-eq}
-use Rattle.table.proofs.Lists.{written, written_none, written-length, written_at, written-drop, written-more, written_low, slice_snoc}
+use lib.Seq.{slice, length-slice, length-take-le, drop-drop, drop_at, take_at, take-add, get_or-drop, sets-eq}
+use Rattle.table.proofs.Lists.{slice-take, written, written-length, written-drop, written_low}
+use Rattle.std.specs.List.{copy_within}
 use Rattle.model.specs.Model.{id_of}
 use Rattle.definition.specs.Layout.{id_at}
 use Rattle.producers.specs.Groups.{written_from}
@@ -37,6 +38,12 @@ module _ (at : ℕ) (l h : List ℕ) where
       ∙ ap (drop n) (append_assoc (take n h) (take m (drop n h)) (l ++ drop (at + length l) h))
       ∙ drop_at (take n h) (take m (drop n h) ++ (l ++ drop (at + length l) h)) n t
       ∙ ap (λ (x : List ℕ). take m (drop n h) ++ (l ++ x)) d
+
+-- what `copy_within` leaves
+pub copied_to : (at from to : ℕ) (h : List ℕ) → from ≤ to → to ≤ length h → copy_within h from to at ≡ written_from at (slice from to h) h
+copied_to at from to h e b =
+    append_assoc (take at h) (take (to - from) (drop from h)) (drop (at + (to - from)) h)
+    ∙ ap₂ (λ (l : List ℕ) (n : ℕ). take at h ++ (l ++ drop (at + n) h)) (sym (slice-take from to h e)) (sym (length-slice from to h b))
 
 -- nothing written
 pub over_none : (at : ℕ) (h : List ℕ) → written_from at [] h ≡ h
@@ -70,37 +77,11 @@ over-back at n m l h e b =
     let t : length (take n (drop at h)) ≡ n = length-take-le n (drop at h) (omega (arith, length-drop at h)) in
     sym (sym (over-join at m (take n (drop at h)) l h (omega arith) b) ∙ ap (written_from m l) (over-same at n h (omega arith)))
 
--- three stores and two
-pub three-stores : (h : List ℕ) (at a b c : ℕ) → at + 3 ≤ length h → set (set (set h at a) (at + 1) b) (at + 2) c ≡ written_from at (a ∷ b ∷ c ∷ []) h
-three-stores h at a b c s =
-    let e : at + 1 ≡ suc at = omega arith in
-    let f : at + 2 ≡ suc (suc at) = omega arith in
-    rw (e, f) (sets-eq (a ∷ b ∷ c ∷ []) h at s ∙ append_assoc (take at h) (a ∷ b ∷ c ∷ []) (drop (at + 3) h))
-
+-- two stores
 pub two-stores : (h : List ℕ) (at n m a b : ℕ) → n ≡ at → m ≡ at + 1 → at + 2 ≤ length h → set (set h n a) m b ≡ written_from at (a ∷ b ∷ []) h
 two-stores h at n m a b p q s =
     let f : m ≡ suc at = omega arith in
     rw (p, f) (sets-eq (a ∷ b ∷ []) h at s ∙ append_assoc (take at h) (a ∷ b ∷ []) (drop (at + 2) h))
-
--- ---- words that move down: i is where the next stands, and j where it goes
-
-pub moved_none : (at from : ℕ) (h : List ℕ) → h ≡ written at (slice from from h) at h
-moved_none at from h = written_none at h ∙ ap (λ (x : List ℕ). written at x at h) (sym (slice_empty from h))
-
-pub moved-turn : (h now : List ℕ) (at from i j : ℕ) → from ≤ i → at + i ≡ j + from → j ≤ i → i < length h → now ≡ written at (slice from i h) j h
-    → set now j (get_or now i 0) ≡ written at (slice from (i + 1) h) (j + 1) h
-moved-turn h now at from i j f e a b q =
-    let m : List ℕ = slice from i h in
-    let w : at + length m ≡ j = omega (arith, length-slice from i h (omega arith)) in
-    ap (λ (x : List ℕ). set x j (get_or x i 0)) q
-    ∙ ap (set (written at m j h) j) (written_at at j m h w i 0 a (omega arith))
-    ∙ written-more at j m h w (get_or h i 0) (omega arith)
-    ∙ ap (λ (x : List ℕ). written at x (j + 1) h) (sym (slice_snoc from i h 0 f b))
-
-pub moved_all : (h now : List ℕ) (at from to j : ℕ) → from ≤ to → at + to ≡ j + from → to ≤ length h → now ≡ written at (slice from to h) j h → now ≡ written_from at (slice from to h) h
-moved_all h now at from to j f e b q =
-    let n : j ≡ at + length (slice from to h) = omega (arith, length-slice from to h b) in
-    q ∙ ap (λ (k : ℕ). written at (slice from to h) k h) n ∙ sym (over-written at (slice from to h) h)
 
 -- ---- words from a place on
 

@@ -12,7 +12,7 @@ use Rattle.definition.specs.Destination.{is_producer}
 use Rattle.definition.specs.Calls.{Call, own_refusal, perform}
 use Rattle.definition.specs.Layout.{Row, sub_rows, ids_at, ring_at, audits_at, rings_formed}
 use Rattle.state.specs.declared.Head.{Head}
-use Rattle.state.specs.declared.Answer.{Answer}
+use Rattle.state.specs.Answers.{Replied}
 use Rattle.state.specs.State.{head_view, with_producer_count, with_audit_count, with_idle_mark, not_idle, touched, refused_as, done_as}
 use Rattle.producers.specs.Groups.{has_id, stays, first_of, kept_count, written_from, packed, id_words, new_words}
 
@@ -22,10 +22,10 @@ head_fits words d = every (leb 8347 words ∷ leb d.producers 32 ∷ leb d.audit
 
 -- a result, and the head's words
 pub record HeadLeft : Type 0 where
-  pub result : Answer
+  pub result : Replied
   pub words : List ℕ
 
-abbrev pub head_left : Answer → List ℕ → HeadLeft
+abbrev pub head_left : Replied → List ℕ → HeadLeft
 head_left r k = record { result = r; words = k }
 
 -- ---- word by word
@@ -77,7 +77,7 @@ abbrev pub head_dest : Head → List ℕ → List Row → List Row → Dest
 head_dest d h subs rows = head_view d subs rows (ids_at d.producers (drop 17 h)) (audits_at d.audits (drop 113 h))
 
 -- where the audits' rings are in range: refused as the call is, or done as the call is, on any tables that have room for the counts
-pub record PerformsInHead (c : Call) (d : Head) (h : List ℕ) (r : Answer) (k : List ℕ) : Type 0 where
+pub record PerformsInHead (c : Call) (d : Head) (h : List ℕ) (r : Replied) (k : List ℕ) : Type 0 where
   pub long : length k ≡ length h
   pub others : r.head ≡ with_idle_mark r.head.idle r.head.idle_since (with_producer_count r.head.producers (with_audit_count r.head.audits d))
   pub kept : (r.refusal ≡ 0 → ⊥) → head_left r k ≡ head_left (refused_as r.refusal d) h
@@ -91,6 +91,6 @@ pub record PerformsInHead (c : Call) (d : Head) (h : List ℕ) (r : Answer) (k :
       → head_dest r.head k subs rows ≡ (perform (head_dest d h subs rows) c).dest
 
 -- both
-pub record Promised (c : Call) (all : HeadLeft) (d : Head) (h : List ℕ) (r : Answer) (k : List ℕ) : Type 0 where
+pub record Promised (c : Call) (all : HeadLeft) (d : Head) (h : List ℕ) (r : Replied) (k : List ℕ) : Type 0 where
   pub exact : head_left r k ≡ all
   pub performs : PerformsInHead c d h r k

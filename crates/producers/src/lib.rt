@@ -1,15 +1,16 @@
 // Producers and their audits, in the head's words (`producers` and `audit` of destination.rs, `State`).
 #![tactic(auto)]
 
-ghost use Rattle.std.specs.Prelude.{◌≡◌, ◌+◌, ◌*◌, ◌≤◌, ◌<◌, length, drop};
+ghost use Rattle.std.specs.Prelude.{◌≡◌, ◌+◌, ◌*◌, ◌≤◌, ◌<◌, length, drop, MatchOption};
 ghost use Rattle.std.proofs.Math.Seq.{slice};
 ghost use Rattle.definition.specs.Calls.{adding, removing, testing, forgetting};
+ghost use Rattle.state.specs.Answers.{told};
 ghost use Rattle.producers.specs.Groups.{has_id, goes, stays, first_of, kept_count, written_from, packed, id_words, new_words};
 ghost use Rattle.producers.specs.Producers.{head_fits, head_left, added, producer_removed, checked_at, tested, released, Promised};
 
 use audit::Audit;
-use model::Id;
-use state::{Answer, Head};
+use model::{Id, Refusal};
+use state::{Answer, Answered, Head};
 
 // The producers' identifiers, three words each.
 const PRODUCER_TABLE: usize = 17;
@@ -29,13 +30,7 @@ const AUDITS: usize = 8;
 fn fits(words: usize, d: Head) -> bool
     ensures { result ≡ head_fits words d }
 {
-    if words < state::HEAD_WORDS {
-        return false;
-    }
-    if PRODUCERS < d.producers {
-        return false;
-    }
-    d.audits <= AUDITS
+    state::HEAD_WORDS <= words && d.producers <= PRODUCERS && d.audits <= AUDITS
 }
 
 // ---- groups of words, each of which begins with an identifier
@@ -45,7 +40,7 @@ fn same_at(head: &[u64], at: usize, id: Id) -> bool
     requires { at + 3 ≤ length head.now }
     ensures { result ≡ has_id id (drop at head.now) }
 {
-    Id::of_words(head[at], head[at + 1], head[at + 2]).same(id)
+    Id::of_words(head[at], head[at + 1], head[at + 2]) == id
 }
 
 // Whether it is to go: the whole identifier is the same, or its connection.
@@ -59,35 +54,19 @@ fn goes_at(head: &[u64], at: usize, id: Id, whole: bool) -> bool
     head[at] == id.conn
 }
 
-// Which of n groups is the first with an identifier; n where none is.
-fn find(head: &[u64], at: usize, width: usize, n: usize, id: Id) -> usize
+// Which of n groups is the first with an identifier.
+fn find(head: &[u64], at: usize, width: usize, n: usize, id: Id) -> Option<usize>
     requires { (3 ≤ width) × (at + n * width ≤ length head.now) }
-    ensures { result ≡ first_of (has_id id) width n (drop at head.now) }
+    ensures { MatchOption result (n ≡ first_of (has_id id) width n (drop at head.now)) (λ k. (k < n) × (k ≡ first_of (has_id id) width n (drop at head.now))) }
 {
     let mut from = at;
-    let mut k = 0;
-    while k < n {
+    for k in 0..n {
         if same_at(head, from, id) {
-            return k;
+            return Some(k);
         }
         from += width;
-        k += 1;
     }
-    k
-}
-
-// The words from..to move down to a place.
-fn move_words(head: &mut [u64], from: usize, to: usize, at: usize)
-    requires { (at ≤ from) × (from ≤ to) × (to ≤ length head.old) }
-    ensures { head.new ≡ written_from at (slice from to head.old) head.old }
-{
-    let mut i = from;
-    let mut j = at;
-    while i < to {
-        head[j] = head[i];
-        i += 1;
-        j += 1;
-    }
+    None
 }
 
 // Of n groups those that stay stand one after the other, in order; how many there are.
@@ -98,19 +77,14 @@ fn pack(head: &mut [u64], at: usize, width: usize, n: usize, id: Id, whole: bool
     let mut from = at;
     let mut to = at;
     let mut kept = 0;
-    let mut k = 0;
-    while k < n {
+    for _ in 0..n {
         let next = from + width;
-        if goes_at(head, from, id, whole) {
-            from = next;
-            k += 1;
-        } else {
-            move_words(head, from, next, to);
-            from = next;
+        if !goes_at(head, from, id, whole) {
+            head.copy_within(from..next, to);
             to += width;
             kept += 1;
-            k += 1;
         }
+        from = next;
     }
     kept
 }
@@ -121,45 +95,52 @@ fn put_id(head: &mut [u64], at: usize, id: Id)
 {
     let session = words::word_of(id.session);
     let value = words::word_of(id.value);
-    head[at] = id.conn;
-    head[at + 1] = session;
-    head[at + 2] = value;
+    head[at..at + 3].copy_from_slice(&[id.conn, session, value]);
 }
 
 // ---- producers
 
 // Registers a producer. Refused with 8; where the numbers do not fit the head, with 2.
 pub fn add_producer(head: &mut [u64], mut d: Head, id: Id) -> Answer
-    ensures { Promised (adding id) (added id d head.old) d head.old result head.new }
+    ensures { Promised (adding id) (added id d head.old) d head.old (told d result) head.new }
 {
     if !fits(head.len(), d) {
-        return Answer::refused(2, d);
+        return Err(Refusal::NotSound);
     }
     let n = d.producers;
-    let k = find(head, PRODUCER_TABLE, PRODUCER_WORDS, n, id);
-    if k < n {
-        return Answer::done(0, d.not_idle());
+    let known = find(head, PRODUCER_TABLE, PRODUCER_WORDS, n, id);
+    if known.is_some() {
+        return Ok(Answered {
+            answer: 0,
+            head: d.not_idle(),
+        });
     }
     if PRODUCERS <= n {
-        return Answer::refused(8, d);
+        return Err(Refusal::ProducersFull);
     }
     put_id(head, PRODUCER_TABLE + n * PRODUCER_WORDS, id);
     d.producers = n + 1;
-    Answer::done(0, d.not_idle())
+    Ok(Answered {
+        answer: 0,
+        head: d.not_idle(),
+    })
 }
 
 // Takes a producer and its audit away. Where the numbers do not fit the head, refused with 2.
 pub fn remove_producer(head: &mut [u64], mut d: Head, id: Id, clock: u64) -> Answer
-    ensures { Promised (removing id clock) (producer_removed clock id d head.old) d head.old result head.new }
+    ensures { Promised (removing id clock) (producer_removed clock id d head.old) d head.old (told d result) head.new }
 {
     if !fits(head.len(), d) {
-        return Answer::refused(2, d);
+        return Err(Refusal::NotSound);
     }
     let n = d.producers;
     let m = d.audits;
     d.producers = pack(head, PRODUCER_TABLE, PRODUCER_WORDS, n, id, true);
     d.audits = pack(head, AUDIT_TABLE, AUDIT_WORDS, m, id, true);
-    Answer::done(0, d.touch_idle(clock))
+    Ok(Answered {
+        answer: 0,
+        head: d.touch_idle(clock),
+    })
 }
 
 // ---- audits
@@ -167,7 +148,7 @@ pub fn remove_producer(head: &mut [u64], mut d: Head, id: Id, clock: u64) -> Ans
 // `check_and_record` on the audit at a place.
 fn check_at(head: &mut [u64], d: Head, k: usize, number: u64) -> Answer
     requires { (k < 8) × (8347 ≤ length head.old) }
-    ensures { head_left result head.new ≡ checked_at k number d head.old }
+    ensures { head_left (told d result) head.new ≡ checked_at k number d head.old }
 {
     let at = AUDIT_TABLE + k * AUDIT_WORDS;
     let a = Audit {
@@ -178,12 +159,15 @@ fn check_at(head: &mut [u64], d: Head, k: usize, number: u64) -> Answer
     let to = at + AUDIT_WORDS;
     let r = audit::check_and_record(&mut head[from..to], a, number);
     if r.refusal != 0 {
-        return Answer::refused(r.refusal, d);
+        return Err(Refusal::NotSound);
     }
     let b = r.audit;
     head[at + 3] = b.start as u64;
     head[at + 4] = b.count as u64;
-    Answer::done(r.duplicate as u64, d)
+    Ok(Answered {
+        answer: r.duplicate as u64,
+        head: d,
+    })
 }
 
 // A new audit at the end of the table.
@@ -201,21 +185,20 @@ fn new_audit(head: &mut [u64], k: usize, id: Id)
 // Whether a producer already sent a number lately; connection 0 is no producer. Refused with 8; where the numbers or an
 // audit do not fit the head, with 2.
 pub fn is_duplicate(head: &mut [u64], mut d: Head, id: Id, number: u64) -> Answer
-    ensures { Promised (testing id number) (tested id number d head.old) d head.old result head.new }
+    ensures { Promised (testing id number) (tested id number d head.old) d head.old (told d result) head.new }
 {
     if !fits(head.len(), d) {
-        return Answer::refused(2, d);
+        return Err(Refusal::NotSound);
     }
     if id.conn == 0 {
-        return Answer::done(0, d);
+        return Ok(Answered { answer: 0, head: d });
     }
     let n = d.audits;
-    let k = find(head, AUDIT_TABLE, AUDIT_WORDS, n, id);
-    if k < n {
+    if let Some(k) = find(head, AUDIT_TABLE, AUDIT_WORDS, n, id) {
         return check_at(head, d, k, number);
     }
     if AUDITS <= n {
-        return Answer::refused(8, d);
+        return Err(Refusal::ProducersFull);
     }
     new_audit(head, n, id);
     d.audits = n + 1;
@@ -224,13 +207,13 @@ pub fn is_duplicate(head: &mut [u64], mut d: Head, id: Id, number: u64) -> Answe
 
 // Forgets the audits of a connection. Where the numbers do not fit the head, refused with 2.
 pub fn release_audits(head: &mut [u64], mut d: Head, conn: u64) -> Answer
-    ensures { Promised (forgetting conn) (released conn d head.old) d head.old result head.new }
+    ensures { Promised (forgetting conn) (released conn d head.old) d head.old (told d result) head.new }
 {
     if !fits(head.len(), d) {
-        return Answer::refused(2, d);
+        return Err(Refusal::NotSound);
     }
     let n = d.audits;
     let of = Id::new(conn, 0, 0);
     d.audits = pack(head, AUDIT_TABLE, AUDIT_WORDS, n, of, false);
-    Answer::done(0, d)
+    Ok(Answered { answer: 0, head: d })
 }

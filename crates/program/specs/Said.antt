@@ -1,6 +1,7 @@
 -- What a program says of itself: a message begins with its name. Assumes nothing.
-use Rattle.std.specs.Prelude.{ℕ, ◌≤◌, ◌≡◌, Bool, true, List, [], ◌∷◌, ◌++◌, eqb, length}
-use Rattle.words.specs.Pick.{whether◌then◌else◌}
+use Rattle.std.specs.Prelude.{ℕ, ◌≤◌, ◌≡◌, Bool, true, List, [], ◌∷◌, ◌++◌, length}
+use Rattle.program.specs.declared.Looks.{Looks}
+use Rattle.program.specs.declared.Looks.TheVariants.{Calls, Marked, Text, Other}
 
 -- `NAME: TEXT`
 abbrev pub headed : List ℕ → List ℕ → List ℕ
@@ -23,5 +24,8 @@ abbrev pub other_hint : List ℕ
 other_hint = 116 ∷ 104 ∷ 101 ∷ 32 ∷ 105 ∷ 110 ∷ 112 ∷ 117 ∷ 116 ∷ 32 ∷ 105 ∷ 115 ∷ 32 ∷ 110 ∷ 111 ∷ 32 ∷ 99 ∷ 97 ∷ 108 ∷ 108 ∷ 32 ∷ 102 ∷ 105 ∷ 108 ∷ 101 ∷ 44 ∷ 32 ∷ 111 ∷ 114 ∷ 32 ∷ 97 ∷ 32 ∷ 100 ∷ 97 ∷ 109 ∷ 97 ∷ 103 ∷ 101 ∷ 100 ∷ 32 ∷ 111 ∷ 110 ∷ 101 ∷ 10 ∷ []
 
 -- what is said of an input that begins with no block, by what it looks like
-unfoldable pub hint_text : ℕ → List ℕ
-hint_text kind = whether eqb kind 1 then marked_hint else whether eqb kind 2 then text_hint else other_hint
+unfoldable pub hint_text : Looks → List ℕ
+hint_text Calls = other_hint
+hint_text Marked = marked_hint
+hint_text Text = text_hint
+hint_text Other = other_hint

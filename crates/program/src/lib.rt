@@ -3,6 +3,7 @@
 #![tactic(auto)]
 
 ghost use Rattle.std.specs.Prelude.{◌≡◌, true, ◌+◌, ◌≤◌, leb, length, IfOk, is_ok};
+ghost use Rattle.reading.specs.declared.How.TheVariants.{Again};
 ghost use Rattle.reading.specs.Read.{ReadInto};
 ghost use Rattle.callfile.specs.Placed.{Puts, PutLine};
 ghost use Rattle.program.specs.Said.{headed, Written, hint_text};
@@ -17,45 +18,38 @@ use std::rt::{Env, Stdin};
 use std::{io, str};
 
 // What an argument asks for.
-pub const FILE: u64 = 1;
+#[derive(Clone, Copy)]
+pub enum Asks {
+    File,
+    Help,
+    Wrong,
+}
 
-pub const HELP: u64 = 2;
-
-pub const WRONG: u64 = 3;
-
-// Where a program reads from: OPENED, with an input; NOTHING where the usage was asked for, and FAILED where there is no such file or the arguments are wrong.
-pub const OPENED: u64 = 0;
-
-pub const NOTHING: u64 = 1;
-
-pub const FAILED: u64 = 2;
-
-// Standard input, a file that was opened, or neither: a read of that fails.
+// Standard input, or a file that was opened.
 #[derive(Drop)]
 pub enum Input {
     Stdin(Stdin),
     File(File),
-    Closed,
 }
 
+// Where a program reads from: an input that is open, none where the usage was asked for, or none where there is no such file or the arguments are wrong.
 #[derive(Drop)]
-pub struct Source {
-    pub input: Input,
-    pub how: u64,
+pub enum Source {
+    Opened(Input),
+    Nothing,
+    Failed,
 }
 
 // What a file looks like.
-pub const CALLS: u64 = 0;
+#[derive(Clone, Copy)]
+pub enum Looks {
+    Calls,
+    Marked,
+    Text,
+    Other,
+}
 
-pub const MARKED: u64 = 1;
-
-pub const TEXT: u64 = 2;
-
-pub const OTHER: u64 = 3;
-
-// The system's numbers of a descriptor that is not open, an argument that is not there, one that is too long, and one that is no UTF-8.
-const EBADF: i32 = 9;
-
+// The system's numbers of an argument that is not there, one that is too long, and one that is no UTF-8.
 const EINVAL: i32 = 22;
 
 const ENAMETOOLONG: i32 = 36;
@@ -69,7 +63,6 @@ impl Read for Input {
         match self {
             Input::Stdin(stdin) => stdin.read(buf),
             Input::File(file) => file.read(buf),
-            Input::Closed => Err(io::Error::from_raw_os_error(EBADF)),
         }
     }
 }
@@ -80,13 +73,11 @@ impl Read for Input {
 fn write_some<W: Write>(to: &mut W, part: &[u8]) -> io::Result<usize>
     ensures { IfOk result (λ n. n ≤ length part.now) }
 {
-    let mut turns = 18446744073709551615u64;
-    while 0 < turns {
+    for _ in 0..u64::MAX {
         match to.write(part) {
             Err(e) if e.kind() == ErrorKind::Interrupted => {}
             answer => return answer,
         }
-        turns -= 1;
     }
     Err(io::Error::from(ErrorKind::Interrupted))
 }
@@ -99,6 +90,7 @@ fn write_to<W: Write>(to: &mut W, text: &[u8], n: usize) -> io::Result<()>
         return Err(io::Error::from(ErrorKind::InvalidInput));
     }
     let mut done = 0;
+    // A while: each turn writes as many bytes as the system takes. std's `write_all` has other words where it takes none.
     while done < n {
         let put = write_some(to, &text[done..n])?;
         if put == 0 {
@@ -222,7 +214,7 @@ pub fn write(rt: HostRuntime, name: &[u8], text: &[u8], n: usize) -> bool
 
 // `reading::read_on`, which says so where it failed.
 pub fn read<R: Read>(rt: HostRuntime, name: &[u8], from: &mut R, buf: &mut [u8], have: usize) -> Got
-    ensures how_bound { result.how ≤ 2 }
+    ensures ended { result.how ≡ Again → ⊥ }
     ensures read_into { ReadInto have buf.old buf.new result.n result.how }
 {
     let g = reading::read_on(from, buf, have);
@@ -236,28 +228,19 @@ pub fn read<R: Read>(rt: HostRuntime, name: &[u8], from: &mut R, buf: &mut [u8],
 // ---- the argument
 
 // What a word asks for as the one argument of a program.
-pub fn asked(word: &[u8]) -> u64
+pub fn asked(word: &[u8]) -> Asks
     ensures { result ≡ word_asks word.now }
 {
     if textwords::same(word, b"--help") {
-        return HELP;
+        return Asks::Help;
     }
     if word.len() == 0 {
-        return WRONG;
+        return Asks::Wrong;
     }
     if word[0] == b'-' {
-        return WRONG;
+        return Asks::Wrong;
     }
-    FILE
-}
-
-fn no_source(how: u64) -> Source
-    ensures { result.how ≡ how }
-{
-    Source {
-        input: Input::Closed,
-        how,
-    }
+    Asks::File
 }
 
 // A path of std's is UTF-8.
@@ -268,34 +251,28 @@ fn open_path(rt: HostRuntime, path: &[u8]) -> io::Result<File> {
     }
 }
 
-fn open_file(rt: HostRuntime, name: &[u8], path: &[u8]) -> Source
-    ensures { result.how ≤ 2 }
-{
+fn open_file(rt: HostRuntime, name: &[u8], path: &[u8]) -> Source {
     match open_path(rt, path) {
-        Ok(file) => Source {
-            input: Input::File(file),
-            how: OPENED,
-        },
+        Ok(file) => Source::Opened(Input::File(file)),
         Err(e) => {
             failed(rt, name, path, e);
-            no_source(FAILED)
+            Source::Failed
         }
     }
 }
 
-fn open_word(rt: HostRuntime, name: &[u8], usage: &[u8], word: &[u8]) -> Source
-    ensures { result.how ≤ 2 }
-{
-    let asks = asked(word);
-    if asks == HELP {
-        let _ = write_to(&mut rt.stdout(), usage, usage.len());
-        return no_source(NOTHING);
+fn open_word(rt: HostRuntime, name: &[u8], usage: &[u8], word: &[u8]) -> Source {
+    match asked(word) {
+        Asks::File => open_file(rt, name, word),
+        Asks::Help => {
+            let _ = write_to(&mut rt.stdout(), usage, usage.len());
+            Source::Nothing
+        }
+        Asks::Wrong => {
+            message(rt, name, usage);
+            Source::Failed
+        }
     }
-    if asks == WRONG {
-        message(rt, name, usage);
-        return no_source(FAILED);
-    }
-    open_file(rt, name, word)
 }
 
 // Whether the program was started with so many arguments.
@@ -316,25 +293,20 @@ fn argument_error(e: FillError) -> io::Error {
 
 // Where a program reads from: standard input without an argument, else the file that its one argument names. `--help` writes the line of usage to standard output; another option,
 // an empty argument or more than one to standard error. What the arguments are, and whether the file opens, is the system's.
-pub fn open_argument(rt: HostRuntime, name: &[u8], usage: &[u8]) -> Source
-    ensures { result.how ≤ 2 }
-{
+pub fn open_argument(rt: HostRuntime, name: &[u8], usage: &[u8]) -> Source {
     if !is_given(rt, 1) {
-        return Source {
-            input: Input::Stdin(rt.stdin()),
-            how: OPENED,
-        };
+        return Source::Opened(Input::Stdin(rt.stdin()));
     }
     if is_given(rt, 2) {
         message(rt, name, usage);
-        return no_source(FAILED);
+        return Source::Failed;
     }
     let mut word = [0u8; 4096];
     match rt.arg(1, &mut word) {
         Ok(n) => open_word(rt, name, usage, &word[..n]),
         Err(e) => {
             failed(rt, name, b"argument", argument_error(e));
-            no_source(FAILED)
+            Source::Failed
         }
     }
 }
@@ -350,34 +322,27 @@ fn is_text_byte(b: u8) -> bool
 fn are_text(part: &[u8]) -> bool
     ensures { result ≡ are_text part.now }
 {
-    let mut i = 0;
-    while i < part.len() {
-        if !is_text_byte(part[i]) {
-            return false;
-        }
-        i += 1;
-    }
-    true
+    part.iter().all(|b| is_text_byte(*b))
 }
 
-fn part_like(part: &[u8]) -> u64
+fn part_like(part: &[u8]) -> Looks
     ensures { result ≡ part_like part.now }
 {
     if textwords::has_mark(part) {
-        return MARKED;
+        return Looks::Marked;
     }
     if are_text(part) {
-        return TEXT;
+        return Looks::Text;
     }
-    OTHER
+    Looks::Other
 }
 
 // What a file looks like by its first n bytes; of fewer bytes than that, they are all. A text is printable ASCII, tabs and ends of lines.
-pub fn looks_like(bytes: &[u8], n: usize) -> u64
+pub fn looks_like(bytes: &[u8], n: usize) -> Looks
     ensures { result ≡ looks_like bytes.now n }
 {
     if callfile::calls_in(bytes, n) != 0 {
-        return CALLS;
+        return Looks::Calls;
     }
     if bytes.len() < n {
         return part_like(bytes);
@@ -385,27 +350,31 @@ pub fn looks_like(bytes: &[u8], n: usize) -> u64
     part_like(&bytes[0..n])
 }
 
-fn hint_text(out: &mut [u8], kind: u64) -> usize
+fn hint_text(out: &mut [u8], kind: Looks) -> usize
     requires { 160 ≤ length out.old }
     ensures { Puts (hint_text kind) 0 out.old result out.new × (result ≤ 160) }
 {
     match kind {
-        MARKED => callfile::put_all(
+        Looks::Marked => callfile::put_all(
             out,
             0,
             b"the input is a text that begins with a byte order mark: save it without one, and make a call file of it with textcalls\n",
         ),
-        TEXT => callfile::put_all(
+        Looks::Text => callfile::put_all(
             out,
             0,
             b"the input is a text: make a call file of it with textcalls\n",
         ),
-        _ => callfile::put_all(out, 0, b"the input is no call file, or a damaged one\n"),
+        Looks::Calls | Looks::Other => callfile::put_all(
+            out,
+            0,
+            b"the input is no call file, or a damaged one\n",
+        ),
     }
 }
 
 // What to say of an input whose first block is no block of calls, by what it looks like. Without room for 160 bytes, nothing is put.
-pub fn put_hint(out: &mut [u8], kind: u64) -> usize
+pub fn put_hint(out: &mut [u8], kind: Looks) -> usize
     ensures { PutLine 160 (hint_text kind) 0 out.old result out.new }
 {
     if out.len() < 160 {
@@ -425,7 +394,7 @@ fn read_of(block: usize, at: Reading) -> usize
 }
 
 // Writes the hint of a kind to standard error.
-fn say_hint(rt: HostRuntime, name: &[u8], kind: u64) {
+fn say_hint(rt: HostRuntime, name: &[u8], kind: Looks) {
     let mut said = [0u8; 160];
     let n = put_hint(&mut said, kind);
     if n <= 160 {
@@ -444,10 +413,11 @@ pub fn hint(rt: HostRuntime, name: &[u8], block: &[u8], at: Reading) -> bool
     if n == 0 {
         return false;
     }
-    let kind = looks_like(block, n);
-    if kind == CALLS {
-        return false;
+    match looks_like(block, n) {
+        Looks::Calls => false,
+        kind => {
+            say_hint(rt, name, kind);
+            true
+        }
     }
-    say_hint(rt, name, kind);
-    true
 }

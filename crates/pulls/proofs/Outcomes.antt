@@ -1,4 +1,5 @@
 -- What each function leaves, by the way that it goes. Assumes nothing.
+use Rattle.std.specs.Prelude.{Some, None}
 use mathlib.Core.Path.{◌≡◌, refl, sym, ap, ◌∙◌}
 use mathlib.Core.Bool.{Bool, true, false, ◌&&◌}
 use mathlib.Core.List.{List, [], ◌∷◌, append-nil}
@@ -19,11 +20,10 @@ use Rattle.definition.specs.Destination.{Out, put_sub, room, pull_timeout}
 use Rattle.definition.specs.Words.{at}
 use Rattle.definition.specs.Layout.{Row, event_words}
 use Rattle.consumers.specs.declared.Sub.{Sub}
-use Rattle.entry.specs.declared.Found.TheVariants.{At, Nothing}
 use Rattle.consumers.specs.Consumers.{row_sub, sub_words, sub_view}
 use Rattle.consumers.specs.Table.{position_from}
 use Rattle.state.specs.declared.Head.{Head}
-use Rattle.state.specs.declared.Answer as State
+use Rattle.state.specs.Answers as State
 use Rattle.state.specs.State.{head_view, kind_by, with_events, pushed, refused_as, done_as}
 use Rattle.state.specs.Fits.{fits}
 use Rattle.state.specs.Leaves.{silent, LeavesIf}
@@ -42,13 +42,13 @@ none_more d = record { head = refl; few = omega arith }
 pub waits-not : (b : Bool) (id : Id) (d : Head) (subs rows : List Row) → b ≡ false → PullWaits b id d subs rows false
 waits-not b id d subs rows h = record { exact = λ ps qs. sym (ap (λ (y : Bool). y && pulls id (head_view d subs rows ps qs)) h) }
 
-pub answer-refused : (b : Bool) → b ≡ false → (id : Id) (d : Head) (subs rows events : List Row) (timeout : ℤ) (r : State.Answer) → r ≡ refused_as 2 d
+pub answer-refused : (b : Bool) → b ≡ false → (id : Id) (d : Head) (subs rows events : List Row) (timeout : ℤ) (r : State.Replied) → r ≡ refused_as 2 d
     → LeavesIf b (OneMore d r.head) (answered_out id timeout) d r.head subs rows events subs rows events × PullAnswers b id timeout d subs rows r
 answer-refused b h id d subs rows events timeout r e = (
-  unless-touched b _ (answered_out id timeout) d r.head subs rows events subs rows events h (record { same_head = ap (λ (y : State.Answer). y.head) e; same-subs = refl; same_rows = refl; same-events = refl }),
+  unless-touched b _ (answered_out id timeout) d r.head subs rows events subs rows events h (record { same_head = ap (λ (y : State.Replied). y.head) e; same-subs = refl; same_rows = refl; same-events = refl }),
   record {
-    refusal = ap (λ (y : State.Answer). y.refusal) e ∙ sym (ap (λ (y : Bool). whether◌then◌else◌ {A = ℕ} y 0 2) h);
-    answer = λ ps qs. ap (λ (y : State.Answer). y.answer) e ∙ sym (ap (λ (y : Bool). whether y then (answered id timeout (head_view d subs rows ps qs)).answer else 0) h);
+    refusal = ap (λ (y : State.Replied). y.refusal) e ∙ sym (ap (λ (y : Bool). whether◌then◌else◌ {A = ℕ} y 0 2) h);
+    answer = λ ps qs. ap (λ (y : State.Replied). y.answer) e ∙ sym (ap (λ (y : Bool). whether y then (answered id timeout (head_view d subs rows ps qs)).answer else 0) h);
   },
 )
 
@@ -64,18 +64,18 @@ module _ (b : Bool) (t : b ≡ true) (id : Id) (d : Head) (subs rows events : Li
   waits-by : (x : Bool) → ((ps : List Id) (qs : List Audit) → pulls id (viewed ps qs) ≡ x) → PullWaits b id d subs rows x
   waits-by x says = record { exact = λ ps qs. sym (ap (λ (y : Bool). y && pulls id (viewed ps qs)) t ∙ says ps qs) }
 
-  answers_by : (timeout : ℤ) (x : ℕ) (h : Head) (r : State.Answer) → r ≡ done_as x h
+  answers_by : (timeout : ℤ) (x : ℕ) (h : Head) (r : State.Replied) → r ≡ done_as x h
       → ((ps : List Id) (qs : List Audit) → (answered id timeout (viewed ps qs)).answer ≡ x) → PullAnswers b id timeout d subs rows r
   answers_by timeout x h r e says = record {
-    refusal = ap (λ (y : State.Answer). y.refusal) e ∙ sym (ap (λ (y : Bool). whether◌then◌else◌ {A = ℕ} y 0 2) t);
-    answer = λ ps qs. ap (λ (y : State.Answer). y.answer) e ∙ sym (ap (λ (y : Bool). whether y then (answered id timeout (viewed ps qs)).answer else 0) t ∙ says ps qs);
+    refusal = ap (λ (y : State.Replied). y.refusal) e ∙ sym (ap (λ (y : Bool). whether◌then◌else◌ {A = ℕ} y 0 2) t);
+    answer = λ ps qs. ap (λ (y : State.Replied). y.answer) e ∙ sym (ap (λ (y : Bool). whether y then (answered id timeout (viewed ps qs)).answer else 0) t ∙ says ps qs);
   }
 
   abbrev out : Destination.Answer → Out
   out a = record { dest = a.dest; events = a.events }
 
   -- the consumer is not there
-  module _ (e : position_from 0 id (take d.consumers subs) ≡ Nothing) where
+  module _ (e : position_from 0 id (take d.consumers subs) ≡ None) where
     pub prefetch-missing : (also : Type 0) (p : ℤ) → also → LeavesIf b also (silent (prefetched id p)) d d subs rows events subs rows events
     prefetch-missing also p a = same also (silent (prefetched id p)) a (λ ps qs. prefetched-none id (viewed ps qs) (none-view d subs rows id e ps qs) p)
 
@@ -89,7 +89,7 @@ module _ (b : Bool) (t : b ≡ true) (id : Id) (d : Head) (subs rows events : Li
     timeout-missing also g a = same also (pull_timeout id g) a (λ ps qs. timeout-none id (viewed ps qs) (none-view d subs rows id e ps qs) g)
 
   -- it is at a place, where s was loaded
-  module _ (i : ℕ) (e : position_from 0 id (take d.consumers subs) ≡ At i) (s : Sub) (q : s ≡ row_sub (get_or subs i [])) where
+  module _ (i : ℕ) (e : position_from 0 id (take d.consumers subs) ≡ Some i) (s : Sub) (q : s ≡ row_sub (get_or subs i [])) where
     long : d.consumers ≤ length subs
     long = omega (arith, w.subs-long, w.consumers)
 
@@ -189,22 +189,22 @@ module _ (b : Bool) (t : b ≡ true) (id : Id) (d : Head) (subs rows events : Li
           (λ v x. timeout-null id k here f h v x generation (ap (λ (y : Sub). y.pulling) (sym q) ∙ c) (ap (λ (y : Sub). eqb y.pull generation) (sym q) ∙ n))
 
   -- the answer after the dispatch
-  module _ (timeout : ℤ) (r : State.Answer) where
+  module _ (timeout : ℤ) (r : State.Replied) where
     abbrev Answered : List Row → List Row → Type 0
     Answered subs' events' = LeavesIf b (OneMore d r.head) (answered_out id timeout) d r.head subs rows events subs' rows events' × PullAnswers b id timeout d subs rows r
 
     -- nothing changes
     kept : (x : ℕ) → r ≡ done_as x d → ((ps : List Id) (qs : List Audit) → answered id timeout (viewed ps qs) ≡ record { answer = x; dest = viewed ps qs; events = [] }) → Answered subs events
     kept x p says =
-        let n : r.head ≡ d = ap (λ (y : State.Answer). y.head) p in (
+        let n : r.head ≡ d = ap (λ (y : State.Replied). y.head) p in (
           rw n (same (OneMore d d) (answered_out id timeout) (none_more d) (λ ps qs. ap out (says ps qs))),
           answers_by timeout x d r p (λ ps qs. ap (λ (a : Destination.Answer). a.answer) (says ps qs)),
         )
 
-    pub answer-missing : position_from 0 id (take d.consumers subs) ≡ Nothing → r ≡ done_as 0 d → Answered subs events
+    pub answer-missing : position_from 0 id (take d.consumers subs) ≡ None → r ≡ done_as 0 d → Answered subs events
     answer-missing e p = kept 0 p (λ ps qs. answered-none id (viewed ps qs) (none-view d subs rows id e ps qs) timeout)
 
-    module _ (i : ℕ) (e : position_from 0 id (take d.consumers subs) ≡ At i) (s : Sub) (q : s ≡ row_sub (get_or subs i [])) where
+    module _ (i : ℕ) (e : position_from 0 id (take d.consumers subs) ≡ Some i) (s : Sub) (q : s ≡ row_sub (get_or subs i [])) where
       abbrev mine : Sub
       mine = here i e s q
 
@@ -219,7 +219,7 @@ module _ (b : Bool) (t : b ≡ true) (id : Id) (d : Head) (subs rows events : Li
             → subs' ≡ set subs i (sub_words (sub_pull false 0 s.generation s)) → events' ≡ set events d.events (event_words (null (id_of s.conn s.session s.value)))
             → Answered subs' events'
         answer-null l room x p subs' events' px ps pe =
-            let n : r.head ≡ pushed d (length events) = ap (λ (y : State.Answer). y.head) p ∙ px in (
+            let n : r.head ≡ pushed d (length events) = ap (λ (y : State.Replied). y.head) p ∙ px in (
               null-sent i e s q (answered_out id timeout) room (λ v y. ap out (answered-null id (k i e s q) mine (f i e s q) (h i e s q) v y timeout waiting l)) r.head subs' events' n ps pe,
               answers_by timeout 0 x r p (λ us vs. ap (λ (a : Destination.Answer). a.answer) (answered-null id (k i e s q) mine (f i e s q) (h i e s q) (viewed us vs) (found i e s q us vs) timeout waiting l)),
             )

@@ -1,5 +1,6 @@
 -- A consumer stored again in its place, with as many rows as before: what the tables then hold, that the numbers still fit, and what a call
 -- leaves that does no more than this and send events. Assumes nothing.
+use Rattle.std.specs.Prelude.{Some, None}
 use mathlib.Core.Path.{◌≡◌, refl, sym, ap, ap₂, ◌∙◌}
 use mathlib.Core.Bool.{Bool, true}
 use mathlib.Core.List.{List, [], ◌++◌, append-nil, map}
@@ -14,12 +15,10 @@ use Rattle.definition.specs.Base.{all}
 use Rattle.definition.specs.Types.{Kind, Id, Audit, Dest, Event}
 use Rattle.definition.specs.Destination as Destination
 use Rattle.definition.specs.Destination.{Out, put_sub}
-use Rattle.definition.specs.Words.{at}
 use Rattle.definition.specs.Layout.{Row, held_at, inflight_count, held_count, subs_at, sub_rows, entry_strict, subs_strict, event_words}
 use Rattle.definition.proofs.Tests.{and_both}
 use Rattle.definition.proofs.Lists.{all-stored, all-at}
 use Rattle.consumers.specs.declared.Sub.{Sub}
-use Rattle.entry.specs.declared.Found.TheVariants.{At, Nothing}
 use Rattle.consumers.specs.Consumers.{row_sub, sub_words, sub_view}
 use Rattle.consumers.specs.Seats.{flying_in, held_in}
 use Rattle.consumers.specs.Table.{position_from, fitting}
@@ -73,14 +72,14 @@ leaves-same f d subs rows events w says = record {
 
 -- ---- no such consumer
 
-pub none-view : (d : Head) (subs rows : List Row) (id : Id) → position_from 0 id (take d.consumers subs) ≡ Nothing
+pub none-view : (d : Head) (subs rows : List Row) (id : Id) → position_from 0 id (take d.consumers subs) ≡ None
     → (ps : List Id) (qs : List Audit) → Destination.sub_of id (head_view d subs rows ps qs) ≡ none
 unfolding head_view
 none-view d subs rows id e ps qs = found_none id (take d.consumers subs) e (kind_by d.queue) rows
 
 -- ---- the consumer with an identifier, at its place
 
-module _ (d : Head) (subs rows : List Row) (id : Id) (i : ℕ) (long : d.consumers ≤ length subs) (e : position_from 0 id (take d.consumers subs) ≡ At i) where
+module _ (d : Head) (subs rows : List Row) (id : Id) (i : ℕ) (long : d.consumers ≤ length subs) (e : position_from 0 id (take d.consumers subs) ≡ Some i) where
   abbrev ws : List Row
   ws = take d.consumers subs
 

@@ -9,7 +9,7 @@ use Rattle.definition.specs.Words.{at}
 use Rattle.definition.specs.Layout.{Row, sub_rows}
 use Rattle.consumers.specs.declared.Sub.{Sub}
 use Rattle.state.specs.declared.Head.{Head}
-use Rattle.state.specs.declared.Answer as State
+use Rattle.state.specs.Answers as State
 use Rattle.state.specs.State.{head_view, with_events}
 
 -- ---- a consumer by value
@@ -64,7 +64,7 @@ pub record PullWaits (test : Bool) (i : Id) (d : Head) (subs rows : List Row) (r
   pub exact : (producers : List Id) (audits : List Audit) → r ≡ (test && pulls i (head_view d subs rows producers audits))
 
 -- what a pull is answered: refused with 2 where a test fails
-pub record PullAnswers (test : Bool) (i : Id) (timeout : ℤ) (d : Head) (subs rows : List Row) (r : State.Answer) : Type 0 where
+pub record PullAnswers (test : Bool) (i : Id) (timeout : ℤ) (d : Head) (subs rows : List Row) (r : State.Replied) : Type 0 where
   pub refusal : r.refusal ≡ (whether test then 0 else 2)
   pub answer : (producers : List Id) (audits : List Audit) → r.answer ≡ (whether test then (answered i timeout (head_view d subs rows producers audits)).answer else 0)
 

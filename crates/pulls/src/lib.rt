@@ -9,53 +9,54 @@ ghost use Rattle.definition.specs.Types.{null};
 ghost use Rattle.definition.specs.Destination.{room, pull_timeout};
 ghost use Rattle.definition.specs.Layout.{event_words};
 ghost use Rattle.consumers.specs.Consumers.{sub_words};
+ghost use Rattle.state.specs.Answers.{told};
 ghost use Rattle.state.specs.State.{pushed};
 ghost use Rattle.state.specs.Fits.{fits};
 ghost use Rattle.state.specs.Leaves.{silent, LeavesIf};
 ghost use Rattle.pulls.specs.Pulls.{sub_prefetch, sub_pull, prefetched, registered, answered_out, OneMore, PullWaits, PullAnswers, stands, risable};
 
 use consumers::{Sub, SubRow};
-use entry::{Found, Row};
-use model::Id;
-use state::{Answer, Event, Head};
+use entry::Row;
+use model::{Id, Refusal};
+use state::{Answer, Answered, Event, Head};
 
 // `prefetch.max(0)`.
 pub fn room(prefetch: i32) -> u64
     ensures { result ≡ room prefetch }
 {
-    if prefetch < 0 {
-        return 0;
-    }
-    prefetch as u64
+    prefetch.max(0) as u64
 }
 
 // With a new prefetch.
-fn with_prefetch(mut s: Sub, prefetch: u64) -> Sub
+fn with_prefetch(s: Sub, prefetch: u64) -> Sub
     ensures { result ≡ sub_prefetch prefetch s }
 {
-    s.prefetch = prefetch;
-    s
+    Sub { prefetch, ..s }
 }
 
 // With a new pull.
-fn pulling(mut s: Sub) -> Sub
+fn pulling(s: Sub) -> Sub
     requires { s.generation < 2 ^ 63 }
     ensures { result ≡ sub_pull true (s.generation + 1) (s.generation + 1) s }
 {
     let next = s.generation + 1;
-    s.generation = next;
-    s.pulling = true;
-    s.pull = next;
-    s
+    Sub {
+        generation: next,
+        pulling: true,
+        pull: next,
+        ..s
+    }
 }
 
 // With no pull.
-fn not_pulling(mut s: Sub) -> Sub
+fn not_pulling(s: Sub) -> Sub
     ensures { result ≡ sub_pull false 0 s.generation s }
 {
-    s.pulling = false;
-    s.pull = 0;
-    s
+    Sub {
+        pulling: false,
+        pull: 0,
+        ..s
+    }
 }
 
 // `send_null` to the consumer s at a place.
@@ -81,7 +82,7 @@ pub fn set_prefetch(
     if !state::fits(subs, d, rows.len(), events.len()) {
         return;
     }
-    let Found::At(i) = consumers::position(subs, d.consumers, id) else {
+    let Some(i) = consumers::position(subs, d.consumers, id) else {
         return;
     };
     let s = consumers::load(subs, i);
@@ -97,7 +98,7 @@ pub fn register(subs: &mut [SubRow], rows: &[Row], events: &[Event], d: Head, id
     if !state::fits(subs, d, rows.len(), events.len()) {
         return false;
     }
-    let Found::At(i) = consumers::position(subs, d.consumers, id) else {
+    let Some(i) = consumers::position(subs, d.consumers, id) else {
         return false;
     };
     let s = consumers::load(subs, i);
@@ -146,26 +147,30 @@ pub fn answer_pull(
     id: Id,
     timeout: i64,
 ) -> Answer
-    ensures leaves_if { LeavesIf (stands subs.old d (length rows.now) (length events.old)) (OneMore d result.head) (answered_out id timeout) d result.head subs.old rows.now events.old subs.new rows.now events.new }
-    ensures pull_answers { PullAnswers (stands subs.old d (length rows.now) (length events.old)) id timeout d subs.old rows.now result }
+    ensures leaves_if { LeavesIf (stands subs.old d (length rows.now) (length events.old)) (OneMore d (told d result).head) (answered_out id timeout) d (told d result).head subs.old rows.now events.old subs.new rows.now events.new }
+    ensures pull_answers { PullAnswers (stands subs.old d (length rows.now) (length events.old)) id timeout d subs.old rows.now (told d result) }
 {
     if !stands(subs, d, rows.len(), events.len()) {
-        return Answer::refused(2, d);
+        return Err(Refusal::NotSound);
     }
-    let Found::At(i) = consumers::position(subs, d.consumers, id) else {
-        return Answer::done(0, d);
+    let Some(i) = consumers::position(subs, d.consumers, id) else {
+        return Ok(Answered { answer: 0, head: d });
     };
     let s = consumers::load(subs, i);
     if !s.pulling {
-        return Answer::done(0, d);
+        return Ok(Answered { answer: 0, head: d });
     }
     if timeout < 0 {
-        return Answer::done(0, send_null(subs, events, d, i, s));
+        let head = send_null(subs, events, d, i, s);
+        return Ok(Answered { answer: 0, head });
     }
     if 0 < timeout {
-        return Answer::done(s.pull, d);
+        return Ok(Answered {
+            answer: s.pull,
+            head: d,
+        });
     }
-    Answer::done(0, d)
+    Ok(Answered { answer: 0, head: d })
 }
 
 // A pull's timer fires: a null, if that pull still waits. Where the numbers do not fit the tables, nothing happens.
@@ -182,7 +187,7 @@ pub fn pull_timeout(
     if !state::fits(subs, d, rows.len(), events.len()) {
         return d;
     }
-    let Found::At(i) = consumers::position(subs, d.consumers, id) else {
+    let Some(i) = consumers::position(subs, d.consumers, id) else {
         return d;
     };
     let s = consumers::load(subs, i);

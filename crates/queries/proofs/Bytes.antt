@@ -4,10 +4,11 @@ use mathlib.Core.Bool.{Bool, true, false, not, ◌||◌, or_comm}
 use mathlib.Core.List.{List, [], ◌∷◌, ◌++◌, map, append_assoc}
 use Prim.Native.Nat.{ℕ, zero, suc, ◌+◌, ◌-◌, ◌≤◌, ◌<◌, ◌^◌}
 use native.Mathlib.Omega.{arith}
-use borrow.Author.Tests.{eq-eqb, ne_eqb, ltb-true, not-true}
+use borrow.Author.Tests.{ltb-true, not-true}
 use lib.Dec.{leb, ltb, eqb}
-use lib.ListN.{length, take, get_or, get_or-map, length-map}
+use lib.ListN.{length, take, drop, get_or, get_or-map, length-map}
 use lib.Seq.{slice, slice_empty, get_or-take, length-take-le}
+use Rattle.std.specs.List.{list_any}
 use Rattle.words.specs.Pick.{whether◌then◌else◌}
 use Rattle.words.proofs.Tests.{by-test}
 use Rattle.entry.specs.Entry.{entry_of}
@@ -23,7 +24,9 @@ use Rattle.definition.proofs.Sums.{bad, occ, odd, sum, sum-append, ok-sum, sum-o
 use Rattle.definition.proofs.Bytes.{bytes-any-order}
 use Rattle.definition.proofs.Stored.{seqs-rows}
 use Rattle.distinct.proofs.Laws.{member-seqs}
-use Rattle.copies.proofs.Laws.{part-turn, row_more}
+use Rattle.copies.proofs.Laws.{row_more}
+use Rattle.subrows.proofs.Subs.{item-turn}
+use Rattle.std.proofs.lemmas.List.{drop_all}
 use Rattle.queries.specs.Bytes.{bytes_at, sizes_of, Small}
 
 -- ---- what the definitions say
@@ -43,18 +46,9 @@ bytes-lone (w ∷ l) h =
 -- ---- the loops
 
 -- a number is looked for
-module _ (rows : List Row) (i to : ℕ) (b : to ≤ length rows) (x : ℕ) (total : Bool) (e : member x (map (at 0) (slice i to rows)) ≡ total) where
-  turn : i < to → (eqb x (at 0 (get_or rows i [])) || member x (map (at 0) (slice (i + 1) to rows))) ≡ total
-  turn h = sym (ap (λ (l : List Row). member x (map (at 0) l)) (part-turn rows i to b h)) ∙ e
-
-  pub met-here : i < to → at 0 (get_or rows i []) ≡ x → true ≡ total
-  met-here h q = sym (ap (λ (c : Bool). c || member x (map (at 0) (slice (i + 1) to rows))) (eq-eqb x (at 0 (get_or rows i [])) (sym q))) ∙ turn h
-
-  pub met_next : i < to → (at 0 (get_or rows i []) ≡ x → ⊥) → member x (map (at 0) (slice (i + 1) to rows)) ≡ total
-  met_next h q = sym (ap (λ (c : Bool). c || member x (map (at 0) (slice (i + 1) to rows))) (ne_eqb x (at 0 (get_or rows i [])) (λ p. q (sym p)))) ∙ turn h
-
-  pub met-end : i ≡ to → false ≡ total
-  met-end q = sym (ap (λ (l : List Row). member x (map (at 0) l)) (ap (λ (j : ℕ). slice j to rows) q ∙ slice_empty to rows)) ∙ e
+pub any-met : (x : ℕ) (l : List Row) → list_any (λ (w : Row). eqb x (at 0 w)) l ≡ member x (map (at 0) l)
+any-met x [] = refl
+any-met x (w ∷ l) = ap (λ (b : Bool). eqb x (at 0 w) || b) (any-met x l)
 
 -- one more size, from the end
 module _ (rows : List Row) (i n : ℕ) (b : n ≤ length rows) (h : 0 < i) (k : i ≤ n) where
@@ -75,11 +69,11 @@ pub bytes-none : (n : ℕ) (rows : List Row) → 0 ≡ bytes_at (slice n n rows)
 bytes-none n rows = sym (ap bytes_at (slice_empty n rows))
 
 -- and from the first on
-pub sizes-turn : (rows : List Row) (i n : ℕ) → n ≤ length rows → i < n → sizes_of (slice i n rows) ≡ at 9 (get_or rows i []) + sizes_of (slice (i + 1) n rows)
-sizes-turn rows i n b h = ap sizes_of (part-turn rows i n b h)
+pub sizes-turn : (us : List Row) (i : ℕ) → i < length us → sizes_of (drop i us) ≡ at 9 (get_or us i []) + sizes_of (drop (i + 1) us)
+sizes-turn us i h = ap sizes_of (item-turn us i h)
 
-pub sizes-end : (rows : List Row) (i n : ℕ) → i ≡ n → sizes_of (slice i n rows) ≡ 0
-sizes-end rows i n q = ap sizes_of (ap (λ (j : ℕ). slice j n rows) q ∙ slice_empty n rows)
+pub sizes-end : (us : List Row) (i : ℕ) → length us ≤ i → sizes_of (drop i us) ≡ 0
+sizes-end us i h = ap sizes_of (drop_all i us h)
 
 -- ---- sizes in range
 

@@ -15,13 +15,14 @@ ghost use Rattle.queries.specs.Pages.{buffer_first_waiting, as_plan, PagePlanned
 
 use consumers::{BROWSER, HELD, INFLIGHT, SubRow};
 use entry::Row;
+use model::Refusal;
 use state::Head;
 use stats::Stats;
 
 // Most lines of a page.
 pub const PAGE_MAX: usize = 50;
 
-// The refusal (0: answered) and the answer.
+// The refusal (0: answered) and the answer, as the C header has them.
 #[repr(C)]
 #[derive(Clone, Copy)]
 pub struct Asked {
@@ -29,7 +30,7 @@ pub struct Asked {
     pub answer: u64,
 }
 
-// The refusal and the counters, 0 beside a refusal.
+// The refusal and the counters, 0 beside a refusal, as the C header has them.
 #[repr(C)]
 #[derive(Clone, Copy)]
 pub struct Counted {
@@ -38,6 +39,7 @@ pub struct Counted {
 }
 
 // The refusal, how many entries wait, and the rows of a page's lines: `count` of them from row `from` on. Beside a refusal the others are 0.
+// No Result: `as_plan` and `PagePlanned`, which `plan` promises, name the refusal's number.
 #[repr(C)]
 #[derive(Clone, Copy)]
 pub struct PagePlan {
@@ -47,7 +49,7 @@ pub struct PagePlan {
     pub count: usize,
 }
 
-// The refusal, how many entries wait, and how many lines were written.
+// The refusal, how many entries wait, and how many lines were written, as the C header has them.
 #[repr(C)]
 #[derive(Clone, Copy)]
 pub struct Paged {
@@ -65,15 +67,15 @@ pub struct PageLine {
     pub redelivery: i32,
 }
 
-// What a query meets first: 1 where a buffer is short, 2 where the state is not sound, else 0.
+// What a query meets first: 1 where a buffer is short, 2 where the state is not sound, else 0. A number, as the definition `barred` has it.
 pub fn barred(head: &[u64], subs: &[SubRow], rows: &[Row]) -> u64
     ensures { result ≡ barred (lent head.now subs.now rows.now) }
 {
     if !sound::whole(head, subs, rows) {
-        return 1;
+        return u64::from(Refusal::Short);
     }
     if !sound::sound(head, subs, rows) {
-        return 2;
+        return u64::from(Refusal::NotSound);
     }
     0
 }
@@ -124,14 +126,7 @@ fn lasting(rows: &[Row], from: usize, to: usize) -> bool
     requires to_in_bounds { to ≤ length rows.now }
     ensures { result ≡ all lasts (slice from to rows.now) }
 {
-    let mut i = from;
-    while i < to {
-        if !lasts(rows[i]) {
-            return false;
-        }
-        i += 1;
-    }
-    true
+    rows[from..to].iter().all(|row| lasts(*row))
 }
 
 // The same; a snapshot is not looked at.
@@ -146,16 +141,13 @@ fn held_lasting(rows: &[Row], from: usize, to: usize, snapshot: bool) -> bool
     lasting(rows, from, to)
 }
 
-// What each of the first n consumers holds; base is where its rows begin.
-fn subs_lasting(subs: &[SubRow], n: usize, rows: &[Row], on_queue: bool) -> bool
-    requires n_in_bounds { n ≤ length subs.now }
-    requires subs_in_bounds { sub_rows (take n subs.now) ≤ length rows.now }
-    ensures { result ≡ all sub_lasts (subs_at (kind_by on_queue) (take n subs.now) rows.now) }
+// What each consumer holds; base is where its rows begin.
+fn subs_lasting(subs: &[SubRow], rows: &[Row], on_queue: bool) -> bool
+    requires { sub_rows subs.now ≤ length rows.now }
+    ensures { result ≡ all sub_lasts (subs_at (kind_by on_queue) subs.now rows.now) }
 {
     let mut base = 0;
-    let mut i = 0;
-    while i < n {
-        let w = subs[i];
+    for w in subs {
         let flying = w[INFLIGHT] as usize;
         let k = flying + w[HELD] as usize;
         let snapshot = on_queue & (w[BROWSER] != 0);
@@ -163,7 +155,6 @@ fn subs_lasting(subs: &[SubRow], n: usize, rows: &[Row], on_queue: bool) -> bool
             return false;
         }
         base += k;
-        i += 1;
     }
     true
 }
@@ -178,7 +169,7 @@ pub fn has_expiring(head: &[u64], subs: &[SubRow], rows: &[Row]) -> Asked
     }
     let d = state::load(head, subs);
     let waiting = lasting(rows, d.first_waiting(), d.used);
-    let held = subs_lasting(subs, d.consumers, rows, d.queue);
+    let held = subs_lasting(&subs[..d.consumers], rows, d.queue);
     Asked {
         refusal: 0,
         answer: !(waiting & held) as u64,
@@ -209,15 +200,7 @@ fn met(rows: &[Row], from: usize, to: usize, seq: u64) -> bool
     requires to_in_bounds { to ≤ length rows.now }
     ensures { result ≡ member seq (map (at 0) (slice from to rows.now)) }
 {
-    let mut i = from;
-    while i < to {
-        let row = rows[i];
-        if row[0] == seq {
-            return true;
-        }
-        i += 1;
-    }
-    false
+    rows[from..to].iter().any(|row| seq == row[0])
 }
 
 // The same where the table holds this place for the number.
@@ -259,14 +242,12 @@ fn once(rows: &[Row], n: usize) -> u64
 {
     let mut slots = [0u16; 1024];
     let mut sum = 0;
-    let mut i = n;
-    while 0 < i {
-        let row = rows[i - 1];
+    for i in (0..n).rev() {
+        let row = rows[i];
         let seq = row[0];
         let slot = (seq % 1024) as usize;
-        sum += added(rows, i, n, seq, slots[slot] as usize, row[9]);
-        slots[slot] = i as u16;
-        i -= 1;
+        sum += added(rows, i + 1, n, seq, slots[slot] as usize, row[9]);
+        slots[slot] = (i + 1) as u16;
     }
     sum
 }
@@ -279,11 +260,8 @@ fn each(rows: &[Row], n: usize) -> u64
     ensures { result ≡ sizes_of (take n rows.now) }
 {
     let mut sum = 0;
-    let mut i = 0;
-    while i < n {
-        let row = rows[i];
+    for row in &rows[..n] {
         sum += row[9];
-        i += 1;
     }
     sum
 }
@@ -323,10 +301,7 @@ pub fn bytes_held(head: &[u64], subs: &[SubRow], rows: &[Row]) -> Asked
 fn idle_seconds(since: u64, clock: u64) -> u64
     ensures { result ≡ (clock - since) / 1000 }
 {
-    if clock < since {
-        return 0;
-    }
-    (clock - since) / 1000
+    clock.saturating_sub(since) / 1000
 }
 
 fn is_idle(d: Head, clock: u64, secs: u64) -> bool
@@ -357,7 +332,7 @@ pub fn idle_for(head: &[u64], subs: &[SubRow], rows: &[Row], clock: u64, secs: u
     }
     if entry::CLOCK_MOST < clock {
         return Asked {
-            refusal: 3,
+            refusal: u64::from(Refusal::Arguments),
             answer: 0,
         };
     }
@@ -413,23 +388,12 @@ pub fn counters(head: &[u64], subs: &[SubRow], rows: &[Row]) -> Counted
 
 // ---- page
 
-// Most lines that a limit allows.
-fn most_lines(limit: u64) -> usize
-    ensures { result ≡ min limit 50 }
-{
-    if limit < 50 { limit as usize } else { PAGE_MAX }
-}
-
 // How many lines a page has: at most 50, the limit, and what waits from the offset on.
 fn lines_of(waiting: usize, offset: u64, limit: u64) -> usize
     ensures { result ≡ min (min limit 50) (waiting - offset) }
 {
-    if waiting as u64 <= offset {
-        return 0;
-    }
-    let most = most_lines(limit);
-    let left = waiting - offset as usize;
-    if left < most { left } else { most }
+    let left = (waiting as u64).saturating_sub(offset);
+    limit.min(PAGE_MAX as u64).min(left) as usize
 }
 
 fn no_plan(refusal: u64) -> PagePlan
@@ -456,7 +420,7 @@ pub fn plan(
     ensures page_planned { PagePlanned (buffer_page (lent head.now subs.now rows.now) lines offset limit) rows.now lines result }
 {
     if lines < PAGE_MAX {
-        return no_plan(1);
+        return no_plan(u64::from(Refusal::Short));
     }
     let refusal = barred(head, subs, rows);
     if refusal != 0 {

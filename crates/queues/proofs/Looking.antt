@@ -33,7 +33,8 @@ use Rattle.consumers.specs.declared.Sub.{Sub}
 use Rattle.consumers.specs.Consumers.{sub_view, accepts_of}
 use Rattle.consumers.proofs.Laws.{accepts-sub}
 use Rattle.consumers.proofs.Strict.{all_left}
-use Rattle.queues.specs.Look.{lone, Passed, Found, Missed, Looks}
+use Rattle.queues.specs.Look.{lone, Passed, Found, Missed}
+use Rattle.std.specs.Prelude.{Option, Some, None, MatchOption}
 use Rattle.queues.proofs.Viewing.{all_without}
 
 -- a clock's word, read as a signed one
@@ -329,6 +330,7 @@ module _ (now : ℕ) (s : Sub) (from to : ℕ) (rows : List Row) (f : from ≤ t
       subst (λ (n : ℕ). Looking now s from to rows rows to s.cursor n) is (looking-up (i - from) (omega arith) (λ j a b. p.each j a (omega arith)))
 
 -- where the rows in use end, whether or not one was chosen
-pub looks-end : (b : Bool) (now : ℕ) (s : Sub) (from to : ℕ) (rows rows' : List Row) (at end cursor : ℕ) → Looks b now s from to rows rows' at end cursor → (from ≤ end) × (end ≤ to)
-looks-end true now s from to rows rows' at end cursor l = let x = l.place in let y = l.last in let z = l.size in (omega arith, omega arith)
-looks-end false now s from to rows rows' at end cursor l = let y = l.last in let z = l.size in (omega arith, omega arith)
+pub looks-end : (o : Option ℕ) (now : ℕ) (s : Sub) (from to : ℕ) (rows rows' : List Row) (end cursor : ℕ) → MatchOption o (Missed now s from to rows rows' end cursor) (λ at. Found now s from to rows rows' at end)
+    → (from ≤ end) × (end ≤ to)
+looks-end (Some at) now s from to rows rows' end cursor l = let x = l.place in let y = l.last in let z = l.size in (omega arith, omega arith)
+looks-end None now s from to rows rows' end cursor l = let y = l.last in let z = l.size in (omega arith, omega arith)

@@ -1,5 +1,5 @@
 -- A look along the waiting rows, on the table. Assumes nothing.
-use Rattle.std.specs.Prelude.{◌≡◌, Bool, true, false, List, [], ◌∷◌, ◌++◌, map, ℕ, ◌+◌, ◌≤◌, ◌<◌, length, take, drop, get_or}
+use Rattle.std.specs.Prelude.{◌≡◌, true, List, [], ◌∷◌, ◌++◌, map, ℕ, ◌+◌, ◌≤◌, ◌<◌, length, take, drop, get_or}
 use Rattle.std.proofs.Math.Option.{none, some}
 use Rattle.std.proofs.Math.Seq.{slice}
 use Rattle.entry.specs.Entry.{entry_of}
@@ -46,7 +46,3 @@ pub record Missed (by : ℕ) (s : Sub) (from to : ℕ) (rows rows' : List Row) (
   pub size : end + length spare ≡ to
   pub said : look by (lone s) s.cursor (map entry_of (slice from to rows)) ≡ record { pending = map entry_of left; chosen = none; cursor = cursor; gone = length spare }
   pub strict : all entry_strict (slice from to rows) ≡ true → all entry_strict left ≡ true
-
-abbrev pub Looks : Bool → ℕ → Sub → ℕ → ℕ → List Row → List Row → ℕ → ℕ → ℕ → Type 0
-Looks true by s from to rows rows' at end cursor = Found by s from to rows rows' at end
-Looks false by s from to rows rows' at end cursor = Missed by s from to rows rows' end cursor

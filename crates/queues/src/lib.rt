@@ -1,11 +1,11 @@
 // A queue's dispatch without its browsers (`dispatch_queue` of destination.rs): waiting entries go out to consumers that have credit, in turn.
 #![tactic(auto)]
 
-ghost use Rattle.std.specs.Prelude.{◌≡◌, not, [], ◌-◌, ◌%◌, ◌≤◌, ◌<◌, ◌^◌, eqb, length, take, get_or};
+ghost use Rattle.std.specs.Prelude.{◌≡◌, MatchOption, [], ◌-◌, ◌%◌, ◌≤◌, ◌<◌, ◌^◌, length, take, get_or};
 ghost use Rattle.definition.specs.Base.{all};
 ghost use Rattle.consumers.specs.Table.{next_fits};
 ghost use Rattle.state.specs.Leaves.{Leaves, LeavesIf};
-ghost use Rattle.queues.specs.Look.{Passed, Looks};
+ghost use Rattle.queues.specs.Look.{Passed, Found, Missed};
 ghost use Rattle.queues.specs.Give.{Gives, Gave, looked_head};
 ghost use Rattle.queues.specs.Scan.{can_take, scan_tables, scan_counters, rows_fit, scans, Scans, Onward, Visited, served};
 
@@ -19,19 +19,18 @@ const NEXT_MOST: u64 = 4611686018427387904;
 
 const RISING_MOST: u64 = 9223372036854775296;
 
-// What a look along the waiting rows leaves: whether an entry was chosen, where it stands, where the rows in use end, and the cursor.
+// What a look along the waiting rows leaves: where the entry stands that was chosen, where the rows in use end, and the cursor.
 #[derive(Clone, Copy)]
 struct Looked {
-    chosen: bool,
-    at: usize,
+    at: Option<usize>,
     end: usize,
     cursor: u64,
 }
 
-// A consumer's turn in the scan: how many entries it took, none or one, and what that leaves.
+// A consumer's turn in the scan: whether it took an entry, and what that leaves.
 #[derive(Clone, Copy)]
 struct Turn {
-    took: usize,
+    took: bool,
     head: Head,
 }
 
@@ -41,6 +40,7 @@ fn passed(rows: &[Row], from: usize, to: usize, cursor: u64) -> usize
     ensures { Passed from to cursor rows.now result }
 {
     let mut i = from;
+    // A while: four rows a step, for speed (docs/SPEED.md), and the place is the answer.
     while 4 <= to - i {
         let a = rows[i][0];
         let b = rows[i + 1][0];
@@ -57,12 +57,13 @@ fn passed(rows: &[Row], from: usize, to: usize, cursor: u64) -> usize
 // The earliest of the waiting rows from..to after the cursor that the consumer accepts; expired ones met on the way go.
 fn look(rows: &mut [Row], from: usize, to: usize, s: Sub, by: u64) -> Looked
     requires { (from ≤ to) × (to ≤ length rows.old) × (to ≤ 512) × (by ≤ 2 ^ 62) }
-    ensures { Looks result.chosen by s from to rows.old rows.new result.at result.end result.cursor }
+    ensures { MatchOption result.at (Missed by s from to rows.old rows.new result.end result.cursor) (λ at. Found by s from to rows.old rows.new at result.end) }
 {
     let at = words::signed_of(by);
     let mut end = to;
     let mut cursor = s.cursor;
     let mut i = passed(rows, from, to, s.cursor);
+    // A while: the end moves as rows go.
     while i < end {
         let e = entry::entry_of(rows[i]);
         if e.seq <= s.cursor {
@@ -72,8 +73,7 @@ fn look(rows: &mut [Row], from: usize, to: usize, s: Sub, by: u64) -> Looked
             end -= 1;
         } else if s.accepts(e) {
             return Looked {
-                chosen: true,
-                at: i,
+                at: Some(i),
                 end,
                 cursor: e.seq,
             };
@@ -83,8 +83,7 @@ fn look(rows: &mut [Row], from: usize, to: usize, s: Sub, by: u64) -> Looked
         }
     }
     Looked {
-        chosen: false,
-        at: i,
+        at: None,
         end,
         cursor,
     }
@@ -152,10 +151,7 @@ fn can_take(subs: &[SubRow], i: usize) -> bool
     ensures { result ≡ can_take (get_or subs.now i []) }
 {
     let s = consumers::load(subs, i);
-    if !s.browser {
-        return s.has_credit();
-    }
-    false
+    !s.browser && s.has_credit()
 }
 
 // Consumer i's turn in the scan.
@@ -168,28 +164,34 @@ fn visit(
     by: u64,
 ) -> Turn
     requires { Scans subs.old d (length rows.old) (length events.old) × (i < d.consumers) × (by ≤ 2 ^ 62) }
-    ensures { Visited by i d (not (eqb result.took 0)) result.head subs.old rows.old events.old subs.new rows.new events.new }
+    ensures { Visited by i d result.took result.head subs.old rows.old events.old subs.new rows.new events.new }
 {
     let mut s = consumers::load(subs, i);
     if s.browser {
-        return Turn { took: 0, head: d };
+        return Turn {
+            took: false,
+            head: d,
+        };
     }
     if !s.has_credit() {
-        return Turn { took: 0, head: d };
+        return Turn {
+            took: false,
+            head: d,
+        };
     }
     let l = look(rows, d.first_waiting(), d.used, s, by);
     let seen = after_look(d, l.end);
-    if l.chosen {
-        let given = give(subs, rows, events, i, s, l.at, seen);
+    if let Some(at) = l.at {
+        let given = give(subs, rows, events, i, s, at, seen);
         return Turn {
-            took: 1,
+            took: true,
             head: given,
         };
     }
     s.cursor = l.cursor;
     consumers::store(subs, i, s);
     Turn {
-        took: 0,
+        took: false,
         head: seen,
     }
 }
@@ -208,20 +210,18 @@ fn rounds(
 {
     let n = before.consumers;
     let mut d = before;
+    // A while: what waits changes as entries go.
     'dispatch: while 0 < d.waiting {
-        let mut k = 0;
-        while k < n {
+        for k in 0..n {
             let i = in_turn(d.turn + k, n);
             if !can_take(subs, i) {
-                k += 1;
                 continue;
             }
             let r = visit(subs, rows, events, i, d, by);
             d = r.head;
-            if r.took != 0 {
+            if r.took {
                 continue 'dispatch;
             }
-            k += 1;
         }
         return d;
     }
@@ -234,32 +234,19 @@ fn rounds(
 fn scan_tables(d: Head, subs: usize, rows: usize, events: usize) -> bool
     ensures { result ≡ scan_tables d subs rows events }
 {
-    if subs < state::CONSUMERS {
-        return false;
-    }
-    if rows < state::ROWS {
-        return false;
-    }
-    if state::CONSUMERS < d.consumers {
-        return false;
-    }
-    if state::CONSUMERS < d.turn {
-        return false;
-    }
-    if events < d.waiting {
-        return false;
-    }
-    d.events <= events - d.waiting
+    state::CONSUMERS <= subs
+        && state::ROWS <= rows
+        && d.consumers <= state::CONSUMERS
+        && d.turn <= state::CONSUMERS
+        && d.waiting <= events
+        && d.events <= events - d.waiting
 }
 
 // The counters that rise have room for a full table.
 fn scan_counters(s: Stats) -> bool
     ensures { result ≡ scan_counters s }
 {
-    if RISING_MOST < s.expired {
-        return false;
-    }
-    s.dispatched <= RISING_MOST
+    s.expired <= RISING_MOST && s.dispatched <= RISING_MOST
 }
 
 // The rows in use are those of the consumers, reserved and waiting ones.
@@ -284,14 +271,9 @@ fn next_fit(subs: &[SubRow], n: usize) -> bool
     requires { n ≤ length subs.now }
     ensures { result ≡ all next_fits (take n subs.now) }
 {
-    let mut i = 0;
-    while i < n {
-        if NEXT_MOST < subs[i][consumers::NEXT_DSEQ] {
-            return false;
-        }
-        i += 1;
-    }
-    true
+    subs.iter()
+        .take(n)
+        .all(|w| w[consumers::NEXT_DSEQ] <= NEXT_MOST)
 }
 
 fn can_scan(subs: &[SubRow], d: Head, rows: usize, events: usize, by: u64) -> bool

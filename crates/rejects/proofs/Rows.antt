@@ -1,4 +1,5 @@
 -- The rows that are dead letters are the entries that the definition rejects. Assumes nothing.
+use Rattle.std.specs.Prelude.{Some, None}
 use mathlib.Core.Path.{◌≡◌, refl, sym, ap, ap₂, ◌∙◌, subst}
 use mathlib.Core.Bool.{Bool, true, false, not, ◌&&◌, and-true, and-false}
 use mathlib.Core.List.{List, [], map}
@@ -9,7 +10,6 @@ use borrow.Author.Tests.{le-leb, lt-leb, eq-eqb, ne_eqb}
 use lib.ListN.{length, take, drop, get_or, replicate, length-replicate}
 use lib.Seq.{slice}
 use Rattle.entry.specs.Entry.{entry_of}
-use Rattle.entry.specs.declared.Found.TheVariants.{At, Nothing}
 use Rattle.model.specs.declared.AckRange.TheVariants.{Between}
 use Rattle.model.specs.declared.AckRule.{AckRule}
 use Rattle.model.specs.Model.{ack_rule}
@@ -18,7 +18,7 @@ use Rattle.definition.specs.Types.{Kind, Id, Entry, Inflight, Held, Audit, Dest}
 use Rattle.definition.specs.Types as Def
 use Rattle.definition.specs.Consumer.{Ack, ack_type, is_browser, ack_range}
 use Rattle.definition.specs.Destination.{sub_of}
-use Rattle.definition.specs.Words.{at, present}
+use Rattle.definition.specs.Words.{at}
 use Rattle.definition.specs.Layout.{Row, Buffers, inflight_at, held_at, sub_rows, ids_at, audits_at, view}
 use Rattle.definition.proofs.Tests.{if-true, if-false}
 use Rattle.definition.proofs.Stored.{flying-rows, held_rows}
@@ -32,7 +32,7 @@ use Rattle.state.specs.declared.Head.{Head}
 use Rattle.state.specs.State.{head_view, loaded, used_of, kind_by, first_reserved, first_waiting}
 use Rattle.state.specs.Fits.{fits, Fits}
 use Rattle.state.proofs.View.{loaded-long, loaded-view}
-use Rattle.acks.specs.declared.Span.{Span}
+use Rattle.table.specs.declared.Span.{Span}
 use Rattle.acks.specs.Rules.{in_numbers, in_span, rows_in, span_in}
 use Rattle.acks.specs.Parts.{own_flying, own_held, own_view, Own}
 use Rattle.acks.proofs.Rules.{spans-between}
@@ -76,7 +76,7 @@ events = replicate 545 []
 roomy : {subs : List Row} {d : Head} {rows : ℕ} → Fits subs d rows 545 → Fits subs d rows (length events)
 roomy {subs} {d} {rows} f = subst (λ (n : ℕ). Fits subs d rows n) (sym (length-replicate {A = Row} 545 [])) f
 
-module _ (subs rows : List Row) (d : Head) (f : Fits subs d (length rows) 545) (id : Id) (a : Ack) (i : ℕ) (e : position_from 0 id (take d.consumers subs) ≡ At i)
+module _ (subs rows : List Row) (d : Head) (f : Fits subs d (length rows) 545) (id : Id) (a : Ack) (i : ℕ) (e : position_from 0 id (take d.consumers subs) ≡ Some i)
     (base : ℕ) (s : Sub) (eb : base ≡ min 513 (sub_rows (take i subs))) (es : s ≡ row_sub (get_or subs i [])) where
   abbrev k : Kind
   k = kind_by d.queue
@@ -137,7 +137,7 @@ module _ (id : Id) (a : Ack) (t : Dest) where
       ∙ lasting-rows (wants_row id p) l
 
 module _ (subs rows : List Row) (d : Head) (f : Fits subs d (length rows) 545) (id : Id) (a : Ack) where
-  pub absent-is : position_from 0 id (take d.consumers subs) ≡ Nothing → head_rejected id a d subs rows ≡ rejected_of id a (head_view d subs rows [] []) none
+  pub absent-is : position_from 0 id (take d.consumers subs) ≡ None → head_rejected id a d subs rows ≡ rejected_of id a (head_view d subs rows [] []) none
   unfolding head_view
   absent-is e = ap (rejected_of id a (head_view d subs rows [] [])) (found_none id (take d.consumers subs) e (kind_by d.queue) rows)
 

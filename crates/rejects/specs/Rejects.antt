@@ -11,7 +11,7 @@ use Rattle.definition_station.specs.Letters.{is_poison, rejected_of, rejected}
 use Rattle.state.specs.declared.Head.{Head}
 use Rattle.state.specs.State.{loaded, head_view}
 use Rattle.state.specs.Fits.{fits}
-use Rattle.acks.specs.declared.Span.{Span}
+use Rattle.table.specs.declared.Span.{Span}
 use Rattle.acks.specs.Rules.{in_numbers}
 use Rattle.reserved.specs.Reserved.{wants_row}
 

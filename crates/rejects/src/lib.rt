@@ -1,11 +1,10 @@
 // The persistent entries that an acknowledgement rejects, read before it is made: document 02 §1 makes them its dead letters.
 #![tactic(auto)]
 
-ghost use Rattle.std.specs.Prelude.{◌≡◌, [], map, ◌≤◌, length, take};
+ghost use Rattle.std.specs.Prelude.{◌≡◌, [], map, ◌≤◌, length, take, Some};
 ghost use Rattle.std.proofs.Math.Option.{none};
 ghost use Rattle.std.proofs.Math.Seq.{slice};
 ghost use Rattle.entry.specs.Entry.{entry_of};
-ghost use Rattle.entry.specs.declared.Found.TheVariants.{At};
 ghost use Rattle.definition.specs.Base.{whether◌then◌else◌, keep};
 ghost use Rattle.definition.specs.Types as Def;
 ghost use Rattle.definition.specs.Layout.{held_at, view, lent};
@@ -19,7 +18,7 @@ ghost use Rattle.rejects.specs.Rejects.{rejecting, letters_fit, buffer_rejected,
 use acks::{Ack, Span};
 use calls::Call;
 use consumers::SubRow;
-use entry::{DSEQ, Found, Row};
+use entry::{DSEQ, Row};
 use model::{AckRange, AckRule, AckType, Id};
 use state::Head;
 
@@ -48,15 +47,10 @@ fn copy(rows: &[Row], from: usize, to: usize, gone: bool, id: Id, p: Span, out: 
     ensures { Copied (map entry_of (keep (letter_row gone id p) (slice from to rows.now))) result out.old out.new }
 {
     let mut n = 0;
-    let mut i = from;
-    while i < to {
-        let row = rows[i];
-        if dies(row, gone, id, p) {
-            out[n] = row;
+    for row in &rows[from..to] {
+        if dies(*row, gone, id, p) {
+            out[n] = *row;
             n += 1;
-            i += 1;
-        } else {
-            i += 1;
         }
     }
     n
@@ -74,7 +68,7 @@ fn of_present(
     a: Ack,
     out: &mut [Row],
 ) -> usize
-    requires { Fits subs.now d (length rows.now) 545 × (512 ≤ length out.old) × (position_from 0 id (take d.consumers subs.now) ≡ At i) }
+    requires { Fits subs.now d (length rows.now) 545 × (512 ≤ length out.old) × (position_from 0 id (take d.consumers subs.now) ≡ Some i) }
     ensures { Copied (head_rejected id (ack_of a) d subs.now rows.now) result out.old out.new }
 {
     let s = consumers::load(subs, i);
@@ -92,12 +86,11 @@ fn of_absent(rows: &[Row], d: Head, id: Id, a: Ack, out: &mut [Row]) -> usize
     requires { (first_waiting d ≤ length rows.now) × (first_waiting d ≤ length out.old) }
     ensures { (t : Def.Dest) → t.reserved ≡ map held_at (slice (first_reserved d) (first_waiting d) rows.now) → Copied (rejected_of id (ack_of a) t none) result out.old out.new }
 {
-    if !a.has_last {
+    let Some(last) = a.last else {
         return 0;
-    }
+    };
     let rule = AckRule::of(a.kind);
-    let range = rule.reserved;
-    let p = reserved::numbers(range, a);
+    let p = reserved::numbers(rule.reserved, a.first, last);
     let from = d.first_reserved();
     let to = d.first_waiting();
     copy(rows, from, to, true, id, p, out)
@@ -109,8 +102,8 @@ fn of_ack(subs: &[SubRow], rows: &[Row], d: Head, id: Id, a: Ack, out: &mut [Row
     ensures { Copied (head_rejected id (ack_of a) d subs.now rows.now) result out.old out.new }
 {
     match consumers::position(subs, d.consumers, id) {
-        Found::At(i) => of_present(subs, rows, d, i, id, a, out),
-        Found::Nothing => of_absent(rows, d, id, a, out),
+        Some(i) => of_present(subs, rows, d, i, id, a, out),
+        None => of_absent(rows, d, id, a, out),
     }
 }
 

@@ -1,6 +1,6 @@
 -- The blocks that a queue holds, by the rows of its tables, and the two lists after a call. Assumes nothing.
 use mathlib.Core.Path.{◌≡◌, refl, sym, ap, ap₂, ◌∙◌}
-use mathlib.Core.Bool.{Bool, true, false, not, ◌||◌}
+use mathlib.Core.Bool.{Bool, false, not}
 use mathlib.Core.List.{List, [], ◌∷◌, ◌++◌, map, map-append}
 use Prim.Native.Nat.{ℕ, ◌+◌, ◌≤◌}
 use native.Mathlib.Nat.{zero-add}
@@ -134,14 +134,14 @@ module _ (d : Head) (subs rows : List Row) (code : ℕ) (ws : List ℕ) (n : ℕ
     fresh-is : take m fresh ≡ holds
     fresh-is = ap (take m) put ∙ first_of m holds clear (omega (arith, many, few, long)) many
 
-    pub accounted : (k : ℕ) (held' left' : List Block) → k ≡ length (leaves (take m fresh)) → k ≤ n + 1 → left' ≡ sets left 0 (leaves (take m fresh)) → held' ≡ sets held 0 (take m fresh) → AccountKept d subs rows code ws n held held' left left' m k
+    pub accounted : (k : ℕ) (held' left' : List Block) → k ≡ length (leaves (take m fresh)) → k ≤ n + 1 → left' ≡ sets left 0 (leaves (take m fresh)) → held' ≡ take m fresh ++ drop m held → AccountKept d subs rows code ws n held held' left left' m k
     accounted k held' left' c b l h =
         let g = long-lists n (length held) (length left) s in
         let e : k ≡ length (leaves holds) = c ∙ ap (λ (x : List Block). length (leaves x)) fresh-is in
         record {
           held-count = many;
           left-count = e;
-          holds = h ∙ ap (sets held 0) fresh-is ∙ put_first holds held (omega (arith, g.held-long, many, few));
+          holds = h ∙ ap₂ (λ (l : List Block) (j : ℕ). l ++ drop j held) fresh-is many;
           leaves = l ∙ ap (λ (x : List Block). sets left 0 (leaves x)) fresh-is ∙ put_first (leaves holds) left (omega (arith, g.left-long, g.few, e, b));
           held-few = few;
           left-few = omega (arith, g.few, b);

@@ -2,16 +2,16 @@
 use mathlib.Core.Path.{◌≡◌, refl, sym, ap, ap₂, ◌∙◌, subst⁻¹}
 use mathlib.Core.Bool.{Bool, true, false, not, ◌||◌}
 use mathlib.Core.List.{List, [], ◌++◌}
-use Prim.Native.Nat.{ℕ, ◌≤◌}
+use Prim.Native.Nat.{ℕ}
 use native.Mathlib.Omega.{arith}
 use borrow.Author.Tests.{eq-eqb, ne_eqb}
 use lib.Dec.{eqb}
 use lib.ListN.{length, take}
 use Rattle.definition.specs.Base.{whether◌then◌else◌}
 use Rattle.definition.specs.Types.{Dest}
-use Rattle.definition.specs.Calls.{short, Result, refused}
+use Rattle.definition.specs.Calls.{short, Result}
 use Rattle.definition.specs.Queries.{is_queue}
-use Rattle.definition.specs.Layout.{Row, Buffers, view, lengths_of, buffer_step}
+use Rattle.definition.specs.Layout.{Row, Buffers, lengths_of, buffer_step}
 use Rattle.definition.proofs.Tests.{by-test, if-true, if-false}
 use Rattle.state.specs.declared.Head.{Head}
 use Rattle.state.specs.State.{head_view, loaded}

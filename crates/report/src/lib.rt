@@ -1,7 +1,7 @@
 // A call with the account of a queue's blocks beside it, in two lent lists: those that the queue holds, and those that leave in the call.
 #![tactic(auto)]
 
-ghost use Rattle.std.specs.Prelude.{◌≡◌, false, [], map, ◌+◌, ◌≤◌, ltb, length, take, drop};
+ghost use Rattle.std.specs.Prelude.{◌≡◌, false, [], map, ◌+◌, ◌<◌, ◌≤◌, length, take, drop, is_some, IfSome};
 ghost use Rattle.std.proofs.lemmas.List.Edits.{sets};
 ghost use Rattle.std.proofs.Math.Seq.{slice};
 ghost use Rattle.entry.specs.Entry.{entry_of};
@@ -22,7 +22,7 @@ use state::{Event, Head};
 // A sequence number, the number of a place, and whether it is persistent (0 or 1).
 pub type Block = [u64; 3];
 
-// The places: held in one of three ways, or gone in one of five.
+// The places: held in one of three ways, or gone in one of five. Numbers: C has them in a block.
 pub const WAITING: u64 = 0;
 
 pub const IN_FLIGHT: u64 = 1;
@@ -44,7 +44,7 @@ pub const HELD_MOST: usize = 512;
 
 pub const LEFT_MOST: usize = 513;
 
-// The refusal (0: accepted), the answer, how many events were written, how many blocks are held, and how many left.
+// The refusal (0: accepted), the answer, how many events were written, how many blocks are held, and how many left. Flat, as C has it.
 #[repr(C)]
 #[derive(Clone, Copy)]
 pub struct Noted {
@@ -55,7 +55,7 @@ pub struct Noted {
     pub left: usize,
 }
 
-// The refusal (0: listed), and how many blocks there are, 0 beside a refusal.
+// The refusal (0: listed), and how many blocks there are, 0 beside a refusal. Flat, as C has it.
 #[repr(C)]
 #[derive(Clone, Copy)]
 pub struct Listed {
@@ -121,10 +121,8 @@ fn gather(rows: &[Row], from: usize, n: usize, place: u64, out: &mut [Block], st
     requires n_bound { start + n ≤ (length out.old) }
     ensures { out.new ≡ sets out.old start (map (row_block place) (take n (drop from rows.now))) }
 {
-    let mut i = 0;
-    while i < n {
+    for i in 0..n {
         out[start + i] = block_of(rows[from + i], place);
-        i += 1;
     }
 }
 
@@ -149,14 +147,12 @@ fn gather_taken(subs: &[SubRow], n: usize, rows: &[Row], out: &mut [Block], star
 {
     let mut end = start;
     let mut base = 0;
-    let mut i = 0;
-    while i < n {
+    for i in 0..n {
         let w = subs[i];
         let k = taken_of(w);
         gather(rows, base, k, IN_FLIGHT, out, end);
         end += k;
         base += w[INFLIGHT] as usize + w[consumers::HELD] as usize;
-        i += 1;
     }
     end
 }
@@ -180,37 +176,32 @@ fn gather_all(d: Head, subs: &[SubRow], rows: &[Row], out: &mut [Block]) -> usiz
 
 // ---- what leaves
 
-// Where the first of blocks[from..to] with the number stands; `to` where there is none.
-fn seek(blocks: &[Block], from: usize, to: usize, seq: u64) -> usize
+// Where the first of blocks[from..to] with the number stands.
+fn seek(blocks: &[Block], from: usize, to: usize, seq: u64) -> Option<usize>
     requires from_le_to { from ≤ to }
     requires to_bound { to ≤ (length blocks.now) }
-    ensures { ltb result to ≡ member seq (map (at 0) (slice from to blocks.now)) }
+    ensures found { is_some result ≡ member seq (map (at 0) (slice from to blocks.now)) }
+    ensures place { IfSome result (λ k. k < to) }
 {
-    let mut i = from;
-    while i < to {
+    for i in from..to {
         if blocks[i][0] == seq {
-            return i;
+            return Some(i);
         }
-        i += 1;
     }
-    to
+    None
 }
 
-// Where the number stands among the first n blocks, looked for from the hint on and then before it; n where there is none.
-fn find(blocks: &[Block], n: usize, seq: u64, hint: usize) -> usize
+// Where the number stands among the first n blocks, looked for from the hint on and then before it.
+fn find(blocks: &[Block], n: usize, seq: u64, hint: usize) -> Option<usize>
     requires hint_le_n { hint ≤ n }
     requires n_bound { n ≤ (length blocks.now) }
-    ensures { ltb result n ≡ member seq (map (at 0) (take n blocks.now)) }
+    ensures found { is_some result ≡ member seq (map (at 0) (take n blocks.now)) }
+    ensures place { IfSome result (λ k. k < n) }
 {
-    let next = seek(blocks, hint, n, seq);
-    if next < n {
-        return next;
+    match seek(blocks, hint, n, seq) {
+        Some(place) => Some(place),
+        None => seek(blocks, 0, hint, seq),
     }
-    let place = seek(blocks, 0, hint, seq);
-    if place < hint {
-        return place;
-    }
-    n
 }
 
 // Of the first n blocks those whose number is none of the first m that are held now, into left from place start; the place after them. A block that stays is
@@ -234,17 +225,14 @@ fn leave(
 {
     let mut hint = 0;
     let mut k = start;
-    let mut i = 0;
-    while i < n {
+    for i in 0..n {
         let b = blocks[i];
-        let place = find(held, m, b[0], hint);
-        if place < m {
-            hint = place + 1;
-            i += 1;
-        } else {
-            left[k] = went(b, code, words);
-            k += 1;
-            i += 1;
+        match find(held, m, b[0], hint) {
+            Some(place) => hint = place + 1,
+            None => {
+                left[k] = went(b, code, words);
+                k += 1;
+            }
         }
     }
     k
@@ -270,8 +258,7 @@ fn leave_new(
     }
     let seq = words[0];
     let persistent = (words[2] == 1) as u64;
-    let place = find(held, m, seq, 0);
-    if place < m {
+    if find(held, m, seq, 0).is_some() {
         return k;
     }
     left[k] = went([seq, WAITING, persistent], code, words);
@@ -304,19 +291,6 @@ fn leave_all(
 
 // ---- a call
 
-// The first n of a list over the first of another.
-fn copy(from: &[Block], n: usize, out: &mut [Block])
-    requires n_bound { n ≤ (length from.now) }
-    requires n_bound_2 { n ≤ (length out.old) }
-    ensures { out.new ≡ sets out.old 0 (take n from.now) }
-{
-    let mut i = 0;
-    while i < n {
-        out[i] = from[i];
-        i += 1;
-    }
-}
-
 // How many are held, and how many left.
 #[derive(Clone, Copy)]
 struct Moved {
@@ -342,7 +316,7 @@ fn account(
     let mut fresh = [[0u64; 3]; 512];
     let m = gather_all(d, subs, rows, &mut fresh);
     let k = leave_all(held, n, &fresh, m, code, words, left);
-    copy(&fresh, m, held);
+    held[..m].copy_from_slice(&fresh[..m]);
     Moved { held: m, left: k }
 }
 
@@ -378,36 +352,25 @@ pub fn call(
         };
     }
     let out = engine::call(head, subs, rows, events, c);
-    let refusal = out.refusal;
-    let answer = out.answer;
-    let sent = out.events;
-    if refusal != 0 {
-        return Noted {
-            refusal,
-            answer,
-            events: sent,
-            held: n,
-            left: 0,
-        };
+    let noted = Noted {
+        refusal: out.refusal,
+        answer: out.answer,
+        events: out.events,
+        held: n,
+        left: 0,
+    };
+    if out.refusal != 0 {
+        return noted;
     }
     let d = state::load(head, subs);
     if !d.queue {
-        return Noted {
-            refusal,
-            answer,
-            events: sent,
-            held: 0,
-            left: 0,
-        };
+        return Noted { held: 0, ..noted };
     }
-    let words = c.words;
-    let moved = account(d, subs, rows, held, n, left, c.code, words);
+    let moved = account(d, subs, rows, held, n, left, c.code, c.words);
     Noted {
-        refusal,
-        answer,
-        events: sent,
         held: moved.held,
         left: moved.left,
+        ..noted
     }
 }
 
@@ -483,8 +446,8 @@ pub fn leavers(
     ensures upper_bound { result ≤ start + n }
     ensures left_after { left.new ≡ sets left.old start (leavers_put code words (take m held.now) (take n blocks.now) start (length left.old)) }
 {
-    let end = consumers::end_of(n, blocks.len());
-    let among = consumers::end_of(m, held.len());
+    let end = n.min(blocks.len());
+    let among = m.min(held.len());
     if left.len() < end {
         return start;
     }
@@ -498,14 +461,5 @@ pub fn leavers(
 pub fn total(blocks: &[Block], n: usize, place: u64) -> usize
     ensures { result ≡ tally (is_at_place place) (take n blocks.now) }
 {
-    let end = consumers::end_of(n, blocks.len());
-    let mut count = 0;
-    let mut i = 0;
-    while i < end {
-        if blocks[i][1] == place {
-            count += 1;
-        }
-        i += 1;
-    }
-    count
+    blocks.iter().take(n).filter(|b| b[1] == place).count()
 }

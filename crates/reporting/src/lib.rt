@@ -59,13 +59,10 @@ pub struct Heard {
 pub fn ways(held: &[Block], n: usize) -> Ways
     ensures { result ≡ ways_of (take n held.now) }
 {
-    let waiting = report::total(held, n, report::WAITING) as u64;
-    let flying = report::total(held, n, report::IN_FLIGHT) as u64;
-    let reserved = report::total(held, n, report::RESERVED) as u64;
     Ways {
-        waiting,
-        flying,
-        reserved,
+        waiting: report::total(held, n, report::WAITING) as u64,
+        flying: report::total(held, n, report::IN_FLIGHT) as u64,
+        reserved: report::total(held, n, report::RESERVED) as u64,
     }
 }
 
@@ -141,8 +138,7 @@ fn report_calls(
     let mut kept = start;
     let mut index = from;
     let mut at = 0;
-    let mut k = 0;
-    while k < count {
+    for k in 0..count {
         let c = callfile::call_at(block, k);
         let t = report_call(
             head, subs, rows, events, held, left, kept, c, index, out, at,
@@ -150,7 +146,6 @@ fn report_calls(
         kept = t.kept;
         at = t.next;
         index = stats::more_of(index);
-        k += 1;
     }
     let ran = Ran {
         index,

@@ -8,7 +8,8 @@ use mathlib.Core.List.{List, [], ◌∷◌, ◌++◌, append_assoc, append-nil}
 use borrow.Author.Tests.{eq-eqb, ne_eqb}
 use lib.Dec.{eqb}
 use lib.ListN.{length, take, get_or, length-append, length-take}
-use lib.Seq.{take-suc, take_all}
+use lib.Seq.{take-suc}
+use Rattle.std.specs.List.{fold}
 use Rattle.words.specs.Words.{signed}
 use Rattle.definition.specs.Words.{at}
 use Rattle.definition.proofs.Tests.{by-if}
@@ -141,28 +142,9 @@ module _ (blocks : List Block) (from i n : ℕ) (out₀ out : List ℕ) (at : �
       subst (λ (t : List ℕ). Puts t from out₀ r out') (sym (ap (λ (k : ℕ). blocks_text (take k blocks)) (add-one i) ∙ ap blocks_text (take-suc blocks i [] fits) ∙ blocks_last (take i blocks) (get_or blocks i [])))
       (then s p)
 
-  pub all_there : i ≤ n → length blocks ≤ i → Puts (blocks_text (take n blocks)) from out₀ at out
-  all_there h k = subst (λ (bs : List Block). Puts (blocks_text bs) from out₀ at out) (take_all i blocks k ∙ sym (take_all n blocks (omega arith))) s
-
 -- ---- what is gone
 
-gone-last : (bs : List Block) (b : Block) (g : Gone) → all_gone (bs ++ b ∷ []) g ≡ one_gone (at 1 b) (all_gone bs g)
+pub fold-gone : (bs : List Block) (g : Gone) → fold (λ (h : Gone) (b : Block). one_gone (at 1 b) h) g bs ≡ all_gone bs g
 unfolding all_gone
-gone-last [] b g = refl
-gone-last (a ∷ bs) b g = gone-last bs b (one_gone (at 1 a) g)
-
-pub gone-none : (g : Gone) → g ≡ all_gone [] g
-unfolding all_gone
-gone-none g = refl
-
-module _ (left : List Block) (i n : ℕ) (g₀ g : Gone) (e : g ≡ all_gone (take i left) g₀) where
-  pub gone-more : i < length left → {r : Gone} → r ≡ one_gone (at 1 (get_or left i [])) g → r ≡ all_gone (take (i + 1) left) g₀
-  gone-more h {r} k =
-      k ∙ ap (one_gone (at 1 (get_or left i []))) e
-      ∙ sym (ap (λ (m : ℕ). all_gone (take m left) g₀) (add-one i) ∙ ap (λ (bs : List Block). all_gone bs g₀) (take-suc left i [] h) ∙ gone-last (take i left) (get_or left i []) g₀)
-
-  pub gone-over : i ≤ n → length left ≤ i → g ≡ all_gone (take n left) g₀
-  gone-over h k = e ∙ ap (λ (bs : List Block). all_gone bs g₀) (take_all i left k ∙ sym (take_all n left (omega arith)))
-
-  pub gone-all : i ≡ n → g ≡ all_gone (take n left) g₀
-  gone-all h = e ∙ ap (λ (k : ℕ). all_gone (take k left) g₀) h
+fold-gone [] g = refl
+fold-gone (b ∷ bs) g = fold-gone bs (one_gone (at 1 b) g)

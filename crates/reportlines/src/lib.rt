@@ -1,11 +1,11 @@
 // The lines of a report of a queue's blocks, and the counts of those that are gone. Where there is no room nothing is put.
 #![tactic(auto)]
 
-ghost use Rattle.std.specs.Prelude.{◌≡◌, [], ◌∷◌, ◌+◌, ◌*◌, ◌≤◌, eqb, leb, length, take};
+ghost use Rattle.std.specs.Prelude.{◌≡◌, [], ◌∷◌, ◌+◌, ◌*◌, ◌≤◌, leb, length, take};
 ghost use Rattle.words.specs.Words.{signed};
 ghost use Rattle.callfile.specs.Lines.{field, signed_field};
 ghost use Rattle.callfile.specs.Placed.{Puts, PutLine};
-ghost use Rattle.reportlines.specs.ReportLines.{ways_fields, turn_line, join_line, enqueue_line, brought_line, place_name, block_line, blocks_text, none_gone, more_at, one_gone, all_gone, gone_after, gone_fields, totals_line};
+ghost use Rattle.reportlines.specs.ReportLines.{ways_fields, turn_line, join_line, enqueue_line, brought_line, place_name, block_line, blocks_text, one_gone, gone_after, gone_fields, totals_line};
 
 use calls::Call;
 
@@ -27,7 +27,19 @@ pub struct Gone {
     pub cleared: u64,
 }
 
+impl Gone {
+    const NONE: Gone = Gone {
+        dequeued: 0,
+        expired: 0,
+        discarded: 0,
+        dead_lettered: 0,
+        cleared: 0,
+    };
+}
+
 // ---- parts
+
+// Where there is room, as callers here have tested. Each crate of lines has its own: a public one would have to promise something without room.
 
 fn put_letter(out: &mut [u8], at: usize, b: u8) -> usize
     requires { at + 1 ≤ length out.old }
@@ -107,6 +119,7 @@ fn enqueue_line(out: &mut [u8], at: usize, words: [u64; 8]) -> usize
     put_letter(out, c, b'\n')
 }
 
+// The refusal is the number that a call line prints, here and in what follows.
 fn brought_line(
     out: &mut [u8],
     at: usize,
@@ -121,16 +134,11 @@ fn brought_line(
     if refusal != 0 {
         return at;
     }
-    if code == Call::JOIN {
-        return join_line(out, at, words);
+    match code {
+        Call::JOIN => join_line(out, at, words),
+        Call::ENQUEUE if queue => enqueue_line(out, at, words),
+        _ => at,
     }
-    if code != Call::ENQUEUE {
-        return at;
-    }
-    if !queue {
-        return at;
-    }
-    enqueue_line(out, at, words)
 }
 
 // What an accepted call brought; a refused one nothing: a join its consumer, an enqueue on a queue its block.
@@ -173,10 +181,7 @@ fn put_place(out: &mut [u8], at: usize, place: u64) -> usize
 pub fn put_name(out: &mut [u8], at: usize, place: u64) -> usize
     ensures { PutLine 14 (place_name place) at out.old result out.new }
 {
-    if out.len() < 14 {
-        return at;
-    }
-    if out.len() - 14 < at {
+    if out.len() < 14 || out.len() - 14 < at {
         return at;
     }
     put_place(out, at, place)
@@ -202,24 +207,16 @@ fn blocks_fit(len: usize, at: usize, n: usize) -> bool
         return false;
     }
     let room = len - callfile::LINE;
-    if room / 64 < n {
-        return false;
-    }
-    at <= room - 64 * n
+    n <= room / 64 && at <= room - 64 * n
 }
 
-fn each_block(out: &mut [u8], from: usize, blocks: &[[u64; 3]], n: usize) -> usize
-    requires { from + (128 + 64 * n) ≤ length out.old }
-    ensures { Puts (blocks_text (take n blocks.now)) from out.old result out.new × (result ≤ from + (128 + 64 * n)) }
+fn each_block(out: &mut [u8], from: usize, blocks: &[[u64; 3]]) -> usize
+    requires { from + (128 + 64 * length blocks.now) ≤ length out.old }
+    ensures { Puts (blocks_text blocks.now) from out.old result out.new × (result ≤ from + (128 + 64 * length blocks.now)) }
 {
     let mut at = from;
-    let mut i = 0;
-    while i < n {
-        if blocks.len() <= i {
-            return at;
-        }
-        at = block_line(out, at, blocks[i]);
-        i += 1;
+    for b in blocks {
+        at = block_line(out, at, *b);
     }
     at
 }
@@ -231,71 +228,46 @@ pub fn put_blocks(out: &mut [u8], from: usize, blocks: &[[u64; 3]], n: usize) ->
     if !blocks_fit(out.len(), from, n) {
         return from;
     }
-    each_block(out, from, blocks, n)
+    each_block(out, from, &blocks[..n.min(blocks.len())])
 }
 
 // ---- what is gone
-
-// One more, where the place is this one.
-fn more_at(place: u64, mine: u64, n: u64) -> u64
-    ensures { result ≡ more_at place mine n }
-{
-    if place != mine {
-        return n;
-    }
-    stats::more_of(n)
-}
 
 // One more is gone to a place.
 fn one_gone(place: u64, g: Gone) -> Gone
     ensures { result ≡ one_gone place g }
 {
-    let dequeued = more_at(place, 3, g.dequeued);
-    let expired = more_at(place, 4, g.expired);
-    let discarded = more_at(place, 5, g.discarded);
-    let dead_lettered = more_at(place, 6, g.dead_lettered);
-    let cleared = more_at(place, 7, g.cleared);
-    Gone {
-        dequeued,
-        expired,
-        discarded,
-        dead_lettered,
-        cleared,
+    match place {
+        3 => Gone {
+            dequeued: stats::more_of(g.dequeued),
+            ..g
+        },
+        4 => Gone {
+            expired: stats::more_of(g.expired),
+            ..g
+        },
+        5 => Gone {
+            discarded: stats::more_of(g.discarded),
+            ..g
+        },
+        6 => Gone {
+            dead_lettered: stats::more_of(g.dead_lettered),
+            ..g
+        },
+        7 => Gone {
+            cleared: stats::more_of(g.cleared),
+            ..g
+        },
+        _ => g,
     }
-}
-
-// Each of the first n blocks that left.
-fn all_gone(start: Gone, left: &[[u64; 3]], n: usize) -> Gone
-    ensures { result ≡ all_gone (take n left.now) start }
-{
-    let mut g = start;
-    let mut i = 0;
-    while i < n {
-        if left.len() <= i {
-            return g;
-        }
-        let b = left[i];
-        g = one_gone(b[1], g);
-        i += 1;
-    }
-    g
 }
 
 // What is gone after a call: n blocks more, or only these where an account begins anew.
 pub fn gone_after(g: Gone, left: &[[u64; 3]], n: usize, anew: bool) -> Gone
     ensures { result ≡ gone_after anew (take n left.now) g }
 {
-    if anew {
-        let none = Gone {
-            dequeued: 0,
-            expired: 0,
-            discarded: 0,
-            dead_lettered: 0,
-            cleared: 0,
-        };
-        return all_gone(none, left, n);
-    }
-    all_gone(g, left, n)
+    let start = if anew { Gone::NONE } else { g };
+    left.iter().take(n).fold(start, |g, b| one_gone(b[1], g))
 }
 
 fn put_gone(out: &mut [u8], at: usize, g: Gone) -> usize

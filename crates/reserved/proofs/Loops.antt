@@ -1,19 +1,20 @@
 -- The loops over the reserved rows, a turn at a time. Assumes nothing.
-use mathlib.Core.Path.{◌≡◌, refl, sym, ap, ap₂, ◌∙◌}
-use mathlib.Core.Bool.{true, false, not}
-use mathlib.Core.List.{List, [], ◌∷◌, map}
+use mathlib.Core.Path.{◌≡◌, sym, ap, ap₂, ◌∙◌}
+use mathlib.Core.Bool.{false, not}
+use mathlib.Core.List.{List, [], map}
 use Prim.Native.Nat.{ℕ, ◌+◌, ◌-◌, ◌≤◌, ◌<◌}
-use native.Mathlib.Numerals.{add-one}
 use native.Mathlib.Omega.{arith}
 use borrow.Author.Tests.{le-leb, lt-leb}
-use lib.ListN.{length, take, drop, get_or}
-use lib.Seq.{slice, slice_empty, slice-cons}
+use lib.ListN.{length-drop, length, take, drop, get_or}
+use lib.Seq.{length-take-le, get_or-take, get_or-drop, slice}
 use Rattle.definition.specs.Base.{keep, empty}
 use Rattle.definition.specs.Types.{Id, Audit, Held}
 use Rattle.definition.specs.Destination.{held_by, reserved_of}
 use Rattle.definition.specs.Layout.{Row, held_at, sub_rows}
 use Rattle.definition.proofs.Tests.{if-true, if-false}
 use Rattle.definition.proofs.Lists.{empty-map}
+use Rattle.definition.proofs.Chains.{list_any-keep, slice-range}
+use Rattle.std.specs.List.{list_any, slice_range}
 use Rattle.table.proofs.Lists.{slice-take}
 use Rattle.table.proofs.Segments.{keep-map}
 use Rattle.state.specs.declared.Head.{Head}
@@ -22,19 +23,6 @@ use Rattle.state.specs.Fits.{Fits}
 use Rattle.reserved.specs.Reserved.{any_held, has_reserved}
 
 -- ---- has_reserved
-
-module _ (id : Id) (rows : List Row) (i to : ℕ) (less : i < to) (room : to ≤ length rows) where
-  left_is : slice i to rows ≡ get_or rows i [] ∷ slice (i + 1) to rows
-  left_is = slice-cons i to rows [] less room ∙ ap (λ (n : ℕ). get_or rows i [] ∷ slice n to rows) (sym (add-one i))
-
-  pub any_here : held_by id (held_at (get_or rows i [])) ≡ true → any_held id (slice i to rows) ≡ true
-  any_here t = ap (any_held id) left_is ∙ rw t
-
-  pub any-later : held_by id (held_at (get_or rows i [])) ≡ false → any_held id (slice i to rows) ≡ any_held id (slice (i + 1) to rows)
-  any-later t = ap (any_held id) left_is ∙ rw t
-
-pub any_none : (id : Id) (rows : List Row) (to : ℕ) → any_held id (slice to to rows) ≡ false
-any_none id rows to = ap (any_held id) (slice_empty to rows)
 
 module _ (d : Head) (id : Id) (rows : List Row) where
   pub has_short : length rows < first_waiting d → has_reserved d id rows ≡ false
@@ -45,33 +33,14 @@ module _ (d : Head) (id : Id) (rows : List Row) where
   unfolding has_reserved
   has-long h = if-true _ _ (le-leb (first_waiting d) (length rows) h)
 
--- while no row up to i is held by it
-pub record Seeking (id : Id) (rows : List Row) (from to i : ℕ) : Type 0 where
-  pub within : i ≤ to
-  pub room : to ≤ length rows
-  pub same : any_held id (slice i to rows) ≡ any_held id (slice from to rows)
-
-module _ (d : Head) (id : Id) (rows : List Row) (from to : ℕ) (ef : from ≡ first_reserved d) (et : to ≡ first_waiting d) where
-  pub seek-short : length rows < to → false ≡ has_reserved d id rows
-  seek-short h = sym (has_short d id rows (omega arith))
-
-  pub seek-start : to ≤ length rows → Seeking id rows from to from
-  seek-start h = record { within = omega arith; room = h; same = refl }
-
-  module _ (i : ℕ) (g : Seeking id rows from to i) where
-    has-is : has_reserved d id rows ≡ any_held id (slice i to rows)
-    has-is = has-long d id rows (omega (arith, g.room)) ∙ ap₂ (λ (x y : ℕ). any_held id (slice x y rows)) (sym ef) (sym et) ∙ sym g.same
-
-    pub seek_found : i < to → held_by id (held_at (get_or rows i [])) ≡ true → true ≡ has_reserved d id rows
-    seek_found h t = sym (has-is ∙ any_here id rows i to h g.room t)
-
-    pub seek-on : i < to → held_by id (held_at (get_or rows i [])) ≡ false → Seeking id rows from to (i + 1)
-    seek-on h t = record { within = omega arith; room = g.room; same = sym (any-later id rows i to h g.room t) ∙ g.same }
-
-    pub seek-end : to ≤ i → false ≡ has_reserved d id rows
-    seek-end h =
-        let e : i ≡ to = omega (arith, g.within) in
-        sym (has-is ∙ ap (λ (n : ℕ). any_held id (slice n to rows)) e ∙ any_none id rows to)
+-- what `any` says of the rows in between
+pub has-range : (d : Head) (id : Id) (rows : List Row) (from to : ℕ) → from ≡ first_reserved d → to ≡ first_waiting d → to ≤ length rows
+    → list_any (λ w. held_by id (held_at w)) (slice_range rows from to) ≡ has_reserved d id rows
+has-range d id rows from to ef et h =
+    list_any-keep (λ w. held_by id (held_at w)) (slice_range rows from to)
+    ∙ ap (any_held id) (sym (slice-range from to rows (omega arith)))
+    ∙ ap₂ (λ (x y : ℕ). any_held id (slice x y rows)) ef et
+    ∙ sym (has-long d id rows (omega arith))
 
 -- ---- where the numbers fit, this is the view's
 
@@ -94,3 +63,11 @@ has-reserved-view subs rows d events id producers audits f =
     empty-map (λ (h : Held). h.entry) (keep (held_by id) (map held_at l))
     ∙ ap empty (keep-map held_at (held_by id) l)
     ∙ empty-map held_at (keep (λ w. held_by id (held_at w)) l)))
+
+-- ---- the rows of `&rows[from..to]`, one by one
+
+pub row_in : (rows : List Row) (from to k : ℕ) → k < to - from → get_or (slice_range rows from to) k [] ≡ get_or rows (from + k) []
+row_in rows from to k h = get_or-take (to - from) (drop from rows) k [] h ∙ get_or-drop from rows k []
+
+pub row_count : (rows : List Row) (from to : ℕ) → to ≤ length rows → length (slice_range rows from to) ≡ to - from
+row_count rows from to h = length-take-le (to - from) (drop from rows) (omega (arith, length-drop from rows))

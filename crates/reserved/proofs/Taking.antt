@@ -32,7 +32,7 @@ use Rattle.state.specs.State.{head_view, strict_tables, kind_by, with_counters, 
 use Rattle.state.specs.Fits.{Fits}
 use Rattle.state.specs.Leaves.{Leaves, Room}
 use Rattle.state.proofs.Counts.{dequeued-plain, expired-plain}
-use Rattle.acks.specs.declared.Span.{Span}
+use Rattle.table.specs.declared.Span.{Span}
 use Rattle.acks.specs.Parts.{Told, row_letters, row_discards}
 use Rattle.reserved.specs.Reserved.{wants, wants_row, wanted_of, taken_counts, taken_events, taking, told_counts, told_events, counted_head, Holding}
 use Rattle.reserved.proofs.Loops.{reserved-slice}

@@ -15,7 +15,7 @@ use Rattle.definition.specs.Destination.{Out, count, held_by, letters}
 use Rattle.definition.specs.Layout.{Row, held_at}
 use Rattle.state.specs.declared.Head.{Head}
 use Rattle.state.specs.State.{with_counters, first_reserved, first_waiting}
-use Rattle.acks.specs.declared.Span.{Span}
+use Rattle.table.specs.declared.Span.{Span}
 use Rattle.acks.specs.Rules.{no_span, in_numbers}
 use Rattle.acks.specs.Parts.{row_letters, row_discards}
 

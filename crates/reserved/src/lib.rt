@@ -4,13 +4,13 @@
 ghost use Rattle.std.specs.Prelude.{◌≡◌, false, List, ◌≤◌, length};
 ghost use Rattle.std.proofs.Math.Seq.{slice};
 ghost use Rattle.definition.specs.Base.{keep, tally};
-ghost use Rattle.definition.specs.Consumer.{or0, add_discarded};
+ghost use Rattle.definition.specs.Consumer.{add_discarded};
 ghost use Rattle.definition.specs.Destination.{ack_reserved};
 ghost use Rattle.definition.specs.Layout.{Row};
-ghost use Rattle.table.specs.Table.{compacted, remove_rows};
+ghost use Rattle.table.specs.Table.{remove_rows};
 ghost use Rattle.state.specs.Fits.{fits, Fits};
 ghost use Rattle.state.specs.Leaves.{Leaves, LeavesIf, Room};
-ghost use Rattle.acks.specs.Acks.{ack_of};
+ghost use Rattle.acks.specs.Acks.{maybe_number, ack_of};
 ghost use Rattle.acks.specs.Parts.{Dying, Told, row_letters, row_discards};
 ghost use Rattle.reserved.specs.Reserved.{has_reserved, wants_row, wanted_of, told_counts, told_events, counted_head, taking, Holding};
 
@@ -24,10 +24,7 @@ use state::{Event, Head};
 pub fn wanted(row: Row, id: Id, p: Span) -> bool
     ensures { result ≡ wants_row id p row }
 {
-    if !consumers::is_for(row, id) {
-        return false;
-    }
-    p.has(row[0])
+    consumers::is_for(row, id) && p.has(row[0])
 }
 
 // Whether a consumer has reserved entries; no, where the counts do not lie within the rows.
@@ -38,33 +35,21 @@ pub fn has_reserved(rows: &[Row], d: Head, id: Id) -> bool
     if rows.len() < to {
         return false;
     }
-    let mut i = d.first_reserved();
-    while i < to {
-        if consumers::is_for(rows[i], id) {
-            return true;
-        }
-        i += 1;
-    }
-    false
+    rows[d.first_reserved()..to]
+        .iter()
+        .any(|row| consumers::is_for(*row, id))
 }
 
 // ---- an acknowledgement
 
-fn first_of(a: Ack) -> u64
-    ensures { result ≡ or0 (ack_of a).first }
+// The sequence numbers that an ack means, by its first number, where it has one, and its last.
+pub fn numbers(range: AckRange, first: Option<u64>, last: u64) -> Span
+    ensures { result ≡ wanted_of range (maybe_number first) last }
 {
-    if a.has_first { a.first } else { 0 }
-}
-
-// The sequence numbers that an ack means, by its last, whether that is given or not.
-pub fn numbers(range: AckRange, a: Ack) -> Span
-    ensures { result ≡ wanted_of range (ack_of a).first a.last }
-{
-    let last = a.last;
     match range {
         AckRange::Empty => Span::none(),
         AckRange::Between => Span {
-            first: first_of(a),
+            first: first.unwrap_or(0),
             last,
         },
         AckRange::Cumulative => Span { first: 0, last },
@@ -86,14 +71,9 @@ fn letters(
     ensures { Told (add_discarded (row_discards (wants_row id p) (slice from to rows.now))) (row_letters false (keep (wants_row id p) (slice from to rows.now))) (tally (wants_row id p) (slice from to rows.now)) before result events.old events.new }
 {
     let mut d = before;
-    let mut i = from;
-    while i < to {
-        let row = rows[i];
-        if wanted(row, id, p) {
-            d = acks::dead(events, d, entry::entry_of(row), false);
-            i += 1;
-        } else {
-            i += 1;
+    for row in &rows[from..to] {
+        if wanted(*row, id, p) {
+            d = acks::dead(events, d, entry::entry_of(*row), false);
         }
     }
     d
@@ -114,32 +94,9 @@ fn tell(
     ensures { Told (told_counts counts (wants_row id p) (slice from to rows.now)) (told_events counts (keep (wants_row id p) (slice from to rows.now))) (tally (wants_row id p) (slice from to rows.now)) d result events.old events.new }
 {
     match counts {
-        AckCount::Uncounted => d,
-        AckCount::Dequeue => d,
-        AckCount::Expiry => d,
+        AckCount::Uncounted | AckCount::Dequeue | AckCount::Expiry => d,
         AckCount::DeadLetter => letters(rows, events, from, to, d, id, p),
     }
-}
-
-// Moves together the rows of from..to that stay, and says how many go.
-fn compact(rows: &mut [Row], from: usize, to: usize, id: Id, p: Span) -> usize
-    requires { (from ≤ to) × (to ≤ length rows.old) }
-    ensures value { result ≡ tally (wants_row id p) (slice from to rows.old) }
-    ensures rows_after { rows.new ≡ compacted (wants_row id p) from to rows.old }
-{
-    let mut gone = 0;
-    let mut i = from;
-    while i < to {
-        let row = rows[i];
-        if wanted(row, id, p) {
-            gone += 1;
-            i += 1;
-        } else {
-            rows[i - gone] = row;
-            i += 1;
-        }
-    }
-    gone
 }
 
 // Takes them out of the n used rows.
@@ -148,9 +105,7 @@ fn remove(rows: &mut [Row], from: usize, to: usize, n: usize, id: Id, p: Span) -
     ensures value { result ≡ tally (wants_row id p) (slice from to rows.old) }
     ensures rows_after { rows.new ≡ remove_rows (wants_row id p) from to n rows.old }
 {
-    let gone = compact(rows, from, to, id, p);
-    table::close_gap(rows, to - gone, gone, n);
-    gone
+    table::remove_where(rows, from, to, n, |row| wanted(*row, id, p))
 }
 
 // What so many count as when they have gone; dead letters are told.
@@ -158,10 +113,9 @@ fn counted(d: Head, counts: AckCount, gone: usize) -> Head
     ensures { result ≡ counted_head counts gone d }
 {
     match counts {
-        AckCount::Uncounted => d,
+        AckCount::Uncounted | AckCount::DeadLetter => d,
         AckCount::Dequeue => d.count_dequeued(gone as u64),
         AckCount::Expiry => d.count_expired(gone as u64),
-        AckCount::DeadLetter => d,
     }
 }
 
@@ -200,12 +154,10 @@ pub fn ack_reserved(
     if !state::fits(subs, d, rows.len(), events.len()) {
         return d;
     }
-    if !a.has_last {
+    let Some(last) = a.last else {
         return d;
-    }
+    };
     let rule = AckRule::of(a.kind);
-    let range = rule.reserved;
-    let counts = rule.counts;
-    let p = numbers(range, a);
-    take_out(rows, events, d, id, p, counts)
+    let p = numbers(rule.reserved, a.first, last);
+    take_out(rows, events, d, id, p, rule.counts)
 }

@@ -1,4 +1,5 @@
 -- When anything is done, and what is promised of it. Assumes nothing.
+use Rattle.std.specs.Prelude.{Some, None}
 use mathlib.Core.Path.{◌≡◌, sym, ap}
 use mathlib.Core.Bool.{true, false, and-false}
 use mathlib.Core.List.{List, []}
@@ -14,7 +15,6 @@ use Rattle.definition.specs.Types as Def
 use Rattle.definition.specs.Destination.{sub_of}
 use Rattle.definition.specs.Words.{kind_by}
 use Rattle.definition.specs.Layout.{Row}
-use Rattle.entry.specs.declared.Found.TheVariants.{At, Nothing}
 use Rattle.consumers.specs.Table.{position_from}
 use Rattle.consumers.proofs.Seek.{found_at, found_none}
 use Rattle.state.specs.declared.Head.{Head}
@@ -62,16 +62,16 @@ fits-least subs d rows events f = record {
 -- ---- whether a consumer is there
 
 module _ (id : Id) (d : Head) (subs : List Row) where
-  pub present-yes : (i : ℕ) → position_from 0 id (take d.consumers subs) ≡ At i → (rows : List Row) (p : List Id) (u : List Audit) → true ≡ is_some (sub_of id (head_view d subs rows p u))
+  pub present-yes : (i : ℕ) → position_from 0 id (take d.consumers subs) ≡ Some i → (rows : List Row) (p : List Id) (u : List Audit) → true ≡ is_some (sub_of id (head_view d subs rows p u))
   unfolding head_view
   present-yes i e rows p u = sym (ap is_some (found_at id (take d.consumers subs) i e (kind_by d.queue) rows))
 
-  pub present-no : position_from 0 id (take d.consumers subs) ≡ Nothing → (rows : List Row) (p : List Id) (u : List Audit) → false ≡ is_some (sub_of id (head_view d subs rows p u))
+  pub present-no : position_from 0 id (take d.consumers subs) ≡ None → (rows : List Row) (p : List Id) (u : List Audit) → false ≡ is_some (sub_of id (head_view d subs rows p u))
   unfolding head_view
   present-no e rows p u = sym (ap is_some (found_none id (take d.consumers subs) e (kind_by d.queue) rows))
 
   -- one that is not there does not leave
-  pub leaves-absent : (now : ℕ) (last : ℤ) (rows events : List Row) → Fits subs d (length rows) (length events) → position_from 0 id (take d.consumers subs) ≡ Nothing
+  pub leaves-absent : (now : ℕ) (last : ℤ) (rows events : List Row) → Fits subs d (length rows) (length events) → position_from 0 id (take d.consumers subs) ≡ None
       → Leaves (silent (departed now id last)) d d subs rows events subs rows events
   unfolding head_view
   leaves-absent now last rows events f e =

@@ -1,4 +1,5 @@
 -- A consumer leaves: its words go, its rows are a gap, and the gap closes. Assumes nothing.
+use Rattle.std.specs.Prelude.{Some}
 use mathlib.Core.Path.{◌≡◌, refl, sym, ap, ap₂, ◌∙◌, transport, subst}
 use mathlib.Core.Bool.{Bool, true, false, not, ◌&&◌, false≢true}
 use mathlib.Core.List.{List, [], ◌++◌, map}
@@ -23,7 +24,6 @@ use Rattle.table.specs.Table.{close_gap}
 use Rattle.table.proofs.Lists.{slice-take, written, written-length, written-drop}
 use Rattle.table.proofs.Laws.{close-before}
 use Rattle.consumers.specs.declared.Sub.{Sub}
-use Rattle.entry.specs.declared.Found.TheVariants.{At}
 use Rattle.consumers.specs.Consumers.{row_sub}
 use Rattle.consumers.specs.Seats.{flying_in, after_in, sub_in}
 use Rattle.consumers.specs.Table.{position_from, taken_out, sub_removed}
@@ -179,7 +179,7 @@ module _ (i : ℕ) (d : Head) (subs rows : List Row) (f : Fits subs d (length ro
       strict-as refl (ap (λ (x : List Row). x ++ slice (base + own) (first_waiting d) rows) (sym before)) refl
       (leaving-words (take (first_waiting d) rows) first-long (waiting_in d rows) (head-strict d subs rows f.rows-used fits h))
 
-  module _ (now : ℕ) (last : ℤ) (id : Id) (here : position_from 0 id ws ≡ At i) where
+  module _ (now : ℕ) (last : ℤ) (id : Id) (here : position_from 0 id ws ≡ Some i) where
     leaving-dest : (l waits : List Row) (p : List Id) (u : List Audit) (h : sub_rows ws ≤ length l)
         → gap_dest (dropped_head d) subs' (around-it l h) waits p u ≡ drop_sub id (gap_dest d subs l waits p u)
     unfolding gap_dest

@@ -1,7 +1,7 @@
 // Entries that return to the queue (`remove_sub`, `release_reserved` and `reinsert` of destination.rs, before the dispatch).
 #![tactic(auto)]
 
-ghost use Rattle.std.specs.Prelude.{◌≡◌, List, [], ◌∷◌, ◌+◌, ◌-◌, ◌≤◌, ◌<◌, ◌^◌, true, not, ◌&&◌, eqb, ltb, length, take, get_or};
+ghost use Rattle.std.specs.Prelude.{◌≡◌, List, [], ◌∷◌, ◌+◌, ◌-◌, ◌≤◌, ◌<◌, ◌^◌, true, not, ◌&&◌, eqb, ltb, length, take, get_or, Some};
 ghost use Rattle.model.specs.Model.{id_of, same_id};
 ghost use Rattle.model.specs.declared.Id as Model;
 ghost use Rattle.entry.specs.Entry.{entry_of, redelivered};
@@ -12,7 +12,6 @@ ghost use Rattle.definition.specs.Layout.{held_at, inflight_at, entry_strict};
 ghost use Rattle.definition.specs.Layout as Layout;
 ghost use Rattle.table.specs.Table.{close_gap, map_rows, unmark_row};
 ghost use Rattle.consumers.specs.Table.{position_from};
-ghost use Rattle.entry.specs.declared.Found.TheVariants.{At};
 ghost use Rattle.state.specs.State.{head_view, with_reserved_count, with_used};
 ghost use Rattle.state.specs.Fits.{fits, Fits};
 ghost use Rattle.state.specs.Leaves.{silent, Leaves, LeavesIf};
@@ -20,7 +19,7 @@ ghost use Rattle.returns.specs.Returns.{held_for, given_back, reserves, gives, d
 ghost use Rattle.returns.specs.Gaps.{Open, Placed, Moves, Gap, GaveBack};
 
 use consumers::{Sub, SubRow};
-use entry::{Entry, Found, Row};
+use entry::{Entry, Row};
 use model::Id;
 use state::{Event, Head};
 
@@ -45,10 +44,7 @@ fn waits_at(rows: &[Row], place: usize, used: usize, seq: u64) -> bool
     requires { used ≤ length rows.now }
     ensures { result ≡ (ltb place used && eqb (get_or (get_or rows.now place []) 0 0) seq) }
 {
-    if used <= place {
-        return false;
-    }
-    rows[place][0] == seq
+    place < used && rows[place][0] == seq
 }
 
 // The row at a place before the waiting ones goes to its number's place among them; one that waits with the same number is replaced.
@@ -109,11 +105,7 @@ fn reserve(rows: &mut [Row], from: usize, mut d: Head, e: Entry, s: Sub) -> Head
 fn was_delivered(last: i64, e: Entry) -> bool
     ensures { result ≡ was_delivered last e }
 {
-    if 0 <= last {
-        e.seq <= last as u64
-    } else {
-        true
-    }
+    last < 0 || e.seq <= last as u64
 }
 
 // An entry as it goes back to the queue.
@@ -163,10 +155,8 @@ fn give_back(
     ensures { GaveBack clock last (id_of s.conn s.session s.value) base s.inflight before result subs.old rows.old subs.new rows.new }
 {
     let mut d = before;
-    let mut left = s.inflight;
-    while 0 < left {
+    for _ in 0..s.inflight {
         d = give_one(subs, rows, base, s, d, last, clock);
-        left -= 1;
     }
     d
 }
@@ -199,7 +189,7 @@ fn dropped(mut d: Head) -> Head
 fn returning(queue: bool, browser: bool) -> bool
     ensures { result ≡ (queue && not browser) }
 {
-    if queue { !browser } else { false }
+    queue && !browser
 }
 
 // The consumer at a place goes, and what it held; of a queue's that is no browser, what was in flight returns.
@@ -212,7 +202,7 @@ fn leave_at(
     clock: u64,
 ) -> Head
     requires { Fits subs.old before (length rows.old) 545 × (i < before.consumers) × (clock ≤ 2 ^ 62) }
-    ensures { ((id : Model.Id) (events : List Layout.Row) → position_from 0 id (take before.consumers subs.old) ≡ At i → Leaves (silent (departed clock id last)) before result subs.old rows.old events subs.new rows.new events) × (result.events + result.used ≤ 512) }
+    ensures { ((id : Model.Id) (events : List Layout.Row) → position_from 0 id (take before.consumers subs.old) ≡ Some i → Leaves (silent (departed clock id last)) before result subs.old rows.old events subs.new rows.new events) × (result.events + result.used ≤ 512) }
 {
     let base = consumers::base_of(subs, i);
     let s = consumers::load(subs, i);
@@ -231,8 +221,8 @@ pub fn is_present(subs: &[SubRow], d: Head, id: Id) -> bool
 {
     let found = consumers::position(subs, d.consumers, id);
     match found {
-        Found::At(_) => true,
-        Found::Nothing => false,
+        Some(_) => true,
+        None => false,
     }
 }
 
@@ -257,8 +247,8 @@ pub fn leave(
     }
     let found = consumers::position(subs, d.consumers, id);
     match found {
-        Found::At(i) => leave_at(subs, rows, d, i, last, clock),
-        Found::Nothing => d,
+        Some(i) => leave_at(subs, rows, d, i, last, clock),
+        None => d,
     }
 }
 
@@ -269,7 +259,7 @@ fn unmark_one(rows: &mut [Row], base: usize, s: Sub, id: Id)
     requires { base + s.inflight ≤ 512 }
     ensures { rows.new ≡ (whether same_id (id_of s.conn s.session s.value) id then map_rows unmark_row base (base + s.inflight) rows.old else rows.old) }
 {
-    if s.id().same(id) {
+    if s.id() == id {
         table::unmark(rows, base, base + s.inflight);
     }
 }
@@ -279,14 +269,11 @@ fn unmark_all(subs: &[SubRow], rows: &mut [Row], d: Head, id: Id)
     requires { Fits subs.now d (length rows.old) 545 }
     ensures { (events : List Layout.Row) → Leaves (silent (unmarked id)) d d subs.now rows.old events subs.now rows.new events }
 {
-    let n = d.consumers;
     let mut base = 0;
-    let mut i = 0;
-    while i < n {
+    for i in 0..d.consumers {
         let s = consumers::load(subs, i);
         unmark_one(rows, base, s, id);
-        base = base + s.inflight + s.held;
-        i += 1;
+        base += s.inflight + s.held;
     }
 }
 
@@ -321,14 +308,11 @@ fn release_rows(subs: &mut [SubRow], rows: &mut [Row], before: Head, id: Id, clo
 {
     let mut d = before;
     let mut i = before.first_reserved();
-    let mut left = before.reserved;
-    while 0 < left {
+    for _ in 0..before.reserved {
         if consumers::is_for(rows[i], id) {
             d = release_row(subs, rows, i, d, clock);
-            left -= 1;
         } else {
             i += 1;
-            left -= 1;
         }
     }
     d

@@ -7,34 +7,12 @@ ghost use Rattle.std.specs.Prelude.{◌≡◌, length};
 use callfile::Reading;
 use consumers::SubRow;
 use entry::Row;
-use program::Input;
+use program::{Input, Source};
 use state::Event;
-use std::io;
 
-// Writes the first n bytes of a text, and says whether that was done.
-fn write(rt: HostRuntime, text: &[u8], n: usize) -> bool {
-    program::write(rt, b"runcalls", text, n)
-}
+const NAME: &[u8] = b"runcalls";
 
-// A read failed.
-fn say_failed(rt: HostRuntime, error: Option<io::Error>) {
-    if let Some(e) = error {
-        program::failed(rt, b"runcalls", b"input", e);
-    }
-}
-
-// ---- pieces
-
-// How far the file is read, whether reading goes on, whether a read failed, and whether all was written.
-#[derive(Clone, Copy)]
-struct Next {
-    at: Reading,
-    goes_on: bool,
-    failed: bool,
-    written: bool,
-}
-
-// Hands a piece over, and writes its lines.
+// Runs a piece, and writes its lines; whether all was written.
 fn run_piece(
     rt: HostRuntime,
     head: &mut [u64],
@@ -42,108 +20,27 @@ fn run_piece(
     rows: &mut [Row],
     events: &mut [Event],
     block: &mut [u8],
-    start: Reading,
+    at: &mut Reading,
     piece: &[u8],
     out: &mut [u8],
-) -> Next {
-    let mut at = start;
+) -> bool {
     let mut from = 0;
+    // A while: the place moves by what a step takes.
     while from < piece.len() {
-        let t = running::run_piece(head, subs, rows, events, block, at, piece, from, out);
-        if !write(rt, out, t.written) {
-            return Next {
-                at,
-                goes_on: false,
-                failed: false,
-                written: false,
-            };
+        let t = running::run_piece(head, subs, rows, events, block, *at, piece, from, out);
+        if !program::write(rt, NAME, out, t.written) {
+            return false;
         }
-        at = t.reading;
+        *at = t.reading;
         from = t.next;
     }
-    Next {
-        at,
-        goes_on: at.goes_on,
-        failed: false,
-        written: true,
-    }
-}
-
-// Reads the next piece and runs it.
-fn next_piece(
-    rt: HostRuntime,
-    from: &mut Input,
-    head: &mut [u64],
-    subs: &mut [SubRow],
-    rows: &mut [Row],
-    events: &mut [Event],
-    block: &mut [u8],
-    at: Reading,
-    piece: &mut [u8],
-    out: &mut [u8],
-) -> Next {
-    let g = reading::read_once(from, piece, 0);
-    let n = g.n;
-    let failed = g.how == reading::FAILED;
-    if failed {
-        say_failed(rt, g.error);
-    }
-    if g.how != reading::AGAIN {
-        return Next {
-            at,
-            goes_on: false,
-            failed,
-            written: true,
-        };
-    }
-    run_piece(rt, head, subs, rows, events, block, at, &piece[..n], out)
-}
-
-// All pieces, up to the end, a read that fails or a bad block.
-fn run_all(
-    rt: HostRuntime,
-    from: &mut Input,
-    head: &mut [u64],
-    subs: &mut [SubRow],
-    rows: &mut [Row],
-    events: &mut [Event],
-    block: &mut [u8],
-    piece: &mut [u8],
-    out: &mut [u8],
-) -> Next {
-    let mut at = Reading {
-        have: 0,
-        number: 0,
-        index: 0,
-        goes_on: true,
-    };
-    let mut turns = 18446744073709551615u64;
-    while 0 < turns {
-        let r = next_piece(rt, from, head, subs, rows, events, block, at, piece, out);
-        if !r.goes_on {
-            return r;
-        }
-        at = r.at;
-        turns -= 1;
-    }
-    Next {
-        at,
-        goes_on: false,
-        failed: false,
-        written: true,
-    }
+    true
 }
 
 fn text() -> [u8; 489216]
     ensures { 489216 ≡ length result }
 {
     [0; 489216]
-}
-
-fn pieces() -> [u8; 65536]
-    ensures { 65536 ≡ length result }
-{
-    [0; 65536]
 }
 
 // The whole run, from a state of zeros.
@@ -153,33 +50,42 @@ fn run(rt: HostRuntime, from: &mut Input) {
     let mut rows = [[0u64; 10]; 512];
     let mut events = [[0u64; 6]; 545];
     let mut block = [0u8; 512];
-    let mut piece = pieces();
     let mut out = text();
-    let r = run_all(
-        rt,
-        from,
-        &mut head,
-        &mut subs,
-        &mut rows,
-        &mut events,
-        &mut block,
-        &mut piece,
-        &mut out,
-    );
-    if r.written {
-        let n = running::run_end(&head, r.at, r.failed, &mut out);
-        write(rt, &out, n);
+    let mut at = Reading {
+        have: 0,
+        number: 0,
+        index: 0,
+        goes_on: true,
+    };
+    let mut written = true;
+    let failed = pieces::each_piece(rt, NAME, from, |piece| {
+        written = run_piece(
+            rt,
+            &mut head,
+            &mut subs,
+            &mut rows,
+            &mut events,
+            &mut block,
+            &mut at,
+            piece,
+            &mut out,
+        );
+        written && at.goes_on
+    });
+    if written {
+        let n = running::run_end(&head, at, failed, &mut out);
+        program::write(rt, NAME, &out, n);
     }
-    program::hint(rt, b"runcalls", &block, r.at);
+    program::hint(rt, NAME, &block, at);
 }
 
 fn main(rt: HostRuntime) {
-    let mut s = program::open_argument(
+    let source = program::open_argument(
         rt,
-        b"runcalls",
+        NAME,
         b"usage: runcalls [FILE]: runs a call file, standard input without FILE, and prints its lines\n",
     );
-    if s.how == program::OPENED {
-        run(rt, &mut s.input);
+    if let Source::Opened(mut input) = source {
+        run(rt, &mut input);
     }
 }

@@ -1,7 +1,7 @@
 -- A step on a piece, of any program that does the calls of a block one after another. Assumes nothing.
 use Prim.Native.Nat.{ℕ, ◌+◌, ◌-◌, ◌≤◌, ◌<◌}
 use native.Mathlib.Omega.{arith}
-use mathlib.Core.Path.{◌≡◌, refl, sym, ap, ap₂, ◌∙◌, subst, subst⁻¹}
+use mathlib.Core.Path.{◌≡◌, refl, sym, ap, ap₂, ◌∙◌, subst⁻¹}
 use mathlib.Core.Bool.{Bool, true, false, not, ◌&&◌, true≢false}
 use mathlib.Core.List.{List, [], ◌++◌}
 use borrow.Author.Tests.{eqb-true, ltb-true, leb-true, lt-ltb, le-ltb, eq-eqb, ne_eqb}
@@ -44,18 +44,6 @@ module _ (most : ℕ) (at : Reading) (block out : List ℕ) (e : roomy most at b
 
   pub text-room : most ≤ length out
   text-room = leb-true most (length out) (and_right (ltb at.have 512) (leb most (length out)) others)
-
-pub passed-by : (at : Reading) (from len : ℕ) → len ≤ from → ◌≡◌ {A = Took} (record { reading = record { have = at.have; number = at.number; index = at.index; goes_on = false }; next = from; written = 0 }) (unread_as at from len)
-unfolding unread_as
-passed-by at from len h =
-    let e : from ≡ from + (len - from) = omega arith in
-    λ j. record { reading = record { have = at.have; number = at.number; index = at.index; goes_on = false }; next = e j; written = 0 }
-
-pub passed_over : (at : Reading) (from len : ℕ) → from ≤ len → ◌≡◌ {A = Took} (record { reading = record { have = at.have; number = at.number; index = at.index; goes_on = false }; next = len; written = 0 }) (unread_as at from len)
-unfolding unread_as
-passed_over at from len h =
-    let e : len ≡ from + (len - from) = omega arith in
-    λ j. record { reading = record { have = at.have; number = at.number; index = at.index; goes_on = false }; next = e j; written = 0 }
 
 -- ---- a step
 

@@ -66,12 +66,10 @@ fn run_calls(
 {
     let mut index = from;
     let mut at = 0;
-    let mut k = 0;
-    while k < count {
+    for k in 0..count {
         let c = callfile::call_at(block, k);
         at = run_call(head, subs, rows, events, c, index, out, at);
         index = stats::more_of(index);
-        k += 1;
     }
     Ran {
         index,
@@ -126,22 +124,12 @@ pub fn roomy(at: Reading, block: usize, most: usize, out: usize) -> bool
 pub fn unread(at: Reading, from: usize, len: usize) -> Took
     ensures { result ≡ unread_as at from len }
 {
-    let reading = Reading {
-        have: at.have,
-        number: at.number,
-        index: at.index,
-        goes_on: false,
-    };
-    if len < from {
-        return Took {
-            reading,
-            next: from,
-            written: 0,
-        };
-    }
     Took {
-        reading,
-        next: len,
+        reading: Reading {
+            goes_on: false,
+            ..at
+        },
+        next: from.max(len),
         written: 0,
     }
 }
@@ -150,14 +138,12 @@ pub fn unread(at: Reading, from: usize, len: usize) -> Took
 pub fn begun(at: Reading, have: usize, next: usize) -> Took
     ensures { result ≡ begun_as at have next }
 {
-    let reading = Reading {
-        have,
-        number: at.number,
-        index: at.index,
-        goes_on: true,
-    };
     Took {
-        reading,
+        reading: Reading {
+            have,
+            goes_on: true,
+            ..at
+        },
         next,
         written: 0,
     }
@@ -208,27 +194,22 @@ pub fn run_piece(
 pub fn word(head: &[u64], k: usize) -> u64
     ensures { result ≡ get_or head.now k 0 }
 {
-    if head.len() <= k {
-        return 0;
+    match head.get(k) {
+        Some(w) => *w,
+        None => 0,
     }
-    head[k]
 }
 
 // The counters.
 pub fn counters(head: &[u64]) -> Stats
     ensures { result ≡ stats_at head.now }
 {
-    let enqueued = word(head, 7);
-    let dequeued = word(head, 8);
-    let expired = word(head, 9);
-    let discarded = word(head, 10);
-    let dispatched = word(head, 11);
     Stats {
-        enqueued,
-        dequeued,
-        expired,
-        discarded,
-        dispatched,
+        enqueued: word(head, 7),
+        dequeued: word(head, 8),
+        expired: word(head, 9),
+        discarded: word(head, 10),
+        dispatched: word(head, 11),
     }
 }
 

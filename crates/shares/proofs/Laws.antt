@@ -86,16 +86,6 @@ tally-hit p xs i h t = tally-next p xs i h ∙ rw t
 pub tally-miss : (p : ℕ → Bool) (xs : List ℕ) (i : ℕ) → i < length xs → p (get_or xs i 0) ≡ false → tally p (take (i + 1) xs) ≡ tally p (take i xs)
 tally-miss p xs i h t = tally-next p xs i h ∙ rw t (omega arith)
 
-pub all-next : (p : ℕ → Bool) (xs : List ℕ) (i : ℕ) → i < length xs → all p (take i xs) ≡ true → p (get_or xs i 0) ≡ true → all p (take (i + 1) xs) ≡ true
-all-next p xs i h a t = ap (all p) (take_next xs i 0 h) ∙ all-joined p (take i xs) (get_or xs i 0 ∷ []) ∙ rw (a, t)
-
-pub all-fails : (p : ℕ → Bool) (xs : List ℕ) (i n : ℕ) → i < n → n ≤ length xs → p (get_or xs i 0) ≡ false → all p (take n xs) ≡ false
-all-fails p xs i n h k t =
-    ap (all p) (sym (take-append-drop i (take n xs)))
-    ∙ all-joined p (take i (take n xs)) (slice i n xs)
-    ∙ ap (λ (b : Bool). all p (take i (take n xs)) && b) (ap (all p) (slice-cons i n xs 0 h k) ∙ ap (λ (b : Bool). b && all p (slice (suc i) n xs)) t)
-    ∙ and-false (all p (take i (take n xs)))
-
 -- ---- remainders
 
 abbrev pub leaves : ℕ → ℕ → Bool

@@ -1,7 +1,8 @@
 // Writes the calls of a call file as text, a call a line.
 #![tactic(auto)]
 
-use program::Input;
+use program::{Input, Source};
+use reading::How;
 
 // The text of a block, of which so many bytes were read.
 fn show_block(rt: HostRuntime, block: &[u8], got: usize, number: u64) -> bool {
@@ -15,7 +16,7 @@ fn show_next(rt: HostRuntime, from: &mut Input, number: u64) -> bool {
     let mut block = [0u8; 512];
     let g = program::read(rt, b"showcalls", from, &mut block, 0);
     let n = g.n;
-    if g.how == reading::FAILED {
+    if g.how == How::Failed {
         show_block(rt, &block, 0, number);
         return false;
     }
@@ -31,14 +32,10 @@ fn show_next(rt: HostRuntime, from: &mut Input, number: u64) -> bool {
 
 // Shows the blocks to the end, or to a bad one.
 fn show_calls(rt: HostRuntime, from: &mut Input) {
-    let mut number = 0;
-    let mut turns = 18446744073709551615u64;
-    while 0 < turns {
+    for number in 0..u64::MAX {
         if !show_next(rt, from, number) {
             return;
         }
-        number = stats::more_of(number);
-        turns -= 1;
     }
 }
 
@@ -51,12 +48,9 @@ fn no_file(rt: HostRuntime) {
 }
 
 fn main(rt: HostRuntime) {
-    let mut s = program::open_argument(rt, b"showcalls", b"usage: showcalls [FILE]\n");
-    if s.how == program::FAILED {
-        no_file(rt);
-        return;
-    }
-    if s.how == program::OPENED {
-        show_calls(rt, &mut s.input);
+    match program::open_argument(rt, b"showcalls", b"usage: showcalls [FILE]\n") {
+        Source::Opened(mut input) => show_calls(rt, &mut input),
+        Source::Nothing => {}
+        Source::Failed => no_file(rt),
     }
 }

@@ -2,11 +2,10 @@
 use mathlib.Core.Path.{◌≡◌, refl, sym, ap, ap₂, ◌∙◌}
 use mathlib.Core.Bool.{Bool, true, false}
 use mathlib.Core.List.{List, [], ◌∷◌, ◌++◌, map, append_assoc, append-nil}
-use Prim.Native.Nat.{ℕ, suc, ◌+◌, ◌≤◌, ◌<◌}
-use native.Mathlib.Numerals.{add-one}
+use Prim.Native.Nat.{ℕ, ◌+◌, ◌≤◌, ◌<◌}
 use native.Mathlib.Omega.{arith}
-use lib.ListN.{length, take, drop, get_or, set, length-append, length-take, length-drop, length-map}
-use lib.Seq.{slice, drop-drop, take-add, take-suc, take-suc-set, get_or-drop}
+use lib.ListN.{length, take, drop, get_or, length-append, length-take, length-map}
+use lib.Seq.{drop-drop, take-add}
 use Rattle.words.specs.Pick.{whether◌then◌else◌}
 use Rattle.entry.specs.Entry.{entry_of}
 use Rattle.definition.specs.Types.{Kind, queue, Entry}
@@ -18,8 +17,8 @@ use Rattle.definition.proofs.Stored.{flying-rows}
 use Rattle.definition.proofs.Thin.{map-append}
 use Rattle.subrows.specs.Subrows.{reserved_at, waiting_at}
 use Rattle.sound.specs.Sound.{conns_at, own_conns, shares_at}
-use Rattle.subrows.proofs.Tests.{part-turn, part_end}
-use Rattle.subrows.proofs.Subs.{browses}
+use Rattle.subrows.proofs.Subs.{browses, item-turn}
+use Rattle.std.proofs.lemmas.List.{drop_all}
 use Rattle.sound.proofs.Gathered.{taken-small}
 use Rattle.sound.proofs.Sizes.{used-parts}
 use Rattle.shares.specs.Shares.{within_each, conns}
@@ -32,24 +31,6 @@ conns-rows (w ∷ l) = ap (λ (m : List ℕ). at 3 w ∷ m) (conns-rows l)
 
 conns-append : (l m : List Entry) → conns (l ++ m) ≡ conns l ++ conns m
 conns-append l m = map-append (λ e. e.producer) l m
-
--- one connection more
-pub conns-turn : (rows : List Row) (was out : List ℕ) (from start i : ℕ) → from + i < length rows → start + i < length out
-    → take (start + i) out ≡ take start was ++ conns_at (take i (drop from rows))
-    → take (start + (i + 1)) (set out (start + i) (at 3 (get_or rows (from + i) []))) ≡ take start was ++ conns_at (take (i + 1) (drop from rows))
-conns-turn rows was out from start i h k e =
-    let v : ℕ = at 3 (get_or rows (from + i) []) in
-    let n : start + (i + 1) ≡ suc (start + i) = omega arith in
-    let more : conns_at (take (i + 1) (drop from rows)) ≡ conns_at (take i (drop from rows)) ++ v ∷ [] =
-    ap (λ (j : ℕ). conns_at (take j (drop from rows))) (add-one i)
-    ∙ ap conns_at (take-suc (drop from rows) i [] (simp length-drop (omega arith)))
-    ∙ map-append (at 3) (take i (drop from rows)) (get_or (drop from rows) i [] ∷ [])
-    ∙ ap (λ (w : Row). conns_at (take i (drop from rows)) ++ at 3 w ∷ []) (get_or-drop from rows i []) in
-    ap (λ (j : ℕ). take j (set out (start + i) v)) n
-    ∙ take-suc-set out (start + i) v k
-    ∙ ap (λ (l : List ℕ). l ++ v ∷ []) e
-    ∙ append_assoc (take start was) (conns_at (take i (drop from rows))) (v ∷ [])
-    ∙ ap (λ (l : List ℕ). take start was ++ l) (sym more)
 
 -- one consumer's rows that are entries of the queue
 module _ (w : Row) (rows : List Row) (base : ℕ) where
@@ -66,37 +47,37 @@ module _ (w : Row) (rows : List Row) (base : ℕ) where
       pick false = sym (conns-rows (take (at 14 w) (drop base rows)))
 
 -- a queue's entries in flight, from consumer i on
-module _ (subs : List Row) (i n : ℕ) (b : n ≤ length subs) (rows : List Row) (base : ℕ) where
-  taken-turn : i < n → let w = get_or subs i [] in conns (taken (subs_at queue (slice i n subs) (drop base rows)))
-      ≡ conns_at (take (whether flag (at 6 w) then 0 else at 14 w) (drop base rows)) ++ conns (taken (subs_at queue (slice (i + 1) n subs) (drop (base + (at 14 w + at 15 w)) rows)))
+module _ (us : List Row) (i : ℕ) (rows : List Row) (base : ℕ) where
+  taken-turn : i < length us → let w = get_or us i [] in conns (taken (subs_at queue (drop i us) (drop base rows)))
+      ≡ conns_at (take (whether flag (at 6 w) then 0 else at 14 w) (drop base rows)) ++ conns (taken (subs_at queue (drop (i + 1) us) (drop (base + (at 14 w + at 15 w)) rows)))
   unfolding each_sub
   taken-turn h =
-      let w = get_or subs i [] in
+      let w = get_or us i [] in
       let s = sub_at queue w (take (at 14 w) (drop base rows)) (take (at 15 w) (drop (at 14 w) (drop base rows))) in
       let d : drop (at 15 w) (drop (at 14 w) (drop base rows)) ≡ drop (base + (at 14 w + at 15 w)) rows =
       drop-drop (at 15 w) (at 14 w) (drop base rows) ∙ drop-drop (at 14 w + at 15 w) base rows in
-      ap (λ (l : List Row). conns (taken (subs_at queue l (drop base rows)))) (part-turn subs i n [] h b)
-      ∙ map-append (λ e. e.producer) (whether is_browser s then [] else flying s) (taken (subs_at queue (slice (i + 1) n subs) (drop (at 15 w) (drop (at 14 w) (drop base rows)))))
-      ∙ ap₂ (λ (l : List ℕ) (r : List Row). l ++ conns (taken (subs_at queue (slice (i + 1) n subs) r))) (taken_here w rows base) d
+      ap (λ (l : List Row). conns (taken (subs_at queue l (drop base rows)))) (item-turn us i h)
+      ∙ map-append (λ e. e.producer) (whether is_browser s then [] else flying s) (taken (subs_at queue (drop (i + 1) us) (drop (at 15 w) (drop (at 14 w) (drop base rows)))))
+      ∙ ap₂ (λ (l : List ℕ) (r : List Row). l ++ conns (taken (subs_at queue (drop (i + 1) us) r))) (taken_here w rows base) d
 
   module _ (was out next : List ℕ) (start end k : ℕ) (total : List ℕ)
-      (e : take end out ++ conns (taken (subs_at queue (slice i n subs) (drop base rows))) ≡ total) where
-    pub taken_next : i < n → let w = get_or subs i [] in k ≡ (whether flag (at 6 w) then 0 else at 14 w)
+      (e : take end out ++ conns (taken (subs_at queue (drop i us) (drop base rows))) ≡ total) where
+    pub taken_next : i < length us → let w = get_or us i [] in k ≡ (whether flag (at 6 w) then 0 else at 14 w)
         → take (end + k) next ≡ take end out ++ conns_at (take k (drop base rows))
-        → take (end + k) next ++ conns (taken (subs_at queue (slice (i + 1) n subs) (drop (base + (at 14 w + at 15 w)) rows))) ≡ total
+        → take (end + k) next ++ conns (taken (subs_at queue (drop (i + 1) us) (drop (base + (at 14 w + at 15 w)) rows))) ≡ total
     taken_next h q g =
-        let w = get_or subs i [] in
-        let r : List ℕ = conns (taken (subs_at queue (slice (i + 1) n subs) (drop (base + (at 14 w + at 15 w)) rows))) in
+        let w = get_or us i [] in
+        let r : List ℕ = conns (taken (subs_at queue (drop (i + 1) us) (drop (base + (at 14 w + at 15 w)) rows))) in
         ap (λ (l : List ℕ). l ++ r) g
         ∙ append_assoc (take end out) (conns_at (take k (drop base rows))) r
         ∙ ap (λ (j : ℕ). take end out ++ (conns_at (take j (drop base rows)) ++ r)) q
         ∙ ap (λ (l : List ℕ). take end out ++ l) (sym (taken-turn h))
         ∙ e
 
-    pub taken-end : i ≡ n → take end out ≡ total
+    pub taken-end : length us ≤ i → take end out ≡ total
     unfolding each_sub
     taken-end q =
-        sym (ap (λ (l : List Row). take end out ++ conns (taken (subs_at queue l (drop base rows)))) (part_end subs i n q) ∙ append-nil (take end out)) ∙ e
+        sym (ap (λ (l : List Row). take end out ++ conns (taken (subs_at queue l (drop base rows)))) (drop_all i us q) ∙ append-nil (take end out)) ∙ e
 
 -- ---- all that belong to connections
 

@@ -6,7 +6,7 @@ use Prim.Native.Nat.{ℕ, suc, ◌+◌, ◌≤◌, ◌<◌}
 use native.Mathlib.Numerals.{add-one}
 use native.Mathlib.Omega.{arith}
 use lib.ListN.{length, take, drop, get_or, set, length-drop}
-use lib.Seq.{slice, drop-drop, take-suc, take-suc-set, get_or-drop}
+use lib.Seq.{drop-drop, take-suc, take-suc-set, get_or-drop}
 use Rattle.words.specs.Pick.{whether◌then◌else◌}
 use Rattle.entry.specs.Entry.{entry_of}
 use Rattle.definition.specs.Base.{distinct}
@@ -19,29 +19,30 @@ use Rattle.definition.proofs.Stored.{flying-rows, seqs-rows}
 use Rattle.definition.proofs.Thin.{map-append}
 use Rattle.subrows.specs.Subrows.{seqs_at}
 use Rattle.sound.specs.Sound.{apart_by}
-use Rattle.subrows.proofs.Tests.{part-turn, part_end}
-use Rattle.subrows.proofs.Subs.{browses, seqs-of-sub}
+use Rattle.std.proofs.lemmas.List.{drop_all}
+use Rattle.subrows.proofs.Subs.{browses, seqs-of-sub, item-turn}
 
--- one number more
-pub seqs-more : (rows : List Row) (from i : ℕ) → from + i < length rows
-    → seqs_at (take (i + 1) (drop from rows)) ≡ seqs_at (take i (drop from rows)) ++ at 0 (get_or rows (from + i) []) ∷ []
-seqs-more rows from i h =
-    ap (λ (j : ℕ). seqs_at (take j (drop from rows))) (add-one i)
-    ∙ ap seqs_at (take-suc (drop from rows) i [] (simp length-drop (omega arith)))
-    ∙ map-append (at 0) (take i (drop from rows)) (get_or (drop from rows) i [] ∷ [])
-    ∙ ap (λ (w : Row). seqs_at (take i (drop from rows)) ++ at 0 w ∷ []) (get_or-drop from rows i [])
+-- one word more
+module _ (word : ℕ) where
+  pub words-more : (rows : List Row) (from i : ℕ) → from + i < length rows
+      → map (at word) (take (i + 1) (drop from rows)) ≡ map (at word) (take i (drop from rows)) ++ at word (get_or rows (from + i) []) ∷ []
+  words-more rows from i h =
+      ap (λ (j : ℕ). map (at word) (take j (drop from rows))) (add-one i)
+      ∙ ap (map (at word)) (take-suc (drop from rows) i [] (simp length-drop (omega arith)))
+      ∙ map-append (at word) (take i (drop from rows)) (get_or (drop from rows) i [] ∷ [])
+      ∙ ap (λ (w : Row). map (at word) (take i (drop from rows)) ++ at word w ∷ []) (get_or-drop from rows i [])
 
-pub gather-turn : (rows : List Row) (was out : List ℕ) (from start i : ℕ) → from + i < length rows → start + i < length out
-    → take (start + i) out ≡ take start was ++ seqs_at (take i (drop from rows))
-    → take (start + (i + 1)) (set out (start + i) (at 0 (get_or rows (from + i) []))) ≡ take start was ++ seqs_at (take (i + 1) (drop from rows))
-gather-turn rows was out from start i h k e =
-    let v : ℕ = at 0 (get_or rows (from + i) []) in
-    let n : start + (i + 1) ≡ suc (start + i) = omega arith in
-    ap (λ (j : ℕ). take j (set out (start + i) v)) n
-    ∙ take-suc-set out (start + i) v k
-    ∙ ap (λ (l : List ℕ). l ++ v ∷ []) e
-    ∙ append_assoc (take start was) (seqs_at (take i (drop from rows))) (v ∷ [])
-    ∙ ap (λ (l : List ℕ). take start was ++ l) (sym (seqs-more rows from i h))
+  pub gather-turn : (rows : List Row) (was out : List ℕ) (from start i : ℕ) → from + i < length rows → start + i < length out
+      → take (start + i) out ≡ take start was ++ map (at word) (take i (drop from rows))
+      → take (start + (i + 1)) (set out (start + i) (at word (get_or rows (from + i) []))) ≡ take start was ++ map (at word) (take (i + 1) (drop from rows))
+  gather-turn rows was out from start i h k e =
+      let v : ℕ = at word (get_or rows (from + i) []) in
+      let n : start + (i + 1) ≡ suc (start + i) = omega arith in
+      ap (λ (j : ℕ). take j (set out (start + i) v)) n
+      ∙ take-suc-set out (start + i) v k
+      ∙ ap (λ (l : List ℕ). l ++ v ∷ []) e
+      ∙ append_assoc (take start was) (map (at word) (take i (drop from rows))) (v ∷ [])
+      ∙ ap (λ (l : List ℕ). take start was ++ l) (sym (words-more rows from i h))
 
 -- one consumer's rows
 module _ (w : Row) (rows : List Row) (base : ℕ) where
@@ -67,45 +68,45 @@ module _ (w : Row) (rows : List Row) (base : ℕ) where
       pick false = sym (seqs-rows (take (at 14 w) (drop base rows)))
 
 -- a queue's entries in flight, from consumer i on
-module _ (subs : List Row) (i n : ℕ) (b : n ≤ length subs) (rows : List Row) (base : ℕ) where
-  taken-turn : i < n → let w = get_or subs i [] in seqs (taken (subs_at queue (slice i n subs) (drop base rows)))
-      ≡ seqs_at (take (whether flag (at 6 w) then 0 else at 14 w) (drop base rows)) ++ seqs (taken (subs_at queue (slice (i + 1) n subs) (drop (base + (at 14 w + at 15 w)) rows)))
+module _ (us : List Row) (i : ℕ) (rows : List Row) (base : ℕ) where
+  taken-turn : i < length us → let w = get_or us i [] in seqs (taken (subs_at queue (drop i us) (drop base rows)))
+      ≡ seqs_at (take (whether flag (at 6 w) then 0 else at 14 w) (drop base rows)) ++ seqs (taken (subs_at queue (drop (i + 1) us) (drop (base + (at 14 w + at 15 w)) rows)))
   unfolding each_sub
   taken-turn h =
-      let w = get_or subs i [] in
+      let w = get_or us i [] in
       let s = sub_at queue w (take (at 14 w) (drop base rows)) (take (at 15 w) (drop (at 14 w) (drop base rows))) in
       let d : drop (at 15 w) (drop (at 14 w) (drop base rows)) ≡ drop (base + (at 14 w + at 15 w)) rows =
       drop-drop (at 15 w) (at 14 w) (drop base rows) ∙ drop-drop (at 14 w + at 15 w) base rows in
-      ap (λ (l : List Row). seqs (taken (subs_at queue l (drop base rows)))) (part-turn subs i n [] h b)
-      ∙ map-append (λ e. e.seq) (whether is_browser s then [] else flying s) (taken (subs_at queue (slice (i + 1) n subs) (drop (at 15 w) (drop (at 14 w) (drop base rows)))))
-      ∙ ap₂ (λ (l : List ℕ) (r : List Row). l ++ seqs (taken (subs_at queue (slice (i + 1) n subs) r))) (taken_here w rows base) d
+      ap (λ (l : List Row). seqs (taken (subs_at queue l (drop base rows)))) (item-turn us i h)
+      ∙ map-append (λ e. e.seq) (whether is_browser s then [] else flying s) (taken (subs_at queue (drop (i + 1) us) (drop (at 15 w) (drop (at 14 w) (drop base rows)))))
+      ∙ ap₂ (λ (l : List ℕ) (r : List Row). l ++ seqs (taken (subs_at queue (drop (i + 1) us) r))) (taken_here w rows base) d
 
   -- what was met, with theirs
-  module _ (met total : List ℕ) (e : met ++ seqs (taken (subs_at queue (slice i n subs) (drop base rows))) ≡ total) where
-    pub taken_more : (k : ℕ) → i < n → let w = get_or subs i [] in k ≡ (whether flag (at 6 w) then 0 else at 14 w)
-        → (met ++ seqs_at (take k (drop base rows))) ++ seqs (taken (subs_at queue (slice (i + 1) n subs) (drop (base + (at 14 w + at 15 w)) rows))) ≡ total
+  module _ (met total : List ℕ) (e : met ++ seqs (taken (subs_at queue (drop i us) (drop base rows))) ≡ total) where
+    pub taken_more : (k : ℕ) → i < length us → let w = get_or us i [] in k ≡ (whether flag (at 6 w) then 0 else at 14 w)
+        → (met ++ seqs_at (take k (drop base rows))) ++ seqs (taken (subs_at queue (drop (i + 1) us) (drop (base + (at 14 w + at 15 w)) rows))) ≡ total
     taken_more k h q =
-        let w = get_or subs i [] in
-        let r : List ℕ = seqs (taken (subs_at queue (slice (i + 1) n subs) (drop (base + (at 14 w + at 15 w)) rows))) in
+        let w = get_or us i [] in
+        let r : List ℕ = seqs (taken (subs_at queue (drop (i + 1) us) (drop (base + (at 14 w + at 15 w)) rows))) in
         append_assoc met (seqs_at (take k (drop base rows))) r
         ∙ ap (λ (j : ℕ). met ++ (seqs_at (take j (drop base rows)) ++ r)) q
         ∙ ap (λ (l : List ℕ). met ++ l) (sym (taken-turn h))
         ∙ e
 
-    pub taken-all : i ≡ n → met ≡ total
+    pub taken-all : length us ≤ i → met ≡ total
     unfolding each_sub
-    taken-all q = sym (ap (λ (l : List Row). met ++ seqs (taken (subs_at queue l (drop base rows)))) (part_end subs i n q) ∙ append-nil met) ∙ e
+    taken-all q = sym (ap (λ (l : List Row). met ++ seqs (taken (subs_at queue l (drop base rows)))) (drop_all i us q) ∙ append-nil met) ∙ e
 
   module _ (was out next : List ℕ) (start end k : ℕ) (total : List ℕ)
-      (e : take end out ++ seqs (taken (subs_at queue (slice i n subs) (drop base rows))) ≡ total) where
-    pub taken_next : i < n → let w = get_or subs i [] in k ≡ (whether flag (at 6 w) then 0 else at 14 w)
+      (e : take end out ++ seqs (taken (subs_at queue (drop i us) (drop base rows))) ≡ total) where
+    pub taken_next : i < length us → let w = get_or us i [] in k ≡ (whether flag (at 6 w) then 0 else at 14 w)
         → take (end + k) next ≡ take end out ++ seqs_at (take k (drop base rows))
-        → take (end + k) next ++ seqs (taken (subs_at queue (slice (i + 1) n subs) (drop (base + (at 14 w + at 15 w)) rows))) ≡ total
+        → take (end + k) next ++ seqs (taken (subs_at queue (drop (i + 1) us) (drop (base + (at 14 w + at 15 w)) rows))) ≡ total
     taken_next h q g =
-        let w = get_or subs i [] in
-        ap (λ (l : List ℕ). l ++ seqs (taken (subs_at queue (slice (i + 1) n subs) (drop (base + (at 14 w + at 15 w)) rows)))) g ∙ taken_more (take end out) total e k h q
+        let w = get_or us i [] in
+        ap (λ (l : List ℕ). l ++ seqs (taken (subs_at queue (drop (i + 1) us) (drop (base + (at 14 w + at 15 w)) rows)))) g ∙ taken_more (take end out) total e k h q
 
-    pub taken-end : i ≡ n → take end out ≡ total
+    pub taken-end : length us ≤ i → take end out ≡ total
     taken-end q = taken-all (take end out) total e q
 
 pub taken-small : (w : Row) → (whether flag (at 6 w) then 0 else at 14 w) ≤ at 14 w

@@ -18,7 +18,7 @@ use Rattle.distinct.proofs.Laws.{apart, distinct_snoc, mark-kept}
 use Rattle.subrows.specs.Subrows.{seqs_at}
 use Rattle.sound.specs.Sound.{slots_marked, marked_apart, Met}
 use Rattle.sound.proofs.Rising.{waiting-apart}
-use Rattle.sound.proofs.Gathered.{seqs-more}
+use Rattle.sound.proofs.Gathered.{words-more}
 
 module _ (slots : List Bool) (w : List ℕ) where
   -- a number whose remainder is not marked was not met
@@ -65,7 +65,7 @@ pub met-more : (was slots : List Bool) (w : List ℕ) (rows : List Row) (from i 
 met-more was slots w rows from i h k g f m l e =
     let x : ℕ = at 0 (get_or rows (from + i) []) in
     let new : List ℕ = seqs_at (take i (drop from rows)) in
-    ap (λ (n : List ℕ). marked_apart (set slots (x % 256) true) w (l ++ n)) (seqs-more rows from i h)
+    ap (λ (n : List ℕ). marked_apart (set slots (x % 256) true) w (l ++ n)) (words-more 0 rows from i h)
     ∙ ap (marked_apart (set slots (x % 256) true) w) (sym (append_assoc l new (x ∷ [])))
     ∙ one_more slots w x (l ++ new) (omega arith) (g l e) f m
 

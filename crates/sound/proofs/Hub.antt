@@ -7,7 +7,7 @@ use native.Mathlib.Omega.{arith}
 use borrow.Author.Tests.{eqb-true, eqb-false, eq-eqb}
 use lib.Dec.{eqb}
 use lib.ListN.{length, take, drop, get_or, length-take, length-drop}
-use lib.Seq.{slice, take-add, get_or-drop, get_or-take}
+use lib.Seq.{take-add, get_or-drop, get_or-take}
 use Rattle.words.proofs.Tests.{by-test}
 use Rattle.entry.specs.Entry.{entry_of}
 use Rattle.definition.specs.Base.{all, member, distinct}
@@ -20,7 +20,7 @@ use Rattle.definition.proofs.Lists.{all-joined}
 use Rattle.copies.specs.Copies.{alike, agree_at}
 use Rattle.copies.proofs.Laws.{agree-means, alike_at, member-at}
 use Rattle.subrows.specs.Subrows.{seqs_at}
-use Rattle.subrows.proofs.Subs.{rows-turn, walk_turn}
+use Rattle.subrows.proofs.Subs.{rows-item, item_turn}
 use Rattle.sound.proofs.Gathered.{apart-here}
 use Rattle.sound.specs.Sound.{apart_by, HubAt, SameRows, sizes_at}
 use Rattle.sound.proofs.Sizes.{distinct-agree}
@@ -119,33 +119,33 @@ more-copies rows base k end many d b l m s e =
 -- ---- one consumer's rows among all
 
 -- where each consumer's rows are different, so are those of each that is left
-abbrev pub ApartFrom : List Row → ℕ → ℕ → ℕ → Type 0
-ApartFrom subs n base i = (rows : List Row) → all (apart_by topic) (subs_at topic (take n subs) rows) ≡ true → all (apart_by topic) (subs_at topic (slice i n subs) (drop base rows)) ≡ true
+abbrev pub ApartFrom : List Row → ℕ → ℕ → Type 0
+ApartFrom us base i = (rows : List Row) → all (apart_by topic) (subs_at topic us rows) ≡ true → all (apart_by topic) (subs_at topic (drop i us) (drop base rows)) ≡ true
 
 pub no-hub : (ws : List Row) → HubAt ws 0 0
 no-hub ws = record { room = omega arith; within = omega arith; apart = λ rows a. refl }
 
-module _ (subs : List Row) (i n : ℕ) (b : n ≤ length subs) (base : ℕ) (h : i < n) (g : ApartFrom subs n base i) where
+module _ (us : List Row) (i base : ℕ) (h : i < length us) (g : ApartFrom us base i) where
   abbrev pub own : ℕ
-  own = at 14 (get_or subs i []) + at 15 (get_or subs i [])
+  own = at 14 (get_or us i []) + at 15 (get_or us i [])
 
   abbrev own_apart : List Row → Bool
-  own_apart rows = let w = get_or subs i [] in apart_by topic (sub_at topic w (take (at 14 w) (drop base rows)) (take (at 15 w) (drop (at 14 w) (drop base rows))))
+  own_apart rows = let w = get_or us i [] in apart_by topic (sub_at topic w (take (at 14 w) (drop base rows)) (take (at 15 w) (drop (at 14 w) (drop base rows))))
 
   abbrev next_apart : List Row → Bool
-  next_apart rows = all (apart_by topic) (subs_at topic (slice (i + 1) n subs) (drop (base + own) rows))
+  next_apart rows = all (apart_by topic) (subs_at topic (drop (i + 1) us) (drop (base + own) rows))
 
-  apart-turn : (rows : List Row) → all (apart_by topic) (subs_at topic (take n subs) rows) ≡ true → (own_apart rows && next_apart rows) ≡ true
-  apart-turn rows a = walk_turn subs i n b (apart_by topic) (sub_at topic) rows base true (g rows a) h
+  apart-turn : (rows : List Row) → all (apart_by topic) (subs_at topic us rows) ≡ true → (own_apart rows && next_apart rows) ≡ true
+  apart-turn rows a = item_turn us i (apart_by topic) (sub_at topic) rows base true (g rows a) h
 
-  pub apart_next : ApartFrom subs n (base + own) (i + 1)
+  pub apart_next : ApartFrom us (base + own) (i + 1)
   apart_next rows a = and_right (own_apart rows) (next_apart rows) (apart-turn rows a)
 
-  pub hub-here : base + sub_rows (slice i n subs) ≡ sub_rows (take n subs) → HubAt (take n subs) (base + own) own
+  pub hub-here : base + sub_rows (drop i us) ≡ sub_rows us → HubAt us (base + own) own
   hub-here e =
       let q : base + own - own ≡ base = omega arith in
       record {
         room = omega arith;
-        within = omega (arith, rows-turn subs i n b h);
-        apart = λ rows a. ap (λ (j : ℕ). distinct (seqs_at (take own (drop j rows)))) q ∙ apart-here (get_or subs i []) rows base false ∙ and_left (own_apart rows) (next_apart rows) (apart-turn rows a);
+        within = omega (arith, rows-item us i h);
+        apart = λ rows a. ap (λ (j : ℕ). distinct (seqs_at (take own (drop j rows)))) q ∙ apart-here (get_or us i []) rows base false ∙ and_left (own_apart rows) (next_apart rows) (apart-turn rows a);
       }

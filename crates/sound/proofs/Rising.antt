@@ -2,12 +2,14 @@
 use mathlib.Core.Path.{◌≡◌, refl, sym, ap, ap₂, ◌∙◌}
 use mathlib.Core.Bool.{Bool, true, false, not, ◌&&◌, ◌||◌, or-false, true≢false}
 use mathlib.Core.List.{List, [], ◌∷◌, ◌++◌}
-use Prim.Native.Nat.{ℕ, zero, suc, ◌+◌, ◌≤◌, ◌<◌}
+use Prim.Native.Nat.{ℕ, zero, suc, ◌+◌, ◌≤◌, ◌<◌, min}
 use native.Mathlib.Omega.{arith}
 use borrow.Author.Tests.{ltb-true, ltb-false, lt-ltb, le-ltb, ne_eqb}
 use lib.Dec.{ltb, eqb}
 use lib.ListN.{length, take, drop, get_or, length-take, length-drop}
-use lib.Seq.{slice, take-take, take_all}
+use lib.Seq.{slice, take-take, take_all, drop-cons}
+use native.Mathlib.Numerals.{add-one}
+use Rattle.std.proofs.lemmas.List.{drop_all}
 use Rattle.words.proofs.Tests.{by-test}
 use Rattle.definition.specs.Base.{all, member, distinct, rising, ascending}
 use Rattle.definition.specs.Types.{topic}
@@ -75,23 +77,20 @@ head-rises (suc k) m (w ∷ l) e f =
     and_both (ltb m (at 0 w)) (rising (at 0 w) (seqs_at l)) (and_left (ltb m (at 0 w)) (rising (at 0 w) (seqs_at (take (suc k) l))) e)
     (head-rises k (at 0 w) l (and_right (ltb m (at 0 w)) (rising (at 0 w) (seqs_at (take (suc k) l))) e) f)
 
-pub head_apart : (rows : List Row) (from n k head : ℕ) → from + n ≤ length rows → k ≤ n → (k < n → head ≡ k + 1) → (n ≤ k → head ≡ n)
+pub head_apart : (rows : List Row) (from n k head : ℕ) → from + n ≤ length rows → k ≤ n → head ≡ min n (k + 1)
     → ascending (seqs_at (slice k n (drop from rows))) ≡ true → rising 0 (seqs_at (slice from (from + head) rows)) ≡ true → distinct (seqs_at (take n (drop from rows))) ≡ true
-head_apart rows from n k head b h f g a r =
+head_apart rows from n k head b h e a r =
     rising-distinct 0 (seqs_at (take n (drop from rows))) (head-rises k 0 (take n (drop from rows)) (ap (λ (l : List Row). rising 0 (seqs_at l)) part ∙ r) a)
   where
     part : take (suc k) (take n (drop from rows)) ≡ slice from (from + head) rows
     part = by-test (ltb k n)
         (λ t.
-        let q : suc k ≡ head = omega (arith, f (ltb-true k n t)) in
+        let q : suc k ≡ head = omega (arith, e, ltb-true k n t) in
         take-take (suc k) n (drop from rows) (omega (arith, ltb-true k n t)) ∙ ap (λ (j : ℕ). take j (drop from rows)) q ∙ sym (part_of rows from head (omega arith)))
         (λ t.
-        let q : n ≡ head = sym (g (ltb-false k n t)) in
+        let q : n ≡ head = omega (arith, e, ltb-false k n t) in
         take_all (suc k) (take n (drop from rows)) (simp (length-take, length-drop) (omega (arith, ltb-false k n t))) ∙ ap (λ (j : ℕ). take j (drop from rows)) q
         ∙ sym (part_of rows from head (omega arith)))
-
-pub head_small : (k n head : ℕ) → k ≤ n → (k < n → head ≡ k + 1) → (n ≤ k → head ≡ n) → head ≤ n
-head_small k n head h f g = by-test (ltb k n) (λ t. omega (arith, f (ltb-true k n t), ltb-true k n t)) (λ t. omega (arith, g (ltb-false k n t)))
 
 -- which consumers' rows are compared
 pub topic-rises : (q : Bool) (l : List ℕ) → q ≡ false → held_rise q l ≡ true → ascending l ≡ true
@@ -153,3 +152,17 @@ held-rise q most (w ∷ ws) rows e =
     here-rises true f h t = refl
     here-rises false f h t =
         ap ascending (seqs-rows h) ∙ (every-all (own_tests topic most (sub_at topic w f h)) (and_left (own_sound topic most (sub_at topic w f h)) (sub_strict w f h) t)).1.1.1.1.1.1.1.0
+
+-- numbers that are tested one after the other
+module _ (p : ℕ → Bool) (xs : List ℕ) (i : ℕ) (total : Bool) (e : all p (drop i xs) ≡ total) where
+  none-turn : i < length xs → (p (get_or xs i 0) && all p (drop (i + 1) xs)) ≡ total
+  none-turn h = sym (ap (all p) (drop-cons xs i 0 h ∙ ap (λ (j : ℕ). get_or xs i 0 ∷ drop j xs) (sym (add-one i)))) ∙ e
+
+  pub none-stop : i < length xs → p (get_or xs i 0) ≡ false → false ≡ total
+  none-stop h q = sym (ap (λ (b : Bool). b && all p (drop (i + 1) xs)) q) ∙ none-turn h
+
+  pub none-next : i < length xs → p (get_or xs i 0) ≡ true → all p (drop (i + 1) xs) ≡ total
+  none-next h q = sym (ap (λ (b : Bool). b && all p (drop (i + 1) xs)) q) ∙ none-turn h
+
+  pub none-end : length xs ≤ i → true ≡ total
+  none-end h = sym (ap (all p) (drop_all i xs h)) ∙ e

@@ -1,7 +1,7 @@
 // Whether lent buffers are long enough, and the layout of a sound state.
 #![tactic(auto)]
 
-ghost use Rattle.std.specs.Prelude.{◌≡◌, true, false, not, ◌&&◌, ◌||◌, [], ◌++◌, ℕ, ◌+◌, ◌-◌, ◌≤◌, ◌<◌, ltb, eqb, length, take, drop, get_or};
+ghost use Rattle.std.specs.Prelude.{◌≡◌, true, false, not, ◌&&◌, ◌||◌, [], ◌++◌, map, ℕ, ◌+◌, ◌-◌, ◌≤◌, ◌<◌, ltb, eqb, length, take, drop, get_or};
 ghost use Rattle.std.proofs.Math.Seq.{slice};
 ghost use Rattle.words.specs.Pick.{whether◌then◌else◌};
 ghost use Rattle.definition.specs.Base.{all, member, distinct, rising, ascending};
@@ -13,25 +13,29 @@ ghost use Rattle.copies.specs.Copies.{shared_by};
 ghost use Rattle.shares.specs.Shares.{conns};
 ghost use Rattle.heads.specs.Heads.{head_ok};
 ghost use Rattle.subrows.specs.Subrows.{sorted_ok, seqs_at};
-ghost use Rattle.sound.specs.Sound.{kind_by, held_seqs, held_rise, SameFrom, Met, apart_by, queue_seqs, queue_apart, HubAt, SameRows, sizes_at, AlikeBy, numbers_ok, LoneAgree, conns_at, own_conns, shares_at, rest_ok};
+ghost use Rattle.sound.specs.Sound.{kind_by, held_seqs, held_rise, SameFrom, Met, apart_by, queue_seqs, queue_apart, HubAt, SameRows, sizes_at, AlikeBy, numbers_ok, LoneAgree, own_conns, shares_at, rest_ok};
 
 use entry::{Row, SEQ_END};
 
 type SubRow = [u64; 16];
 
+// The words of a row for its entry's sequence number and its connection.
+const NUMBER: usize = 0;
+
+const CONNECTION: usize = 3;
+
 // ---- sequence numbers
 
-// Copies the sequence numbers of n rows from place from into out, from place start.
-fn gather(rows: &[Row], from: usize, n: usize, out: &mut [u64], start: usize)
+// Copies one word of each of n rows from place from into out, from place start.
+fn gather<const WORD: usize>(rows: &[Row], from: usize, n: usize, out: &mut [u64], start: usize)
+    requires word { WORD < 10 }
     requires n_in_bounds { from + n ≤ length rows.now }
     requires n_bound { start + n ≤ (length out.old) }
-    ensures { take (start + n) out.new ≡ take start out.old ++ seqs_at (take n (drop from rows.now)) }
+    ensures { take (start + n) out.new ≡ take start out.old ++ map (at WORD) (take n (drop from rows.now)) }
 {
-    let mut i = 0;
-    while i < n {
+    for i in 0..n {
         let row = rows[from + i];
-        out[start + i] = row[0];
-        i += 1;
+        out[start + i] = row[WORD];
     }
 }
 
@@ -42,27 +46,15 @@ fn rows_rise(rows: &[Row], from: usize, to: usize) -> bool
     ensures { result ≡ rising 0 (seqs_at (slice from to rows.now)) }
 {
     let mut last = 0;
-    let mut i = from;
-    while i < to {
+    for i in from..to {
         let row = rows[i];
         let seq = row[0];
         if seq <= last {
             return false;
         }
         last = seq;
-        i += 1;
     }
     true
-}
-
-// How many of n rows are looked at, where those after the first k rise.
-fn head_of(k: usize, n: usize) -> usize
-    ensures { (k < n → result ≡ k + 1) × (n ≤ k → result ≡ n) }
-{
-    if k < n {
-        return k + 1;
-    }
-    n
 }
 
 // Whether n rows from place from have different numbers; those after the first k rise.
@@ -73,12 +65,12 @@ fn rows_apart(rows: &[Row], from: usize, n: usize, k: usize) -> bool
     requires rows_value { ascending (seqs_at (slice k n (drop from rows.now))) ≡ true }
     ensures { result ≡ distinct (seqs_at (take n (drop from rows.now))) }
 {
-    let head = head_of(k, n);
+    let head = n.min(k + 1);
     if rows_rise(rows, from, from + head) {
         return true;
     }
     let mut many = [0u64; 512];
-    gather(rows, from, n, &mut many, 0);
+    gather::<NUMBER>(rows, from, n, &mut many, 0);
     distinct::distinct(&many, n)
 }
 
@@ -101,22 +93,18 @@ fn sub_apart(w: SubRow, rows: &[Row], base: usize, on_queue: bool) -> bool
 }
 
 // Each consumer's rows.
-fn subs_apart(subs: &[SubRow], n: usize, rows: &[Row], on_queue: bool) -> bool
-    requires n_bound { n ≤ (length subs.now) }
-    requires subs_in_bounds { sub_rows (take n subs.now) ≤ length rows.now }
-    requires subs_bound { sub_rows (take n subs.now) ≤ 512 }
-    requires rows_value { all (held_rise on_queue) (each_sub held_seqs (take n subs.now) rows.now) ≡ true }
-    ensures { result ≡ all (apart_by (kind_by on_queue)) (subs_at (kind_by on_queue) (take n subs.now) rows.now) }
+fn subs_apart(subs: &[SubRow], rows: &[Row], on_queue: bool) -> bool
+    requires subs_in_bounds { sub_rows subs.now ≤ length rows.now }
+    requires subs_bound { sub_rows subs.now ≤ 512 }
+    requires rows_value { all (held_rise on_queue) (each_sub held_seqs subs.now rows.now) ≡ true }
+    ensures { result ≡ all (apart_by (kind_by on_queue)) (subs_at (kind_by on_queue) subs.now rows.now) }
 {
     let mut base = 0;
-    let mut i = 0;
-    while i < n {
-        let w = subs[i];
-        if !sub_apart(w, rows, base, on_queue) {
+    for w in subs {
+        if !sub_apart(*w, rows, base, on_queue) {
             return false;
         }
         base += w[14] as usize + w[15] as usize;
-        i += 1;
     }
     true
 }
@@ -132,23 +120,19 @@ fn taken_of(w: SubRow) -> usize
 }
 
 // Gathers a queue's entries in flight; returns where they end.
-fn gather_taken(subs: &[SubRow], n: usize, rows: &[Row], out: &mut [u64], start: usize) -> usize
-    requires n_bound { n ≤ (length subs.now) }
-    requires subs_in_bounds { sub_rows (take n subs.now) ≤ length rows.now }
-    requires subs_bound { start + sub_rows (take n subs.now) ≤ (length out.old) }
-    ensures out_after { take result out.new ≡ take start out.old ++ seqs (taken (subs_at queue (take n subs.now) rows.now)) }
-    ensures upper_bound { result ≤ start + sub_rows (take n subs.now) }
+fn gather_taken(subs: &[SubRow], rows: &[Row], out: &mut [u64], start: usize) -> usize
+    requires subs_in_bounds { sub_rows subs.now ≤ length rows.now }
+    requires subs_bound { start + sub_rows subs.now ≤ (length out.old) }
+    ensures out_after { take result out.new ≡ take start out.old ++ seqs (taken (subs_at queue subs.now rows.now)) }
+    ensures upper_bound { result ≤ start + sub_rows subs.now }
 {
     let mut end = start;
     let mut base = 0;
-    let mut i = 0;
-    while i < n {
-        let w = subs[i];
-        let k = taken_of(w);
-        gather(rows, base, k, out, end);
+    for w in subs {
+        let k = taken_of(*w);
+        gather::<NUMBER>(rows, base, k, out, end);
         end += k;
         base += w[14] as usize + w[15] as usize;
-        i += 1;
     }
     end
 }
@@ -163,15 +147,13 @@ fn not_below(rows: &[Row], from: usize, to: usize, x: u64) -> usize
     ensures rows_value_2 { ascending (seqs_at (slice result to rows.now)) ≡ true }
     ensures rows_value_3 { member x (seqs_at (slice result to rows.now)) ≡ (ltb result to && eqb (at 0 (get_or rows.now result [])) x) }
 {
-    let mut i = from;
-    while i < to {
+    for i in from..to {
         let row = rows[i];
         if x <= row[0] {
             return i;
         }
-        i += 1;
     }
-    i
+    to
 }
 
 // Whether x is the number of the row at place i, before to.
@@ -210,30 +192,27 @@ fn least_of(rows: &[Row], from: usize, to: usize) -> u64
     first[0]
 }
 
-// Whether none of the first n is the number of one of rows[from..to], which rise. As long as the numbers rise too, each is looked for from where the
+// Whether none of xs is the number of one of rows[from..to], which rise. As long as the numbers rise too, each is looked for from where the
 // one before was.
-fn none_waits(xs: &[u64], n: usize, rows: &[Row], from: usize, to: usize) -> bool
-    requires n_in_bounds { n ≤ length xs.now }
+fn none_waits(xs: &[u64], rows: &[Row], from: usize, to: usize) -> bool
     requires from_le_to { from ≤ to }
     requires to_in_bounds { to ≤ length rows.now }
     requires rows_value { ascending (seqs_at (slice from to rows.now)) ≡ true }
-    ensures { result ≡ all (λ x. not (member x (seqs_at (slice from to rows.now)))) (take n xs.now) }
+    ensures { result ≡ all (λ x. not (member x (seqs_at (slice from to rows.now)))) xs.now }
 {
     let low = least_of(rows, from, to);
     let mut at = from;
     let mut last = 0;
-    let mut k = 0;
-    while k < n {
-        let x = xs[k];
-        k += 1;
-        if low <= x {
-            let start = resume(from, at, x, last);
-            at = not_below(rows, start, to, x);
-            if stands(rows, at, to, x) {
-                return false;
-            }
-            last = x;
+    for x in xs {
+        if *x < low {
+            continue;
         }
+        let start = resume(from, at, *x, last);
+        at = not_below(rows, start, to, *x);
+        if stands(rows, at, to, *x) {
+            return false;
+        }
+        last = *x;
     }
     true
 }
@@ -241,23 +220,21 @@ fn none_waits(xs: &[u64], n: usize, rows: &[Row], from: usize, to: usize) -> boo
 // A queue's waiting, reserved and taken entries. Those that wait rise.
 fn queue_apart(
     subs: &[SubRow],
-    n: usize,
     rows: &[Row],
     others: usize,
     reserved: usize,
     waiting: usize,
     out: &mut [u64],
 ) -> bool
-    requires n_bound { n ≤ (length subs.now) }
-    requires others_value { others ≡ sub_rows (take n subs.now) }
+    requires others_value { others ≡ sub_rows subs.now }
     requires waiting_in_bounds { others + (reserved + waiting) ≤ length rows.now }
     requires waiting_bound { others + (reserved + waiting) ≤ 512 }
     requires reserved_bound { others + reserved ≤ (length out.old) }
     requires rows_value { sorted_ok 0 (slice (others + reserved) (others + reserved + waiting) rows.now) ≡ true }
-    ensures { result ≡ distinct (queue_seqs others reserved waiting (take n subs.now) rows.now) }
+    ensures { result ≡ distinct (queue_seqs others reserved waiting subs.now rows.now) }
 {
-    gather(rows, others, reserved, out, 0);
-    let end = gather_taken(subs, n, rows, out, reserved);
+    gather::<NUMBER>(rows, others, reserved, out, 0);
+    let end = gather_taken(subs, rows, out, reserved);
     if !distinct::distinct(out, end) {
         return false;
     }
@@ -265,7 +242,7 @@ fn queue_apart(
         return true;
     }
     let first = others + reserved;
-    none_waits(out, end, rows, first, first + waiting)
+    none_waits(&out[..end], rows, first, first + waiting)
 }
 
 // Marks the remainders of the numbers of n rows from place from. Yes where none was marked, so that each number is new, and none is the number of one of
@@ -281,8 +258,7 @@ fn marks(rows: &[Row], from: usize, n: usize, slots: &mut [bool], first: usize, 
     let low = least_of(rows, first, end);
     let mut at = first;
     let mut last = 0;
-    let mut i = 0;
-    while i < n {
+    for i in 0..n {
         let row = rows[from + i];
         let seq = row[0];
         let slot = (seq % 256) as usize;
@@ -290,34 +266,26 @@ fn marks(rows: &[Row], from: usize, n: usize, slots: &mut [bool], first: usize, 
             return false;
         }
         slots[slot] = true;
-        i += 1;
-        if low <= seq {
-            let start = resume(first, at, seq, last);
-            at = not_below(rows, start, end, seq);
-            if stands(rows, at, end, seq) {
-                return false;
-            }
-            last = seq;
+        if seq < low {
+            continue;
         }
+        let start = resume(first, at, seq, last);
+        at = not_below(rows, start, end, seq);
+        if stands(rows, at, end, seq) {
+            return false;
+        }
+        last = seq;
     }
     true
 }
 
 // Whether a queue's entries are seen to be different by the remainders of their numbers. Those that wait rise. No is no answer.
-fn seen_apart(
-    subs: &[SubRow],
-    n: usize,
-    rows: &[Row],
-    others: usize,
-    reserved: usize,
-    waiting: usize,
-) -> bool
-    requires n_bound { n ≤ (length subs.now) }
-    requires others_value { others ≡ sub_rows (take n subs.now) }
+fn seen_apart(subs: &[SubRow], rows: &[Row], others: usize, reserved: usize, waiting: usize) -> bool
+    requires others_value { others ≡ sub_rows subs.now }
     requires waiting_in_bounds { others + (reserved + waiting) ≤ length rows.now }
     requires waiting_bound { others + (reserved + waiting) ≤ 512 }
     requires rows_value { sorted_ok 0 (slice (others + reserved) (others + reserved + waiting) rows.now) ≡ true }
-    ensures { result ≡ true → distinct (queue_seqs others reserved waiting (take n subs.now) rows.now) ≡ true }
+    ensures { result ≡ true → distinct (queue_seqs others reserved waiting subs.now rows.now) ≡ true }
 {
     let first = others + reserved;
     let end = first + waiting;
@@ -326,15 +294,12 @@ fn seen_apart(
         return false;
     }
     let mut base = 0;
-    let mut i = 0;
-    while i < n {
-        let w = subs[i];
-        let k = taken_of(w);
+    for w in subs {
+        let k = taken_of(*w);
         if !marks(rows, base, k, &mut slots, first, end) {
             return false;
         }
         base += w[14] as usize + w[15] as usize;
-        i += 1;
     }
     true
 }
@@ -342,36 +307,34 @@ fn seen_apart(
 // With room for the numbers: few rows need little, which is sooner cleared, or none where the remainders show it.
 fn apart(
     subs: &[SubRow],
-    n: usize,
     rows: &[Row],
     others: usize,
     reserved: usize,
     waiting: usize,
     on_queue: bool,
 ) -> bool
-    requires n_bound { n ≤ (length subs.now) }
-    requires others_value { others ≡ sub_rows (take n subs.now) }
+    requires others_value { others ≡ sub_rows subs.now }
     requires waiting_in_bounds { others + (reserved + waiting) ≤ length rows.now }
     requires waiting_bound { others + (reserved + waiting) ≤ 512 }
     requires rows_value { sorted_ok 0 (slice (others + reserved) (others + reserved + waiting) rows.now) ≡ true }
-    requires rows_value_2 { all (held_rise on_queue) (each_sub held_seqs (take n subs.now) rows.now) ≡ true }
-    ensures { result ≡ (queue_apart (kind_by on_queue) others reserved waiting (take n subs.now) rows.now && all (apart_by (kind_by on_queue)) (subs_at (kind_by on_queue) (take n subs.now) rows.now)) }
+    requires rows_value_2 { all (held_rise on_queue) (each_sub held_seqs subs.now rows.now) ≡ true }
+    ensures { result ≡ (queue_apart (kind_by on_queue) others reserved waiting subs.now rows.now && all (apart_by (kind_by on_queue)) (subs_at (kind_by on_queue) subs.now rows.now)) }
 {
-    if !subs_apart(subs, n, rows, on_queue) {
+    if !subs_apart(subs, rows, on_queue) {
         return false;
     }
     if !on_queue {
         return true;
     }
     if others + reserved <= 64 {
-        if seen_apart(subs, n, rows, others, reserved, waiting) {
+        if seen_apart(subs, rows, others, reserved, waiting) {
             return true;
         }
         let mut few = [0u64; 64];
-        return queue_apart(subs, n, rows, others, reserved, waiting, &mut few);
+        return queue_apart(subs, rows, others, reserved, waiting, &mut few);
     }
     let mut many = [0u64; 512];
-    queue_apart(subs, n, rows, others, reserved, waiting, &mut many)
+    queue_apart(subs, rows, others, reserved, waiting, &mut many)
 }
 
 // ---- sizes
@@ -383,25 +346,21 @@ struct Span {
     many: usize,
 }
 
-// The first of n consumers that has most rows. That it has most is not promised: nothing but speed depends on it.
-fn most_rows(subs: &[SubRow], n: usize) -> Span
-    requires n_bound { n ≤ (length subs.now) }
-    requires subs_bound { sub_rows (take n subs.now) ≤ 512 }
-    ensures { HubAt (take n subs.now) result.end result.many }
+// The first of the consumers that has most rows. That it has most is not promised: nothing but speed depends on it.
+fn most_rows(subs: &[SubRow]) -> Span
+    requires subs_bound { sub_rows subs.now ≤ 512 }
+    ensures { HubAt subs.now result.end result.many }
 {
     let mut end = 0;
     let mut many = 0;
     let mut base = 0;
-    let mut i = 0;
-    while i < n {
-        let w = subs[i];
+    for w in subs {
         let k = w[14] as usize + w[15] as usize;
         base += k;
         if many < k {
             many = k;
             end = base;
         }
-        i += 1;
     }
     Span { end, many }
 }
@@ -415,14 +374,12 @@ fn same_rows(rows: &[Row], a: usize, b: usize, k: usize) -> bool
     if a == b {
         return true;
     }
-    let mut i = 0;
-    while i < k {
+    for i in 0..k {
         let x = rows[a + i];
         let y = rows[b + i];
         if (x[0] != y[0]) | (x[9] != y[9]) {
             return false;
         }
-        i += 1;
     }
     true
 }
@@ -442,41 +399,36 @@ fn alike_at(rows: &[Row], base: usize, k: usize, end: usize, many: usize) -> boo
 
 // Whether it is seen that copies of an entry agree on its size: on a topic where each consumer takes all entries, its rows are copies of the last rows of the
 // one that has most. No is no answer.
-fn alike(subs: &[SubRow], n: usize, rows: &[Row], on_queue: bool) -> bool
-    requires n_bound { n ≤ (length subs.now) }
-    requires subs_in_bounds { sub_rows (take n subs.now) ≤ length rows.now }
-    requires subs_bound { sub_rows (take n subs.now) ≤ 512 }
-    ensures { result ≡ true → AlikeBy on_queue (take n subs.now) rows.now }
+fn alike(subs: &[SubRow], rows: &[Row], on_queue: bool) -> bool
+    requires subs_in_bounds { sub_rows subs.now ≤ length rows.now }
+    requires subs_bound { sub_rows subs.now ≤ 512 }
+    ensures { result ≡ true → AlikeBy on_queue subs.now rows.now }
 {
     if on_queue {
         return false;
     }
-    let hub = most_rows(subs, n);
+    let hub = most_rows(subs);
     let end = hub.end;
     let many = hub.many;
     let mut base = 0;
-    let mut i = 0;
-    while i < n {
-        let w = subs[i];
+    for w in subs {
         let k = w[14] as usize + w[15] as usize;
         if !alike_at(rows, base, k, end, many) {
             return false;
         }
         base += k;
-        i += 1;
     }
     true
 }
 
 // Whether copies of an entry among the first rows agree on its size. Where no entry can have two rows, none is looked at.
-fn sizes_ok(subs: &[SubRow], n: usize, rows: &[Row], used: usize, on_queue: bool) -> bool
-    requires n_bound { n ≤ (length subs.now) }
+fn sizes_ok(subs: &[SubRow], rows: &[Row], used: usize, on_queue: bool) -> bool
     requires used_in_bounds { used ≤ length rows.now }
     requires used_bound { used ≤ 512 }
-    requires rows_value { shared_by on_queue (take n subs.now) ≡ false → sizes_at used rows.now ≡ true }
+    requires rows_value { shared_by on_queue subs.now ≡ false → sizes_at used rows.now ≡ true }
     ensures { result ≡ sizes_at used rows.now }
 {
-    if !copies::shared(subs, n, on_queue) {
+    if !copies::shared(subs, subs.len(), on_queue) {
         return true;
     }
     copies::agree(rows, used)
@@ -484,37 +436,20 @@ fn sizes_ok(subs: &[SubRow], n: usize, rows: &[Row], used: usize, on_queue: bool
 
 // ---- shares
 
-// Copies the connections of n rows from place from into out, from place start.
-fn gather_conns(rows: &[Row], from: usize, n: usize, out: &mut [u64], start: usize)
-    requires n_in_bounds { from + n ≤ length rows.now }
-    requires n_bound { start + n ≤ (length out.old) }
-    ensures { take (start + n) out.new ≡ take start out.old ++ conns_at (take n (drop from rows.now)) }
-{
-    let mut i = 0;
-    while i < n {
-        let row = rows[from + i];
-        out[start + i] = row[3];
-        i += 1;
-    }
-}
-
 // Gathers those of a queue's entries in flight; returns where they end.
-fn taken_conns(subs: &[SubRow], n: usize, rows: &[Row], out: &mut [u64], start: usize) -> usize
-    requires n_bound { n ≤ (length subs.now) }
-    requires subs_in_bounds { sub_rows (take n subs.now) ≤ length rows.now }
-    requires subs_bound { start + sub_rows (take n subs.now) ≤ (length out.old) }
-    ensures { take result out.new ≡ take start out.old ++ conns (taken (subs_at queue (take n subs.now) rows.now)) }
+// Not one with `gather_taken`: the definitions say numbers and connections of entries by two words, so each has its own lemmas.
+fn taken_conns(subs: &[SubRow], rows: &[Row], out: &mut [u64], start: usize) -> usize
+    requires subs_in_bounds { sub_rows subs.now ≤ length rows.now }
+    requires subs_bound { start + sub_rows subs.now ≤ (length out.old) }
+    ensures { take result out.new ≡ take start out.old ++ conns (taken (subs_at queue subs.now rows.now)) }
 {
     let mut end = start;
     let mut base = 0;
-    let mut i = 0;
-    while i < n {
-        let w = subs[i];
-        let k = taken_of(w);
-        gather_conns(rows, base, k, out, end);
+    for w in subs {
+        let k = taken_of(*w);
+        gather::<CONNECTION>(rows, base, k, out, end);
         end += k;
         base += w[14] as usize + w[15] as usize;
-        i += 1;
     }
     end
 }
@@ -522,49 +457,45 @@ fn taken_conns(subs: &[SubRow], n: usize, rows: &[Row], out: &mut [u64], start: 
 // Gathers those of all rows that belong to connections; returns how many.
 fn own_conns(
     subs: &[SubRow],
-    n: usize,
     rows: &[Row],
     others: usize,
     rest: usize,
     on_queue: bool,
     out: &mut [u64],
 ) -> usize
-    requires n_bound { n ≤ (length subs.now) }
-    requires others_value { others ≡ sub_rows (take n subs.now) }
+    requires others_value { others ≡ sub_rows subs.now }
     requires rest_in_bounds { others + rest ≤ length rows.now }
     requires rest_bound { others + rest ≤ (length out.old) }
     requires rest_bound_2 { others + rest ≤ 512 }
-    ensures { take result out.new ≡ own_conns on_queue others rest (take n subs.now) rows.now }
+    ensures { take result out.new ≡ own_conns on_queue others rest subs.now rows.now }
 {
     if !on_queue {
-        gather_conns(rows, 0, others + rest, out, 0);
+        gather::<CONNECTION>(rows, 0, others + rest, out, 0);
         return others + rest;
     }
-    gather_conns(rows, others, rest, out, 0);
-    taken_conns(subs, n, rows, out, rest)
+    gather::<CONNECTION>(rows, others, rest, out, 0);
+    taken_conns(subs, rows, out, rest)
 }
 
 // Whether no connection has more rows than the share. Where no more are in use, none is looked at.
 fn shares_ok(
     subs: &[SubRow],
-    n: usize,
     rows: &[Row],
     others: usize,
     rest: usize,
     share: u64,
     on_queue: bool,
 ) -> bool
-    requires n_bound { n ≤ (length subs.now) }
-    requires others_value { others ≡ sub_rows (take n subs.now) }
+    requires others_value { others ≡ sub_rows subs.now }
     requires rest_in_bounds { others + rest ≤ length rows.now }
     requires rest_bound { others + rest ≤ 512 }
-    ensures { result ≡ shares_at share on_queue others rest (take n subs.now) rows.now }
+    ensures { result ≡ shares_at share on_queue others rest subs.now rows.now }
 {
     if (others + rest) as u64 <= share {
         return true;
     }
     let mut out = [0u64; 512];
-    let end = own_conns(subs, n, rows, others, rest, on_queue, &mut out);
+    let end = own_conns(subs, rows, others, rest, on_queue, &mut out);
     shares::within(&out, end, share)
 }
 
@@ -573,32 +504,30 @@ fn shares_ok(
 // The numbers and the sizes of consumers and rows that are sound one by one.
 fn numbers_ok(
     subs: &[SubRow],
-    n: usize,
     rows: &[Row],
     others: usize,
     reserved: usize,
     waiting: usize,
     on_queue: bool,
 ) -> bool
-    requires n_bound { n ≤ (length subs.now) }
-    requires others_value { others ≡ sub_rows (take n subs.now) }
+    requires others_value { others ≡ sub_rows subs.now }
     requires waiting_in_bounds { others + (reserved + waiting) ≤ length rows.now }
     requires waiting_bound { others + (reserved + waiting) ≤ 512 }
     requires rows_value { sorted_ok 0 (slice (others + reserved) (others + reserved + waiting) rows.now) ≡ true }
-    requires rows_value_2 { all (held_rise on_queue) (each_sub held_seqs (take n subs.now) rows.now) ≡ true }
-    requires lone_agree { LoneAgree on_queue others reserved waiting (take n subs.now) rows.now }
-    ensures { result ≡ numbers_ok (kind_by on_queue) others reserved waiting (take n subs.now) rows.now }
+    requires rows_value_2 { all (held_rise on_queue) (each_sub held_seqs subs.now rows.now) ≡ true }
+    requires lone_agree { LoneAgree on_queue others reserved waiting subs.now rows.now }
+    ensures { result ≡ numbers_ok (kind_by on_queue) others reserved waiting subs.now rows.now }
 {
     let first = others + reserved;
     let place = on_queue | (reserved + waiting == 0);
-    let seqs = apart(subs, n, rows, others, reserved, waiting, on_queue);
+    let seqs = apart(subs, rows, others, reserved, waiting, on_queue);
     if !(place & seqs) {
         return false;
     }
-    if alike(subs, n, rows, on_queue) {
+    if alike(subs, rows, on_queue) {
         return true;
     }
-    sizes_ok(subs, n, rows, first + waiting, on_queue)
+    sizes_ok(subs, rows, first + waiting, on_queue)
 }
 
 // What follows the head.
@@ -618,12 +547,13 @@ fn rest_ok(head: &[u64], subs: &[SubRow], rows: &[Row]) -> bool
     if !look.ok {
         return false;
     }
+    let subs = &subs[..n];
     let others = look.others;
-    if !numbers_ok(subs, n, rows, others, reserved, waiting, on_queue) {
+    if !numbers_ok(subs, rows, others, reserved, waiting, on_queue) {
         return false;
     }
     let rest = reserved + waiting;
-    shares_ok(subs, n, rows, others, rest, head[8346], on_queue)
+    shares_ok(subs, rows, others, rest, head[8346], on_queue)
 }
 
 // Whether the buffers are long enough.

@@ -6,3 +6,4 @@ pub mod Leaves
 pub mod Ready
 pub mod Answers
 pub mod Parts
+pub mod Told

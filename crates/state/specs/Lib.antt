@@ -1,3 +1,4 @@
+pub mod Answers
 pub mod State
 pub mod Fits
 pub mod Leaves

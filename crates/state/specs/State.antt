@@ -4,14 +4,14 @@ use Rattle.std.proofs.Math.Option.{none, some}
 use mir.Val.{bool_byte}
 use Rattle.words.specs.Pick.{whether◌then◌else◌}
 use Rattle.entry.specs.Entry.{entry_of}
-use Rattle.definition.specs.Types.{queue, Id, Audit, Dest}
+use Rattle.definition.specs.Types.{Id, Audit, Dest}
 use Rattle.definition.specs.Consumer.{zero_stats}
 use Rattle.definition.specs.Words.{at}
 pub use Rattle.definition.specs.Words.{kind_by}
 use Rattle.definition.specs.Layout.{Row, flag, held_at, subs_at, sub_rows, stats_at, tables_strict}
 use Rattle.stats.specs.declared.Stats.{Stats}
 use Rattle.state.specs.declared.Head.{Head}
-use Rattle.state.specs.declared.Answer.{Answer}
+use Rattle.state.specs.Answers.{Replied}
 
 -- the head's first 17 words and its last two, by value, with so many rows in use
 unfoldable pub head_of : List ℕ → ℕ → Head
@@ -155,10 +155,10 @@ due_by now d = now - d.allowance
 
 -- ---- what a call leaves
 
-abbrev pub refused_as : ℕ → Head → Answer
+abbrev pub refused_as : ℕ → Head → Replied
 refused_as k d = record { refusal = k; answer = 0; head = d }
 
-abbrev pub done_as : ℕ → Head → Answer
+abbrev pub done_as : ℕ → Head → Replied
 done_as a d = record { refusal = 0; answer = a; head = d }
 
 -- ---- places

@@ -6,10 +6,11 @@ ghost use Rattle.model.specs.Model.{id_of};
 ghost use Rattle.stats.specs.Counted.{more, with_enqueued, with_dequeued_by, with_expired_by, with_discarded_by, with_dispatched};
 ghost use Rattle.definition.specs.Types.{letter, message, null};
 ghost use Rattle.definition.specs.Layout.{event_words};
-ghost use Rattle.state.specs.State.{kind_word, no_head, loaded, stored_head, pushed, touched, not_idle, due_by, refused_as, done_as, with_used_calls, with_counters, first_waiting, first_reserved, rows_free};
+ghost use Rattle.state.specs.State.{kind_word, loaded, stored_head, pushed, touched, not_idle, due_by, with_used_calls, with_counters, first_waiting, first_reserved, rows_free};
 ghost use Rattle.state.specs.Fits.{tables_fit, numbers_fit, counters_fit, fits};
 
 use consumers::SubRow;
+use model::Refusal;
 use stats::Stats;
 
 // The most rows: a table of them stands beside those of consumers and events.
@@ -41,6 +42,7 @@ const MESSAGE: u64 = 2;
 const NULL: u64 = 3;
 
 // What a call carries: the head's first words and its last two, the rows in use, and the events sent so far.
+// `idle` and `idle_since` are two fields, no Option, as `stored_head` writes both words.
 #[derive(Clone, Copy)]
 pub struct Head {
     pub topic_limit: u64,
@@ -63,194 +65,8 @@ pub struct Head {
 }
 
 impl Head {
-    // `touch_idle`: the mark is set where nothing is left and none is set; else it goes.
-    pub fn touch_idle(mut self, now: u64) -> Head
-        ensures { result ≡ touched now self }
-    {
-        if self.waiting != 0 {
-            return self.not_idle();
-        }
-        if self.consumers != 0 {
-            return self.not_idle();
-        }
-        if self.producers != 0 {
-            return self.not_idle();
-        }
-        if self.idle {
-            return self;
-        }
-        self.idle = true;
-        self.idle_since = now;
-        self
-    }
-
-    // `idle_since = None`.
-    pub fn not_idle(mut self) -> Head
-        ensures { result ≡ not_idle self }
-    {
-        self.idle = false;
-        self.idle_since = 0;
-        self
-    }
-
-    // The clock that entries expire by: less the allowance, or 0 where that is below 0.
-    pub fn due(self, clock: u64) -> u64
-        ensures { result ≡ due_by clock self }
-    {
-        if self.allowance <= clock {
-            clock - self.allowance
-        } else {
-            0
-        }
-    }
-
-    // One call more.
-    pub fn counted(mut self) -> Head
-        ensures { result ≡ with_used_calls (more self.calls_used) self }
-    {
-        self.calls_used = stats::more_of(self.calls_used);
-        self
-    }
-
-    pub fn count_enqueued(mut self) -> Head
-        ensures { result ≡ with_counters (with_enqueued self.stats) self }
-    {
-        let s = stats::counted_enqueued(self.stats);
-        self.stats = s;
-        self
-    }
-
-    pub fn count_dequeued(mut self, k: u64) -> Head
-        ensures { result ≡ with_counters (with_dequeued_by self.stats k) self }
-    {
-        let s = stats::counted_dequeued_by(self.stats, k);
-        self.stats = s;
-        self
-    }
-
-    pub fn count_expired(mut self, k: u64) -> Head
-        ensures { result ≡ with_counters (with_expired_by self.stats k) self }
-    {
-        let s = stats::counted_expired_by(self.stats, k);
-        self.stats = s;
-        self
-    }
-
-    pub fn count_discarded(mut self, k: u64) -> Head
-        ensures { result ≡ with_counters (with_discarded_by self.stats k) self }
-    {
-        let s = stats::counted_discarded_by(self.stats, k);
-        self.stats = s;
-        self
-    }
-
-    pub fn count_dispatched(mut self) -> Head
-        ensures { result ≡ with_counters (with_dispatched self.stats) self }
-    {
-        let s = stats::counted_dispatched(self.stats);
-        self.stats = s;
-        self
-    }
-
-    // Where the waiting rows begin.
-    pub fn first_waiting(self) -> usize
-        ensures { result ≡ first_waiting self }
-    {
-        less(self.used, self.waiting)
-    }
-
-    // Where the reserved rows begin.
-    pub fn first_reserved(self) -> usize
-        ensures { result ≡ first_reserved self }
-    {
-        less(less(self.used, self.waiting), self.reserved)
-    }
-
-    pub fn free_rows(self) -> usize
-        ensures { result ≡ rows_free self }
-    {
-        less(ROWS, self.used)
-    }
-}
-
-// a - b, and 0 where b is above a.
-pub fn less(a: usize, b: usize) -> usize
-    ensures { result ≡ a - b }
-{
-    if b <= a { a - b } else { 0 }
-}
-
-// 0 for a queue, 1 for a topic.
-fn kind_word(queue: bool) -> u64
-    ensures { result ≡ kind_word queue }
-{
-    if queue { 0 } else { 1 }
-}
-
-// What a call leaves: its refusal (0: accepted), its answer, and the numbers.
-#[derive(Clone, Copy)]
-pub struct Answer {
-    pub refusal: u64,
-    pub answer: u64,
-    pub head: Head,
-}
-
-impl Answer {
-    pub fn refused(refusal: u64, head: Head) -> Answer
-        ensures { result ≡ refused_as refusal head }
-    {
-        Answer {
-            refusal,
-            answer: 0,
-            head,
-        }
-    }
-
-    pub fn done(answer: u64, head: Head) -> Answer
-        ensures { result ≡ done_as answer head }
-    {
-        Answer {
-            refusal: 0,
-            answer,
-            head,
-        }
-    }
-}
-
-// ---- the head
-
-// The rows in use, or 513 for more than 512.
-fn used_of(base: usize, reserved: u64, waiting: u64) -> usize
-    ensures { result ≡ min 513 (base + (reserved + waiting)) }
-{
-    if ROWS < base {
-        return ROWS + 1;
-    }
-    if 512 < reserved {
-        return ROWS + 1;
-    }
-    if 512 < waiting {
-        return ROWS + 1;
-    }
-    let used = base + (reserved as usize + waiting as usize);
-    if ROWS < used {
-        return ROWS + 1;
-    }
-    used
-}
-
-// What a short head is taken for.
-fn no_head() -> Head
-    ensures { result ≡ no_head }
-{
-    let stats = Stats {
-        enqueued: 0,
-        dequeued: 0,
-        expired: 0,
-        discarded: 0,
-        dispatched: 0,
-    };
-    Head {
+    // What a short head is taken for.
+    pub const NONE: Head = Head {
         topic_limit: 0,
         call_limit: 0,
         allowance: 0,
@@ -258,7 +74,13 @@ fn no_head() -> Head
         calls_used: 0,
         turn: 0,
         idle_since: 0,
-        stats,
+        stats: Stats {
+            enqueued: 0,
+            dequeued: 0,
+            expired: 0,
+            discarded: 0,
+            dispatched: 0,
+        },
         consumers: 0,
         producers: 0,
         audits: 0,
@@ -268,7 +90,137 @@ fn no_head() -> Head
         events: 0,
         queue: true,
         idle: false,
+    };
+
+    // `touch_idle`: the mark is set where nothing is left and none is set; else it goes.
+    pub fn touch_idle(self, now: u64) -> Head
+        ensures { result ≡ touched now self }
+    {
+        if self.waiting != 0 || self.consumers != 0 || self.producers != 0 {
+            return self.not_idle();
+        }
+        if self.idle {
+            return self;
+        }
+        Head {
+            idle: true,
+            idle_since: now,
+            ..self
+        }
     }
+
+    // `idle_since = None`.
+    pub fn not_idle(self) -> Head
+        ensures { result ≡ not_idle self }
+    {
+        Head {
+            idle: false,
+            idle_since: 0,
+            ..self
+        }
+    }
+
+    // The clock that entries expire by: less the allowance, or 0 where that is below 0.
+    pub fn due(self, clock: u64) -> u64
+        ensures { result ≡ due_by clock self }
+    {
+        clock.saturating_sub(self.allowance)
+    }
+
+    // One call more.
+    pub fn counted(self) -> Head
+        ensures { result ≡ with_used_calls (more self.calls_used) self }
+    {
+        Head {
+            calls_used: stats::more_of(self.calls_used),
+            ..self
+        }
+    }
+
+    // A function for each counter, as `Stats` has a method for each.
+    pub fn count_enqueued(mut self) -> Head
+        ensures { result ≡ with_counters (with_enqueued self.stats) self }
+    {
+        self.stats.count_enqueued();
+        self
+    }
+
+    pub fn count_dequeued(mut self, k: u64) -> Head
+        ensures { result ≡ with_counters (with_dequeued_by self.stats k) self }
+    {
+        self.stats.count_dequeued_by(k);
+        self
+    }
+
+    pub fn count_expired(mut self, k: u64) -> Head
+        ensures { result ≡ with_counters (with_expired_by self.stats k) self }
+    {
+        self.stats.count_expired_by(k);
+        self
+    }
+
+    pub fn count_discarded(mut self, k: u64) -> Head
+        ensures { result ≡ with_counters (with_discarded_by self.stats k) self }
+    {
+        self.stats.count_discarded_by(k);
+        self
+    }
+
+    pub fn count_dispatched(mut self) -> Head
+        ensures { result ≡ with_counters (with_dispatched self.stats) self }
+    {
+        self.stats.count_dispatched();
+        self
+    }
+
+    // Where the waiting rows begin.
+    pub fn first_waiting(self) -> usize
+        ensures { result ≡ first_waiting self }
+    {
+        self.used.saturating_sub(self.waiting)
+    }
+
+    // Where the reserved rows begin.
+    pub fn first_reserved(self) -> usize
+        ensures { result ≡ first_reserved self }
+    {
+        self.first_waiting().saturating_sub(self.reserved)
+    }
+
+    pub fn free_rows(self) -> usize
+        ensures { result ≡ rows_free self }
+    {
+        ROWS.saturating_sub(self.used)
+    }
+}
+
+// 0 for a queue, 1 for a topic.
+fn kind_word(queue: bool) -> u64
+    ensures { result ≡ kind_word queue }
+{
+    if queue { 0 } else { 1 }
+}
+
+// What a call that is done leaves: its answer, and the numbers.
+#[derive(Clone, Copy)]
+pub struct Answered {
+    pub answer: u64,
+    pub head: Head,
+}
+
+// What a call leaves: a refused one nothing but why.
+pub type Answer = Result<Answered, Refusal>;
+
+// ---- the head
+
+// The rows in use, or 513 for more than 512.
+fn used_of(base: usize, reserved: u64, waiting: u64) -> usize
+    ensures { result ≡ min 513 (base + (reserved + waiting)) }
+{
+    let used = (base as u64)
+        .saturating_add(reserved)
+        .saturating_add(waiting);
+    used.min(ROWS as u64 + 1) as usize
 }
 
 // The numbers of a head and a table of consumers.
@@ -276,7 +228,7 @@ pub fn load(head: &[u64], subs: &[SubRow]) -> Head
     ensures { result ≡ loaded head.now subs.now }
 {
     if head.len() < HEAD_WORDS {
-        return no_head();
+        return Head::NONE;
     }
     let n = head[12] as usize;
     let base = consumers::base_of(subs, n);
@@ -316,23 +268,26 @@ pub fn store(head: &mut [u64], d: Head)
     if head.len() < HEAD_WORDS {
         return;
     }
-    head[0] = kind_word(d.queue);
-    head[1] = d.topic_limit;
-    head[2] = d.call_limit;
-    head[3] = d.calls_used;
-    head[4] = d.turn as u64;
-    head[5] = d.idle as u64;
-    head[6] = d.idle_since;
-    head[7] = d.stats.enqueued;
-    head[8] = d.stats.dequeued;
-    head[9] = d.stats.expired;
-    head[10] = d.stats.discarded;
-    head[11] = d.stats.dispatched;
-    head[12] = d.consumers as u64;
-    head[13] = d.producers as u64;
-    head[14] = d.audits as u64;
-    head[15] = d.reserved as u64;
-    head[16] = d.waiting as u64;
+    let first = [
+        kind_word(d.queue),
+        d.topic_limit,
+        d.call_limit,
+        d.calls_used,
+        d.turn as u64,
+        d.idle as u64,
+        d.idle_since,
+        d.stats.enqueued,
+        d.stats.dequeued,
+        d.stats.expired,
+        d.stats.discarded,
+        d.stats.dispatched,
+        d.consumers as u64,
+        d.producers as u64,
+        d.audits as u64,
+        d.reserved as u64,
+        d.waiting as u64,
+    ];
+    head[..17].copy_from_slice(&first);
     head[ALLOWANCE] = d.allowance;
     head[SHARE] = d.share;
 }
@@ -359,7 +314,7 @@ pub fn push_letter(events: &mut [Event], d: Head, seq: u64, redelivery: i32, cau
     push(events, d, [LETTER, seq, r, cause as u64, 0, 0])
 }
 
-// A message for the consumer whose identifier has these words.
+// A message for the consumer whose identifier has these words: three parameters, as a row and an event hold three words.
 pub fn push_message(
     events: &mut [Event],
     d: Head,
@@ -388,57 +343,31 @@ pub fn push_null(events: &mut [Event], d: Head, conn: u64, session: u64, value: 
 fn tables_fit(subs: usize, rows: usize, events: usize) -> bool
     ensures { result ≡ tables_fit subs rows events }
 {
-    if subs < CONSUMERS {
-        return false;
-    }
-    if rows < ROWS {
-        return false;
-    }
-    EVENTS <= events
+    CONSUMERS <= subs && ROWS <= rows && EVENTS <= events
 }
 
 // The counts are within the tables.
 fn numbers_fit(d: Head) -> bool
     ensures { result ≡ numbers_fit d }
 {
-    if CONSUMERS < d.consumers {
-        return false;
-    }
-    if CONSUMERS < d.turn {
-        return false;
-    }
-    if ROWS < d.reserved {
-        return false;
-    }
-    if ROWS < d.waiting {
-        return false;
-    }
-    if ROWS < d.used {
-        return false;
-    }
-    if ROWS - d.used < d.events {
-        return false;
-    }
-    d.calls_used <= COUNTER_MOST
+    d.consumers <= CONSUMERS
+        && d.turn <= CONSUMERS
+        && d.reserved <= ROWS
+        && d.waiting <= ROWS
+        && d.used <= ROWS
+        && d.events <= ROWS - d.used
+        && d.calls_used <= COUNTER_MOST
 }
 
 // The counters can rise.
 fn counters_fit(s: Stats) -> bool
     ensures { result ≡ counters_fit s }
 {
-    if COUNTER_MOST < s.enqueued {
-        return false;
-    }
-    if COUNTER_MOST < s.dequeued {
-        return false;
-    }
-    if COUNTER_MOST < s.expired {
-        return false;
-    }
-    if COUNTER_MOST < s.discarded {
-        return false;
-    }
-    s.dispatched <= COUNTER_MOST
+    s.enqueued <= COUNTER_MOST
+        && s.dequeued <= COUNTER_MOST
+        && s.expired <= COUNTER_MOST
+        && s.discarded <= COUNTER_MOST
+        && s.dispatched <= COUNTER_MOST
 }
 
 // Whether the numbers fit the tables and the event list.

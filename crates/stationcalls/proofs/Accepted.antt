@@ -1,5 +1,5 @@
 -- A call of an open destination, its dead letters, and what it leaves of the station. Assumes nothing.
-use mathlib.Core.Path.{◌≡◌, refl, sym, ap, ◌∙◌, subst, subst⁻¹}
+use mathlib.Core.Path.{◌≡◌, refl, sym, ap, ◌∙◌, subst⁻¹}
 use mathlib.Core.Bool.{Bool, true, false, not, ◌||◌}
 use mathlib.Core.List.{List, [], ◌++◌, map, map-append, append-nil}
 use mathlib.Core.Option.{Option}

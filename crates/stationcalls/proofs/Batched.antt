@@ -34,6 +34,19 @@ use Rattle.stationcalls.specs.Queried.{station_checked}
 use Rattle.stationcalls.proofs.Queried.{checked-unsound, checked-sound, checked-long}
 use Rattle.stationcalls.proofs.Shape.{left-above}
 use Rattle.stationcalls.proofs.Onward.{used_by, Onward, onward-same, onward-on, step-onward, step-more}
+use Rattle.std.specs.Prelude.{Result as Given, Ok, Err, is_err}
+use Rattle.model.specs.declared.Refusal.{Refusal}
+use Rattle.state.specs.Answers.{refusal_of}
+use Rattle.state.proofs.Told.{numbered}
+
+-- a test that is refused has a number above 0, and one that is not has 0
+pub err-number : {T : Type 0} → (r : Given T Refusal) → is_err r ≡ true → refusal_of r ≡ 0 → ⊥
+err-number (Ok x) e z = absurd (true≢false (sym e))
+err-number (Err f) e z = absurd (omega (arith, z, numbered f))
+
+pub ok-number : {T : Type 0} → (r : Given T Refusal) → is_err r ≡ false → refusal_of r ≡ 0
+ok-number (Ok x) e = refl
+ok-number (Err f) e = absurd (true≢false e)
 
 -- ---- the definition, a call at a time
 

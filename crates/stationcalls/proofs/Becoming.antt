@@ -1,18 +1,16 @@
 -- What became of dead letters: the rows that the code tells are those of the definition. Assumes nothing.
-use mathlib.Core.Path.{◌≡◌, refl, sym, ap, ap₂, ◌∙◌, subst}
-use mathlib.Core.Bool.{true, false}
+use mathlib.Core.Path.{◌≡◌, refl, sym, ap, ap₂, ◌∙◌}
 use mathlib.Core.List.{List, [], ◌∷◌, ◌++◌, map}
-use Prim.Native.Nat.{ℕ, zero, suc, ◌+◌, ◌≤◌, ◌<◌, min}
+use Prim.Native.Nat.{ℕ, zero, suc, ◌≤◌, ◌<◌, min}
 use native.Mathlib.Nat.{zero-add}
 use native.Mathlib.Omega.{arith}
 use borrow.Author.Tests.{leb-true, leb-false}
 use lib.Dec.{leb}
 use lib.ListN.{length, take, drop, get_or, length-map, length-take, get_or-map, drop_of_length-le}
-use lib.Seq.{paste, take_all, take_at, get_or-take, length-take-le}
+use lib.Seq.{paste, take_all, get_or-take, length-take-le}
 use Rattle.entry.specs.Entry.{entry_of}
-use Rattle.definition.specs.Types.{Entry}
 use Rattle.definition.specs.Calls.{seqs}
-use Rattle.definition.specs.Words.{at, entry_in}
+use Rattle.definition.specs.Words.{at}
 use Rattle.definition.specs.Layout.{Row}
 use Rattle.definition.proofs.Tests.{by-test}
 use Rattle.definition_stationfates.specs.Told.{told_row, tell_each}

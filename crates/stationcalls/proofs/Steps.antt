@@ -9,7 +9,7 @@ use lib.Dec.{eqb, leb}
 use lib.ListN.{length, drop, set}
 use Rattle.definition.specs.Base.{whether◌then◌else◌, all, up_from}
 use Rattle.definition.specs.Types.{Entry, Dest}
-use Rattle.definition.specs.Calls.{Call, enqueuing, arguments_ok}
+use Rattle.definition.specs.Calls.{enqueuing, arguments_ok}
 use Rattle.definition.specs.Words.{at, entry_in, provided, ranged_call, read, decode}
 use Rattle.definition.specs.Layout.{Row, view, buffer_step}
 use Rattle.definition.proofs.Tests.{by-test, if-true, if-false, and_left, and_right}

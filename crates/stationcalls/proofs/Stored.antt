@@ -3,13 +3,13 @@ use mathlib.Core.Path.{◌≡◌, refl, ap, ◌∙◌}
 use mathlib.Core.Bool.{Bool, true, false, not, ◌&&◌}
 use mathlib.Core.List.{List, [], ◌∷◌}
 use mathlib.Core.Option.{none, some}
-use Prim.Native.Nat.{ℕ, zero, suc, ◌-◌, ◌≤◌, ◌<◌}
+use Prim.Native.Nat.{ℕ, zero, suc, ◌≤◌, ◌<◌}
 use borrow.Author.Tests.{ne_eqb}
 use lib.Dec.{eqb}
 use lib.ListN.{length}
 use Rattle.definition.specs.Types.{Entry, Dest}
 use Rattle.definition.specs.Calls.{Lengths, short, Result, enqueuing, call, sound}
-use Rattle.definition.specs.Words.{at, entry_in, read, decode, call_step, step}
+use Rattle.definition.specs.Words.{entry_in, read, decode, call_step, step}
 use Rattle.definition.specs.Layout.{Row, Buffers, view, formed, sound_buffers, lengths_of, buffer_step}
 use Rattle.definition.proofs.Tests.{and_left, if-true, if-false}
 use Rattle.calls.proofs.Decoded.{decoded}

@@ -1,14 +1,13 @@
 -- What a call tells of its dead letters. Assumes nothing.
 use mathlib.Core.Path.{◌≡◌, refl, sym, ap, ◌∙◌, subst⁻¹}
 use mathlib.Core.Bool.{Bool, true, false, not, ◌||◌}
-use mathlib.Core.List.{List, [], ◌∷◌, ◌++◌, map}
+use mathlib.Core.List.{List, [], ◌∷◌, map}
 use mathlib.Core.Option.{Option, none, some}
 use Prim.Native.Nat.{ℕ, ◌≤◌, ◌<◌}
 use native.Mathlib.Omega.{arith}
 use borrow.Author.Tests.{eq-eqb, ne_eqb, eqb-true, eqb-false, ltb-true, ltb-false, not-true, not-false}
 use lib.Dec.{eqb, ltb}
-use lib.ListN.{length, take, drop}
-use Rattle.definition.specs.Base.{whether◌then◌else◌}
+use lib.ListN.{length}
 use Rattle.definition.specs.Types.{Dest}
 use Rattle.definition.specs.Words.{at, decode}
 use Rattle.definition.specs.Layout.{Row, flag}
@@ -18,7 +17,7 @@ use Rattle.rejects.proofs.Words.{none-rejected}
 use Rattle.definition_station.specs.Types.{StationSlot, Station, slot_of}
 use Rattle.definition_station.specs.Letters.{rejected}
 use Rattle.definition_station.specs.Station.{station_short, StationResult, carried}
-use Rattle.definition_stationfates.specs.Told.{told_row, told_at, told_letters}
+use Rattle.definition_stationfates.specs.Told.{told_row, told_at}
 use Rattle.engine.specs.declared.Outcome.{Outcome}
 use Rattle.engine.specs.Called.{outcome}
 use Rattle.definition_station.specs.Layout.{StationBuffers, is_open, station_lengths_of, buffer_station_step}

@@ -1,22 +1,20 @@
 -- Where letters are stored, a turn at a time. Assumes nothing.
-use mathlib.Core.Path.{◌≡◌, refl, sym, ap, ◌∙◌, subst⁻¹}
+use mathlib.Core.Path.{◌≡◌, refl, sym, ap, ◌∙◌}
 use mathlib.Core.Bool.{true, false}
 use mathlib.Core.List.{List, [], ◌∷◌, ◌++◌, map}
 use mathlib.Core.Option.{none, some}
 use Prim.Native.Nat.{ℕ, zero, suc, ◌+◌, ◌-◌, ◌≤◌, ◌<◌}
-use native.Mathlib.Nat.{add-zero}
 use native.Mathlib.Numerals.{add-one}
 use native.Mathlib.Omega.{arith}
 use borrow.Author.Tests.{ne_eqb}
 use lib.Dec.{eqb}
 use lib.ListN.{length, take, drop, get_or, set, length-map}
-use lib.Seq.{slice, slice-cons, slice_empty, drop-cons, get_or-drop, length-take-le}
+use lib.Seq.{slice, slice-cons, slice_empty, drop-cons, length-take-le}
 use Rattle.definition.specs.Types.{Entry}
 use Rattle.definition.specs.Calls.{enqueuing, call}
 use Rattle.definition.specs.Words.{entry_in}
 use Rattle.definition.specs.Layout.{Row, view}
 use Rattle.definition.proofs.Tests.{if-true, if-false}
-use Rattle.engine.specs.declared.Outcome.{Outcome}
 use Rattle.definition_station.specs.Types.{StationSlot, Station, slot_of}
 use Rattle.definition_station.specs.Letters.{whole, storing}
 use Rattle.definition_stationfates.specs.Told.{place_stored, letter_place, letter_places}

@@ -14,7 +14,7 @@ use consumers::SubRow;
 use engine::{Done, Outcome};
 use entry::Row;
 
-// A call in nine words, without its destination's number: its code, and the eight after it.
+// A call in nine words, without its destination's number: its code, and the eight after it. Not a From: a destination reads nine words otherwise.
 fn call_of(w: [u64; 9]) -> Call
     ensures { result ≡ new_call (listed_code w) (eight_words w) }
 {
@@ -52,9 +52,8 @@ fn run_each(
     requires { (station_short (station_lengths_of (lent_all heads.old subs.old rows.old own.old) station_events) ≡ false) × (sound_station (lent_all heads.old subs.old rows.old own.old) ≡ true) }
     ensures { StationBatched (station_batch (station_lengths_of (lent_all heads.old subs.old rows.old own.old) (length events.old)) (length outcomes.old) words.now (station_view (lent_all heads.old subs.old rows.old own.old)) own.old) words.now (lent_all heads.old subs.old rows.old own.old) (lent_all heads.new subs.new rows.new own.new) events.old events.new outcomes.old outcomes.new result }
 {
-    let mut i = 0;
     let mut from = 0;
-    while i < words.len() {
+    for i in 0..words.len() {
         if outcomes.len() <= i {
             return Done {
                 calls: i,
@@ -72,10 +71,9 @@ fn run_each(
         let r = go_from(heads, subs, rows, own, events, from, w[0] / 256, c);
         outcomes[i] = [r.refusal, r.answer, r.events as u64];
         from += r.events;
-        i += 1;
     }
     Done {
-        calls: i,
+        calls: words.len(),
         events: from,
     }
 }
@@ -95,7 +93,7 @@ pub fn calls(
 ) -> Done
     ensures { StationBatched (buffer_station_batch (lent_all heads.old subs.old rows.old own.old) (length events.old) (length outcomes.old) words.now) words.now (lent_all heads.old subs.old rows.old own.old) (lent_all heads.new subs.new rows.new own.new) events.old events.new outcomes.old outcomes.new result }
 {
-    if crate::checked(heads, subs, rows, own) != 0 {
+    if crate::checked(heads, subs, rows, own).is_err() {
         return Done {
             calls: 0,
             events: 0,

@@ -34,7 +34,7 @@ pub type Told = [u64; 3];
 // A letter makes at most so many hops.
 const HOPS: usize = 8;
 
-// No destination: a letter that is lost is stored nowhere.
+// No destination: a letter that is lost is stored nowhere. A number, since a row of `Told` holds it for C.
 const NOWHERE: u64 = 8;
 
 // What running dead letters leaves: how many events there are now, the lost count, and where the last letter is stored.
@@ -67,10 +67,8 @@ pub(crate) fn tell(events: &mut [Sent], at: usize, called: &[Event], n: usize, k
     ensures value { result ≡ at + n }
     ensures events_after { events.new ≡ paste events.old at (map (named k) called.now) n }
 {
-    let mut i = 0;
-    while i < n {
+    for i in 0..n {
         events[at + i] = named(called[i], k);
-        i += 1;
     }
     at + n
 }
@@ -80,10 +78,8 @@ pub(crate) fn name_all(events: &mut [Sent], n: usize, k: u64)
     requires { (n ≤ length events.old) × (k < 8) }
     ensures { events.new ≡ paste events.old 0 (map (named k) events.old) n }
 {
-    let mut i = 0;
-    while i < n {
+    for i in 0..n {
         events[i] = named(events[i], k);
-        i += 1;
     }
 }
 
@@ -192,12 +188,10 @@ fn run(
     ensures place_value { result.place ≡ last_of before.place (places_on hops clock name (take n letters.now) (shown_with (lent_all heads.old subs.old rows.old own.now) before.lost)) }
 {
     let mut ran = before;
-    let mut i = 0;
-    while i < n {
+    for i in 0..n {
         ran = store(
             heads, subs, rows, events, scratch, own, ran, letters[i], clock, name, hops,
         );
-        i += 1;
     }
     ran
 }
@@ -222,13 +216,11 @@ fn run_each(
     ensures places_after { places.new ≡ places_on 8 clock name (take n letters.now) (shown_with (lent_all heads.old subs.old rows.old own.now) before.lost) ++ drop n places.old }
 {
     let mut ran = before;
-    let mut i = 0;
-    while i < n {
+    for i in 0..n {
         ran = store(
             heads, subs, rows, events, scratch, own, ran, letters[i], clock, name, HOPS,
         );
         places[i] = ran.place;
-        i += 1;
     }
     ran
 }
@@ -251,16 +243,13 @@ fn number(dead: &[Row], n: usize, letters: &mut [Letter], first: u64, before: u6
     let mut many = 0;
     let mut next = first;
     let mut lost = before;
-    let mut i = 0;
-    while i < n {
+    for i in 0..n {
         if next < own::NUMBERS_END {
             letters[many] = letter_of(dead[i], next);
             many += 1;
             next += 1;
-            i += 1;
         } else {
             lost = own::one_more(lost);
-            i += 1;
         }
     }
     Given { many, next, lost }
@@ -290,11 +279,9 @@ fn tell_letters(
     requires { (n ≤ length dead.now) × (many ≤ length letters.now) × (many ≤ length places.now) }
     ensures { told.new ≡ told_over (rows_told (take n dead.now) (numbers_got many letters.now) (take many places.now)) told.old }
 {
-    let end = consumers::end_of(n, told.len());
-    let mut i = 0;
-    while i < end {
+    let end = n.min(told.len());
+    for i in 0..end {
         told[i] = told_at(dead, letters, many, places, i);
-        i += 1;
     }
 }
 

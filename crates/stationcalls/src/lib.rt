@@ -19,6 +19,7 @@ ghost use Rattle.definition.specs.Types.{Dest};
 ghost use Rattle.calls.specs.Calls.{new_call};
 ghost use Rattle.stationcalls.specs.Tells.{told_rows, told_quiet, StationTells};
 ghost use Rattle.stationcalls.specs.Step.{AskedAt, Unstopped, carried_words, stops_as, barred_as};
+ghost use Rattle.state.specs.Answers.{refusal_of};
 ghost use Rattle.stationcalls.specs.Queried.{station_checked, buffer_numbers};
 
 mod batch;
@@ -32,6 +33,7 @@ use consumers::SubRow;
 use engine::Outcome;
 use entry::Row;
 pub use letters::{Sent, Told};
+use model::Refusal;
 pub use own::OWN;
 
 // The most destinations.
@@ -87,12 +89,10 @@ fn others_sound(heads: &[u64], subs: &[SubRow], rows: &[Row], own: &[u64], but: 
     requires { Within 0 heads.now subs.now rows.now × (20 ≤ length own.now) }
     ensures { result ≡ all (other_ok (lent_all heads.now subs.now rows.now own.now) but) (up_from 0 8) }
 {
-    let mut k = 0;
-    while k < 8 {
+    for k in 0..8 {
         if !other_ok(heads, subs, rows, own, but, k) {
             return false;
         }
-        k += 1;
     }
     true
 }
@@ -120,12 +120,12 @@ pub fn is_sound(heads: &[u64], subs: &[SubRow], rows: &[Row], own: &[u64], event
 
 // ---- start
 
-// Starts a station: none is open, the first number is 1, none is lost. Its refusal (0: accepted).
+// Starts a station: none is open, the first number is 1, none is lost. Its refusal's number (0: accepted), as C gets it.
 pub fn start(heads: &[u64], subs: &[SubRow], rows: &[Row], own: &mut [u64], events: &[Sent]) -> u64
     ensures { StationStarted (station_start (station_lengths_of (lent_all heads.now subs.now rows.now own.old) (length events.now)) (station_view (lent_all heads.now subs.now rows.now own.old))) (lent_all heads.now subs.now rows.now own.old) (lent_all heads.now subs.now rows.now own.new) events.now events.now result }
 {
     if !whole(heads, subs, rows, own, events) {
-        return 1;
+        return u64::from(Refusal::Short);
     }
     own::start(own);
     0
@@ -158,7 +158,7 @@ fn open(
     let w = c.words;
     let name = w[6];
     if PLACES < name {
-        return Outcome::refused(3);
+        return Outcome::refused(Refusal::Arguments);
     }
     let given = opening(c);
     let r = named_call(heads, subs, rows, events, k, given);
@@ -253,7 +253,7 @@ fn enqueue(
     r
 }
 
-// The refusal (0: accepted), the answer, how many events were written, and how many dead letters there are.
+// The refusal (0: accepted), the answer, how many events were written, and how many dead letters there are: C's struct (include/station.h).
 #[repr(C)]
 #[derive(Clone, Copy)]
 pub struct ToldOutcome {
@@ -379,14 +379,14 @@ fn go(
     ensures { StationCalled (buffer_station_step (lent_all heads.old subs.old rows.old own.old) (length events.old) number c.code c.words) number c.code c.words (lent_all heads.old subs.old rows.old own.old) (lent_all heads.new subs.new rows.new own.new) events.old events.new result.refusal result.answer result.events }
 {
     if 7 < number {
-        return Outcome::refused(10);
+        return Outcome::refused(Refusal::NotOpen);
     }
     let k = number as usize;
     if c.code == Call::OPEN {
         return open(heads, subs, rows, own, events, k, c);
     }
     if !own::is_open(own, k) {
-        return Outcome::refused(10);
+        return Outcome::refused(Refusal::NotOpen);
     }
     step(heads, subs, rows, own, events, k, c)
 }
@@ -405,10 +405,10 @@ pub fn call(
     ensures { StationCalled (buffer_station_step (lent_all heads.old subs.old rows.old own.old) (length events.old) number c.code c.words) number c.code c.words (lent_all heads.old subs.old rows.old own.old) (lent_all heads.new subs.new rows.new own.new) events.old events.new result.refusal result.answer result.events }
 {
     if !whole(heads, subs, rows, own, events) {
-        return Outcome::refused(1);
+        return Outcome::refused(Refusal::Short);
     }
     if stopped(heads, subs, rows, own, number, c.code) {
-        return Outcome::refused(2);
+        return Outcome::refused(Refusal::NotSound);
     }
     go(heads, subs, rows, own, events, number, c)
 }
@@ -429,14 +429,14 @@ pub fn call_told(
     ensures station_tells { StationTells (buffer_station_step (lent_all heads.old subs.old rows.old own.old) (length events.old) number c.code c.words) (told_rows number c.code c.words (station_view (lent_all heads.old subs.old rows.old own.old))) told.old told.new result.letters }
 {
     if !whole(heads, subs, rows, own, events) {
-        return ToldOutcome::quiet(Outcome::refused(1));
+        return ToldOutcome::quiet(Outcome::refused(Refusal::Short));
     }
     if stopped(heads, subs, rows, own, number, c.code) {
-        return ToldOutcome::quiet(Outcome::refused(2));
+        return ToldOutcome::quiet(Outcome::refused(Refusal::NotSound));
     }
     if rejects::rejects(c) {
         if absent(own, number) {
-            return ToldOutcome::quiet(Outcome::refused(10));
+            return ToldOutcome::quiet(Outcome::refused(Refusal::NotOpen));
         }
         return reject(heads, subs, rows, own, events, number as usize, c, told);
     }
@@ -446,7 +446,7 @@ pub fn call_told(
 
 // ---- the two calls without a code
 
-// Why such a call is refused before its destination is asked (0: it is not).
+// Whether such a call is refused before its destination is asked.
 fn barred(
     heads: &[u64],
     subs: &[SubRow],
@@ -454,22 +454,22 @@ fn barred(
     own: &[u64],
     events: &[Sent],
     number: u64,
-) -> u64
-    ensures { result ≡ barred_as (lent_all heads.now subs.now rows.now own.now) (length events.now) number }
+) -> Result<(), Refusal>
+    ensures { refusal_of result ≡ barred_as (lent_all heads.now subs.now rows.now own.now) (length events.now) number }
 {
     if !whole(heads, subs, rows, own, events) {
-        return 1;
+        return Err(Refusal::Short);
     }
     if absent(own, number) {
-        return 10;
+        return Err(Refusal::NotOpen);
     }
     if !own::ok(own) {
-        return 2;
+        return Err(Refusal::NotSound);
     }
     if !others_sound(heads, subs, rows, own, number as usize) {
-        return 2;
+        return Err(Refusal::NotSound);
     }
-    0
+    Ok(())
 }
 
 // `Dest::add_discarded` of the destination with that number.
@@ -483,11 +483,10 @@ pub fn add_discarded(
 ) -> Outcome
     ensures { StationCalled (buffer_station_uncoded (lent_all heads.old subs.old rows.old own.now) (length events.old) number discarding) number 1 [] (lent_all heads.old subs.old rows.old own.now) (lent_all heads.new subs.new rows.new own.now) events.old events.new result.refusal result.answer result.events }
 {
-    let refusal = barred(heads, subs, rows, own, events, number);
-    if refusal != 0 {
-        return Outcome::refused(refusal);
+    match barred(heads, subs, rows, own, events, number) {
+        Ok(()) => places::add_discarded(heads, subs, rows, events, number as usize),
+        Err(refusal) => Outcome::refused(refusal),
     }
-    places::add_discarded(heads, subs, rows, events, number as usize)
 }
 
 // `Dest::expired_before_storing`.
@@ -501,16 +500,15 @@ pub fn expired_before_storing(
 ) -> Outcome
     ensures { StationCalled (buffer_station_uncoded (lent_all heads.old subs.old rows.old own.now) (length events.old) number missing) number 1 [] (lent_all heads.old subs.old rows.old own.now) (lent_all heads.new subs.new rows.new own.now) events.old events.new result.refusal result.answer result.events }
 {
-    let refusal = barred(heads, subs, rows, own, events, number);
-    if refusal != 0 {
-        return Outcome::refused(refusal);
+    match barred(heads, subs, rows, own, events, number) {
+        Ok(()) => places::expired_before_storing(heads, subs, rows, events, number as usize),
+        Err(refusal) => Outcome::refused(refusal),
     }
-    places::expired_before_storing(heads, subs, rows, events, number as usize)
 }
 
 // ---- the query of the station's own numbers
 
-// The refusal (0: answered), the next number and the lost count, 0 beside a refusal.
+// The refusal (0: answered), the next number and the lost count, 0 beside a refusal: C's struct (include/station.h).
 #[repr(C)]
 #[derive(Clone, Copy)]
 pub struct OwnNumbers {
@@ -526,34 +524,33 @@ fn state_whole(heads: &[u64], subs: &[SubRow], rows: &[Row], own: &[u64]) -> boo
     !((heads.len() < HEADS) | ((subs.len() < SUBS) | ((rows.len() < ROWS) | (own.len() < OWN))))
 }
 
-// What a query of a station meets first: 1 where a state buffer is short, 2 where the station is not sound, else 0.
-pub fn checked(heads: &[u64], subs: &[SubRow], rows: &[Row], own: &[u64]) -> u64
-    ensures { result ≡ station_checked (lent_all heads.now subs.now rows.now own.now) }
+// What a query of a station meets first: a state buffer that is short, or a station that is not sound.
+pub fn checked(heads: &[u64], subs: &[SubRow], rows: &[Row], own: &[u64]) -> Result<(), Refusal>
+    ensures { refusal_of result ≡ station_checked (lent_all heads.now subs.now rows.now own.now) }
 {
     if !state_whole(heads, subs, rows, own) {
-        return 1;
+        return Err(Refusal::Short);
     }
     if !all_sound(heads, subs, rows, own) {
-        return 2;
+        return Err(Refusal::NotSound);
     }
-    0
+    Ok(())
 }
 
 // The next number and the lost count.
 pub fn numbers(heads: &[u64], subs: &[SubRow], rows: &[Row], own: &[u64]) -> OwnNumbers
     ensures { result ≡ buffer_numbers (lent_all heads.now subs.now rows.now own.now) }
 {
-    let refusal = checked(heads, subs, rows, own);
-    if refusal != 0 {
-        return OwnNumbers {
-            refusal,
+    match checked(heads, subs, rows, own) {
+        Err(refusal) => OwnNumbers {
+            refusal: u64::from(refusal),
             next: 0,
             lost: 0,
-        };
-    }
-    OwnNumbers {
-        refusal: 0,
-        next: own::next(own),
-        lost: own::lost(own),
+        },
+        Ok(()) => OwnNumbers {
+            refusal: 0,
+            next: own::next(own),
+            lost: own::lost(own),
+        },
     }
 }

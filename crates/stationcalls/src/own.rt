@@ -101,12 +101,10 @@ pub(crate) fn ok(own: &[u64]) -> bool
     requires { 20 ≤ length own.now }
     ensures { result ≡ own_words_ok own.now }
 {
-    let mut k = 0;
-    while k < 8 {
+    for k in 0..8 {
         if !place_ok(own, k) {
             return false;
         }
-        k += 1;
     }
     let next = own[NEXT];
     if next < 1 {
@@ -123,10 +121,8 @@ pub(crate) fn start(own: &mut [u64])
     requires { 20 ≤ length own.old }
     ensures { own.new ≡ replicate 16 0 ++ (1 ∷ 0 ∷ drop 18 own.old) }
 {
-    let mut k = 0;
-    while k < 16 {
+    for k in 0..16 {
         own[k] = 0;
-        k += 1;
     }
     own[NEXT] = 1;
     own[LOST] = 0;

@@ -1,26 +1,18 @@
 -- Lines with a number behind their letter: how long they are, and what their six words say. Assumes nothing.
-use Prim.Native.Nat.{ℕ, ◌+◌, ◌*◌, ◌≤◌, ◌<◌, ◌/◌, ◌%◌}
-use native.Mathlib.Numerals.{add-one}
+use Prim.Native.Nat.{ℕ, ◌+◌, ◌≤◌, ◌<◌, ◌/◌, ◌%◌}
 use native.Mathlib.Omega.{arith}
-use mathlib.Core.Path.{◌≡◌, refl, sym, ap, ◌∙◌, subst}
+use mathlib.Core.Path.{◌≡◌, refl, sym, ap, ◌∙◌}
 use mathlib.Core.Bool.{true, false}
-use mathlib.Core.List.{List, [], ◌∷◌, ◌++◌, map, append_assoc, append-nil}
-use mathlib.Core.Option.{Option, none, some}
-use mir.Val.{bool_byte}
-use borrow.Author.Tests.{eq-eqb, ne_eqb, lt-ltb, le-ltb}
-use lib.Dec.{eqb, ltb}
-use lib.ListN.{length, take, drop, get_or, length-append, length-take}
-use lib.Seq.{take-suc}
+use mathlib.Core.List.{List, [], ◌∷◌}
+use borrow.Author.Tests.{ne_eqb, lt-ltb, le-ltb}
+use lib.ListN.{length}
 use Rattle.words.specs.Words.{signed}
-use Rattle.definition.specs.Types.{Event, letter, message, null}
 use Rattle.definition.specs.Words.{at}
-use Rattle.definition.specs.Layout.{Row, event_words}
-use Rattle.definition.proofs.Tests.{by-test, if-true, if-false}
 use Rattle.callfile.specs.Lines.{field, signed_field, word_field, event_line, letter_at, message_at, null_at, event_at, event_line_of, words_line}
 use Rattle.callfile.specs.Placed.{Puts, PutLine}
 use Rattle.callfile.proofs.Digits.{decimal-one, word-length, signed-length}
-use Rattle.callfile.proofs.Parts.{then, line-puts, none-put}
-use Rattle.stationlines.specs.StationLines.{numbered_line, plain_words, sent_words_line, sent_rows_text}
+use Rattle.callfile.proofs.Parts.{line-puts}
+use Rattle.stationlines.specs.StationLines.{numbered_line, plain_words, sent_words_line}
 
 -- ---- parts
 

@@ -9,7 +9,7 @@ use mir.Val.{bool_byte}
 use borrow.Author.Tests.{ltb-true}
 use lib.Dec.{ltb}
 use lib.ListN.{length, take, get_or, length-append, length-take}
-use lib.Seq.{take-suc, take_all}
+use lib.Seq.{take-suc}
 use Rattle.definition.specs.Types.{Event, letter, message, null}
 use Rattle.definition.specs.Words.{at}
 use Rattle.definition.specs.Layout.{Row}
@@ -76,6 +76,3 @@ module _ (line : List ℕ → List ℕ) where
       one_more fits {r} {out'} p =
           subst (λ (t : List ℕ). Puts t from out₀ r out') (sym (ap (λ (k : ℕ). row_lines line (take k rows)) (add-one i) ∙ ap (row_lines line) (take-suc rows i [] fits) ∙ rows_last (take i rows) (get_or rows i [])))
           (then s p)
-
-      pub all_there : i ≤ n → length rows ≤ i → Puts (row_lines line (take n rows)) from out₀ at out
-      all_there h k = subst (λ (rs : List (List ℕ)). Puts (row_lines line rs) from out₀ at out) (take_all i rows k ∙ sym (take_all n rows (omega arith))) s

@@ -15,6 +15,8 @@ const FIRST_END: u64 = 2048;
 
 // ---- parts
 
+// Where there is room, as callers here have tested. Each crate of lines has its own: a public one would have to promise something without room.
+
 fn put_letter(out: &mut [u8], at: usize, b: u8) -> usize
     requires { at + 1 ≤ length out.old }
     ensures { Puts (b ∷ []) at out.old result out.new }
@@ -103,8 +105,7 @@ pub fn put_sent(out: &mut [u8], at: usize, e: [u64; 6]) -> usize
         return at;
     }
     let d = first / 256;
-    let kind = first % 256;
-    match kind {
+    match first % 256 {
         1 => letter_line(out, at, d, e),
         2 => message_line(out, at, d, e),
         3 => null_line(out, at, d, e),
@@ -118,24 +119,16 @@ pub fn put_sent(out: &mut [u8], at: usize, e: [u64; 6]) -> usize
 pub fn rows_fit(len: usize, at: usize, n: usize) -> bool
     ensures { result ≡ leb (at + (128 + 128 * n)) len }
 {
-    if len < callfile::LINE {
-        return false;
-    }
-    callfile::lines_fit(len - callfile::LINE, at, n)
+    callfile::LINE <= len && callfile::lines_fit(len - callfile::LINE, at, n)
 }
 
-fn each_sent(out: &mut [u8], from: usize, events: &[[u64; 6]], n: usize) -> usize
-    requires { from + (128 + 128 * n) ≤ length out.old }
-    ensures { Puts (sent_rows_text (take n events.now)) from out.old result out.new × (result ≤ from + (128 + 128 * n)) }
+fn each_sent(out: &mut [u8], from: usize, events: &[[u64; 6]]) -> usize
+    requires { from + (128 + 128 * length events.now) ≤ length out.old }
+    ensures { Puts (sent_rows_text events.now) from out.old result out.new × (result ≤ from + (128 + 128 * length events.now)) }
 {
     let mut at = from;
-    let mut i = 0;
-    while i < n {
-        if events.len() <= i {
-            return at;
-        }
-        at = put_sent(out, at, events[i]);
-        i += 1;
+    for e in events {
+        at = put_sent(out, at, *e);
     }
     at
 }
@@ -147,7 +140,7 @@ pub fn put_all_sent(out: &mut [u8], from: usize, events: &[[u64; 6]], n: usize) 
     if !rows_fit(out.len(), from, n) {
         return from;
     }
-    each_sent(out, from, events, n)
+    each_sent(out, from, &events[..n.min(events.len())])
 }
 
 // ---- the last lines

@@ -3,13 +3,15 @@ use Prim.Native.Nat.{ℕ, zero, suc, ◌+◌, ◌*◌, ◌-◌, ◌≤◌}
 use native.Mathlib.Nat.{add-zero, zero-add}
 use native.Mathlib.Numerals.{add-one}
 use native.Mathlib.Omega.{arith}
-use mathlib.Core.Path.{◌≡◌, sym, ap, ap₂, ◌∙◌, subst, subst⁻¹}
-use mathlib.Core.Bool.{Bool, true, false, not, ◌&&◌}
-use mathlib.Core.List.{List, [], ◌++◌, map, append_assoc, append-nil}
+use mathlib.Core.Path.{◌≡◌, refl, sym, ap, ap₂, ◌∙◌, subst, subst⁻¹}
+use mathlib.Core.Bool.{Bool, true, false, not, ◌&&◌, ◌||◌}
+use mathlib.Core.List.{List, [], ◌∷◌, ◌++◌, map, append_assoc, append-nil}
 use mathlib.Core.Option.{Option, none}
 use borrow.Author.Tests.{eq-eqb, ne_eqb}
 use lib.Dec.{eqb}
 use lib.ListN.{length, get_or, take, drop}
+use Rattle.std.specs.List.{list_any}
+use Rattle.words.proofs.Tests.{eqb_comm}
 use Rattle.definition.specs.Base.{member}
 use Rattle.definition.specs.Types.{Stats}
 use Rattle.definition.specs.Words as Words
@@ -55,6 +57,12 @@ module _ (line : ℕ → List ℕ) where
     next_place i {at} {r} {out} {out'} p q =
         subst (λ (t : List ℕ). Puts t from out₀ r out') (sym (ap (places_text line 0) (add-one i) ∙ places-last 0 i ∙ ap (λ (m : ℕ). places_text line 0 i ++ line m) (zero-add i)))
         (then p q)
+
+-- ---- a number among those of a list
+
+pub any-member : {A : Type 0} (f : A → ℕ) (k : ℕ) (xs : List A) → list_any (λ x. eqb (f x) k) xs ≡ member k (map f xs)
+any-member f k [] = refl
+any-member f k (x ∷ xs) = ap₂ ◌||◌ (eqb_comm (f x) k) (any-member f k xs)
 
 -- ---- another queue
 

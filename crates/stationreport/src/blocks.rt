@@ -53,13 +53,11 @@ pub(crate) fn hold_all(
     requires { Within 0 heads.now subs.now rows.now × (20 ≤ length own.now) × (length lists.old ≡ 4096) × (length counts.old ≡ 8) }
     ensures { HeldAll (lent_all heads.now subs.now rows.now own.now) lists.new counts.new }
 {
-    let mut j = 0;
-    while j < 8 {
+    for j in 0..8 {
         let a = j * 512;
         let b = a + 512;
         let n = held_at(heads, subs, rows, own, j, &mut lists[a..b]);
         counts[j] = n as u64;
-        j += 1;
     }
 }
 
@@ -161,15 +159,11 @@ pub(crate) fn came_at(
     ensures { ListedFirst (came_to j number code words (take n told.now)) (n + 1) list.old result list.new }
 {
     let mut k = brought(j, number, code, words, list);
-    let mut i = 0;
-    while i < n {
+    for i in 0..n {
         let t = told[i];
         if t[2] == j {
             list[k] = [t[1], report::WAITING, 1];
             k += 1;
-            i += 1;
-        } else {
-            i += 1;
         }
     }
     k

@@ -312,10 +312,8 @@ fn put_tails(
     ensures { Puts (places_text (place_tail (noted_by (lent_all heads.now subs.now rows.now own.now) [] gone.now)) 0 8) from out.old result out.new × (result ≤ from + 527360) }
 {
     let mut at = from;
-    let mut k = 0;
-    while k < 8 {
+    for k in 0..8 {
         at = put_tail(heads, subs, rows, own, gone, k, out, at);
-        k += 1;
     }
     at
 }

@@ -55,15 +55,12 @@ pub(crate) fn begin(gone: &mut [[u64; 5]], number: u64, all: bool)
     requires { length gone.old ≡ 8 }
     ensures { gone.new ≡ counts_anew number all 0 gone.old }
 {
-    let mut j = 0;
-    while j < 8 {
+    for j in 0..8 {
         if all | (j as u64 == number) {
             gone[j] = [0; 5];
-            j += 1;
         } else {
             let kept = gone[j];
             sized(kept);
-            j += 1;
         }
     }
 }
@@ -75,14 +72,7 @@ fn names(told: &[Told], n: usize, j: u64) -> bool
     requires { n ≤ length told.now }
     ensures { result ≡ member j (map (at 2) (take n told.now)) }
 {
-    let mut i = 0;
-    while i < n {
-        if told[i][2] == j {
-            return true;
-        }
-        i += 1;
-    }
-    false
+    told.iter().take(n).any(|t| t[2] == j)
 }
 
 // The line of another queue at which letters were stored.
@@ -130,10 +120,8 @@ fn put_others(
     ensures { Puts (places_text (other_line number (take n told.now) (station_by (lent_all heads.now subs.now rows.now own.now) [])) 0 8) from out.old result out.new × (result ≤ from + 1024) }
 {
     let mut at = from;
-    let mut j = 0;
-    while j < 8 {
+    for j in 0..8 {
         at = put_other(heads, subs, rows, own, told, n, number, j, out, at);
-        j += 1;
     }
     at
 }
@@ -239,12 +227,10 @@ pub(crate) fn put_left(
     ensures gone_after { gone.new ≡ counts_by (left_from (lent_all heads.now subs.now rows.now own.now) lists.now counts.now (take n told.now) number code words) 0 gone.old }
 {
     let mut at = from;
-    let mut j = 0;
-    while j < 8 {
+    for j in 0..8 {
         at = put_place_left(
             heads, subs, rows, own, lists, counts, told, n, number, code, words, j, gone, out, at,
         );
-        j += 1;
     }
     at
 }

@@ -14,6 +14,8 @@ use reportlines::{Gone, Ways};
 
 // ---- parts
 
+// Where there is room, as callers here have tested. Each crate of lines has its own: a public one would have to promise something without room.
+
 fn put_letter(out: &mut [u8], at: usize, b: u8) -> usize
     requires { at + 1 ≤ length out.old }
     ensures { Puts (b ∷ []) at out.old result out.new }
@@ -63,6 +65,8 @@ fn put_place(out: &mut [u8], at: usize, place: u64) -> usize
 }
 
 // ---- of a call
+
+// The refusal is the number that a call line prints, here and in what follows.
 
 fn turn_line(
     out: &mut [u8],
@@ -164,16 +168,11 @@ fn brought_line(
     if refusal != 0 {
         return at;
     }
-    if code == Call::JOIN {
-        return join_line(out, at, d, words);
+    match code {
+        Call::JOIN => join_line(out, at, d, words),
+        Call::ENQUEUE if queue => enqueue_line(out, at, d, words),
+        _ => at,
     }
-    if code != Call::ENQUEUE {
-        return at;
-    }
-    if !queue {
-        return at;
-    }
-    enqueue_line(out, at, d, words)
 }
 
 // What an accepted call on a destination brought; a refused one nothing: a join its consumer, an enqueue on a queue its block. Word 0 of an enqueue is the number
@@ -210,18 +209,13 @@ fn told_line(out: &mut [u8], at: usize, d: u64, row: [u64; 3]) -> usize
     put_letter(out, f, b'\n')
 }
 
-fn each_told(out: &mut [u8], from: usize, d: u64, rows: &[[u64; 3]], n: usize) -> usize
-    requires { from + (128 + 128 * n) ≤ length out.old }
-    ensures { Puts (told_text d (take n rows.now)) from out.old result out.new × (result ≤ from + (128 + 128 * n)) }
+fn each_told(out: &mut [u8], from: usize, d: u64, rows: &[[u64; 3]]) -> usize
+    requires { from + (128 + 128 * length rows.now) ≤ length out.old }
+    ensures { Puts (told_text d rows.now) from out.old result out.new × (result ≤ from + (128 + 128 * length rows.now)) }
 {
     let mut at = from;
-    let mut i = 0;
-    while i < n {
-        if rows.len() <= i {
-            return at;
-        }
-        at = told_line(out, at, d, rows[i]);
-        i += 1;
+    for row in rows {
+        at = told_line(out, at, d, *row);
     }
     at
 }
@@ -233,7 +227,7 @@ pub fn put_told(out: &mut [u8], from: usize, d: u64, rows: &[[u64; 3]], n: usize
     if !stationlines::rows_fit(out.len(), from, n) {
         return from;
     }
-    each_told(out, from, d, rows, n)
+    each_told(out, from, d, &rows[..n.min(rows.len())])
 }
 
 // A block's line: its sequence number, its place, and whether it is persistent.
@@ -249,18 +243,13 @@ fn block_line(out: &mut [u8], at: usize, d: u64, b: [u64; 3]) -> usize
     put_letter(out, fifth, b'\n')
 }
 
-fn each_block(out: &mut [u8], from: usize, d: u64, blocks: &[[u64; 3]], n: usize) -> usize
-    requires { from + (128 + 128 * n) ≤ length out.old }
-    ensures { Puts (blocks_text_on d (take n blocks.now)) from out.old result out.new × (result ≤ from + (128 + 128 * n)) }
+fn each_block(out: &mut [u8], from: usize, d: u64, blocks: &[[u64; 3]]) -> usize
+    requires { from + (128 + 128 * length blocks.now) ≤ length out.old }
+    ensures { Puts (blocks_text_on d blocks.now) from out.old result out.new × (result ≤ from + (128 + 128 * length blocks.now)) }
 {
     let mut at = from;
-    let mut i = 0;
-    while i < n {
-        if blocks.len() <= i {
-            return at;
-        }
-        at = block_line(out, at, d, blocks[i]);
-        i += 1;
+    for b in blocks {
+        at = block_line(out, at, d, *b);
     }
     at
 }
@@ -272,7 +261,7 @@ pub fn put_blocks(out: &mut [u8], from: usize, d: u64, blocks: &[[u64; 3]], n: u
     if !stationlines::rows_fit(out.len(), from, n) {
         return from;
     }
-    each_block(out, from, d, blocks, n)
+    each_block(out, from, d, &blocks[..n.min(blocks.len())])
 }
 
 // ---- the last lines

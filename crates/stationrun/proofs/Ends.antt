@@ -1,10 +1,11 @@
 -- The last lines of a station's run or report: the counters of a place, the bytes that are held, and all lines. Assumes nothing.
-use Prim.Native.Nat.{ℕ, ◌+◌, ◌*◌, ◌-◌, ◌≤◌, ◌<◌, ◌^◌}
-use native.Mathlib.Nat.{add-zero}
+use Prim.Native.Nat.{ℕ, zero, suc, ◌+◌, ◌*◌, ◌-◌, ◌≤◌, ◌<◌, ◌^◌}
+use native.Mathlib.Nat.{add-zero, zero-add}
+use native.Mathlib.Numerals.{add-one}
 use native.Mathlib.Omega.{arith}
 use mathlib.Core.Path.{◌≡◌, refl, sym, ap, ap₂, ◌∙◌, subst, subst⁻¹}
 use mathlib.Core.Bool.{Bool, true, false, not, ◌&&◌, ◌||◌}
-use mathlib.Core.List.{List, [], ◌∷◌, ◌++◌, map}
+use mathlib.Core.List.{List, [], ◌∷◌, ◌++◌, map, append_assoc, append-nil}
 use mathlib.Core.Option.{Option, none, some}
 use borrow.Author.Tests.{ne_eqb, leb-true, ltb-true, le-leb, lt-leb, not-true}
 use lib.Dec.{leb, ltb}
@@ -39,7 +40,7 @@ use Rattle.stationcalls.specs.Own.{own_words_ok, part_ok}
 use Rattle.stationcalls.proofs.Placed.{at_part}
 use Rattle.stationcalls.proofs.Tested.{sound-is}
 use Rattle.stationrun.specs.StationRuns.{LentStation, station_by}
-use Rattle.stationrun.specs.StationFiles.{slot_line, slot_bytes, slots_bytes, station_bytes, held_bytes}
+use Rattle.stationrun.specs.StationFiles.{slot_line, counted_lines, slot_bytes, slots_bytes, station_bytes, held_bytes}
 
 -- ---- how long
 
@@ -136,6 +137,37 @@ module _ (k : ℕ) (heads : List ℕ) (subs rows : List Row) (own : List ℕ) wh
       let long : state_short (lengths_of p 0) ≡ false = ap (λ (l : Lengths). state_short l) (part-lengths k (lent_all heads subs rows own) w.is-place w.heads-long w.subs-long w.rows_long) in
       let is : r.answer ≡ bytes_held (view p) = ap (λ (x : Told.Asked). x.answer) (at_part k heads subs rows w (λ (x : Buffers). r ≡ as_asked (buffer_query x bytes)) e own) ∙ query-is p long (and_left (formed p) (sound (view p)) s) g in
       (is ∙ sym (ap slot_bytes (open-slot k heads subs rows own o)), omega (arith, is, held-few (view p) g))
+
+-- ---- of all places, one after another
+
+module _ (b : StationBuffers) where
+  abbrev pub slots_to : ℕ → ℕ → List (Option StationSlot)
+  slots_to from n = map (slot_at b) (up_from from n)
+
+  counted-last : (from n : ℕ) → counted_lines from (slots_to from (suc n)) ≡ counted_lines from (slots_to from n) ++ slot_line (from + n) (slot_at b (from + n))
+  unfolding counted_lines
+  counted-last from zero = append-nil (slot_line from (slot_at b from)) ∙ ap (λ (k : ℕ). slot_line k (slot_at b k)) (sym (add-zero from))
+  counted-last from (suc n) =
+      let e : suc from + n ≡ from + suc n = omega arith in
+      ap (λ (t : List ℕ). slot_line from (slot_at b from) ++ t) (counted-last (suc from) n ∙ ap (λ (k : ℕ). counted_lines (suc from) (slots_to (suc from) n) ++ slot_line k (slot_at b k)) e)
+      ∙ sym (append_assoc (slot_line from (slot_at b from)) (counted_lines (suc from) (slots_to (suc from) n)) (slot_line (from + suc n) (slot_at b (from + suc n))))
+
+  pub none-counted : {at : ℕ} {out : List ℕ} → Puts (counted_lines 0 (slots_to 0 0)) at out at out
+  unfolding counted_lines
+  none-counted {at} {out} = none-put at out
+
+  pub next_counted : (k : ℕ) {from at r : ℕ} {l l' l'' : List ℕ} → Puts (counted_lines 0 (slots_to 0 k)) from l at l' → Puts (slot_line k (slot_at b k)) at l' r l'' → Puts (counted_lines 0 (slots_to 0 (k + 1))) from l r l''
+  next_counted k {from} {at} {r} {l} {l'} {l''} p q =
+      subst⁻¹ (λ (t : List ℕ). Puts t from l r l'') (ap (λ (n : ℕ). counted_lines 0 (slots_to 0 n)) (add-one k) ∙ counted-last 0 k ∙ ap (λ (n : ℕ). counted_lines 0 (slots_to 0 k) ++ slot_line n (slot_at b n)) (zero-add k)) ((then) p q)
+
+  bytes-last : (from n : ℕ) → slots_bytes (slots_to from (suc n)) ≡ slots_bytes (slots_to from n) + slot_bytes (slot_at b (from + n))
+  bytes-last from zero = omega (arith, ap (λ (k : ℕ). slot_bytes (slot_at b k)) (add-zero from))
+  bytes-last from (suc n) =
+      let e : suc from + n ≡ from + suc n = omega arith in
+      omega (arith, bytes-last (suc from) n, ap (λ (k : ℕ). slot_bytes (slot_at b k)) e)
+
+  pub next_bytes : (k : ℕ) {sum more : ℕ} → sum ≡ slots_bytes (slots_to 0 k) → more ≡ slot_bytes (slot_at b k) → sum + more ≡ slots_bytes (slots_to 0 (k + 1))
+  next_bytes k {sum} {more} p q = omega (arith, p, q, bytes-last 0 k, ap (λ (n : ℕ). slots_bytes (slots_to 0 n)) (add-one k), ap (λ (n : ℕ). slot_bytes (slot_at b n)) (zero-add k))
 
 -- ---- all bytes
 

@@ -173,13 +173,15 @@ pub fn with_run(t: Took, run: usize) -> StationTook
 fn next_block(at: StationReading, index: u64, on: bool) -> StationReading
     ensures { result ≡ next_block at index on }
 {
-    let reading = Reading {
-        have: 0,
-        number: stats::more_of(at.reading.number),
-        index,
-        goes_on: on,
-    };
-    StationReading { reading, run: 0 }
+    StationReading {
+        reading: Reading {
+            have: 0,
+            number: stats::more_of(at.reading.number),
+            index,
+            goes_on: on,
+        },
+        run: 0,
+    }
 }
 
 // The reading after a call of a block of so many.
@@ -308,19 +310,16 @@ fn put_counts(
     rows: &[Row],
     own: &[u64],
     out: &mut [u8],
-    at: usize,
+    from: usize,
 ) -> usize
-    requires { Within 0 heads.now subs.now rows.now × (20 ≤ length own.now) × (at + 1152 ≤ length out.old) }
-    ensures { Puts (counted_lines 0 (station_view (lent_all heads.now subs.now rows.now own.now)).slots) at out.old result out.new × (result ≤ at + 1024) }
+    requires { Within 0 heads.now subs.now rows.now × (20 ≤ length own.now) × (from + 1152 ≤ length out.old) }
+    ensures { Puts (counted_lines 0 (station_view (lent_all heads.now subs.now rows.now own.now)).slots) from out.old result out.new × (result ≤ from + 1024) }
 {
-    let a = put_place(heads, subs, rows, own, 0, out, at);
-    let b = put_place(heads, subs, rows, own, 1, out, a);
-    let c = put_place(heads, subs, rows, own, 2, out, b);
-    let d = put_place(heads, subs, rows, own, 3, out, c);
-    let e = put_place(heads, subs, rows, own, 4, out, d);
-    let f = put_place(heads, subs, rows, own, 5, out, e);
-    let g = put_place(heads, subs, rows, own, 6, out, f);
-    put_place(heads, subs, rows, own, 7, out, g)
+    let mut at = from;
+    for k in 0..8 {
+        at = put_place(heads, subs, rows, own, k, out, at);
+    }
+    at
 }
 
 // The bytes that a place of a sound station holds.
@@ -348,15 +347,11 @@ pub fn held_bytes(heads: &[u64], subs: &[SubRow], rows: &[Row], own: &[u64], eve
     if !stationcalls::is_sound(heads, subs, rows, own, events) {
         return 0;
     }
-    let a = place_bytes(heads, subs, rows, own, 0);
-    let b = place_bytes(heads, subs, rows, own, 1);
-    let c = place_bytes(heads, subs, rows, own, 2);
-    let d = place_bytes(heads, subs, rows, own, 3);
-    let e = place_bytes(heads, subs, rows, own, 4);
-    let f = place_bytes(heads, subs, rows, own, 5);
-    let g = place_bytes(heads, subs, rows, own, 6);
-    let h = place_bytes(heads, subs, rows, own, 7);
-    a + b + c + d + e + f + g + h
+    let mut bytes = 0;
+    for k in 0..8 {
+        bytes += place_bytes(heads, subs, rows, own, k);
+    }
+    bytes
 }
 
 // The last lines, once no piece is left, a read has failed or reading has ended: that of a block that is not whole, the counters of each open destination,

@@ -9,7 +9,9 @@ use native.Mathlib.Omega.{arith}
 use borrow.Author.Tests.{le-leb, lt-leb}
 use lib.Dec.{leb, ltb, eqb, leb-zero}
 use lib.ListN.{length, take, drop, get_or, length-drop}
-use lib.Seq.{slice, drop-drop, take-add}
+use lib.Seq.{slice, drop-cons, drop-drop, take-add}
+use native.Mathlib.Numerals.{add-one}
+use Rattle.std.proofs.lemmas.List.{drop_all}
 use Rattle.words.specs.Pick.{whether◌then◌else◌}
 use Rattle.words.proofs.Tests.{by-test}
 use Rattle.model.specs.Model.{same_id}
@@ -316,42 +318,55 @@ module _ (subs : List Row) (i n : ℕ) (b : n ≤ length subs) where
   unfolding sub_rows
   rows_end q = ap sub_rows (part_end subs i n q)
 
-  module _ {A : Type 0} (p : A → Bool) (of : Row → List Row → List Row → A) (rows : List Row) (base : ℕ) (total : Bool) (e : all p (each_sub of (slice i n subs) (drop base rows)) ≡ total) where
-    -- what is read of the consumer at i, with its rows
-    abbrev pub here : A
-    here = let w = get_or subs i [] in of w (take (at 14 w) (drop base rows)) (take (at 15 w) (drop (at 14 w) (drop base rows)))
+-- ---- the same of each consumer of a list in turn, as `for` takes them
 
-    pub walk_turn : i < n → (p here && all p (each_sub of (slice (i + 1) n subs) (drop (base + (at 14 (get_or subs i []) + at 15 (get_or subs i []))) rows))) ≡ total
+module _ (us : List Row) (i : ℕ) where
+  pub item-turn : i < length us → drop i us ≡ get_or us i [] ∷ drop (i + 1) us
+  item-turn h = drop-cons us i [] h ∙ ap (λ (j : ℕ). get_or us i [] ∷ drop j us) (sym (add-one i))
+
+  pub rows-item : i < length us → sub_rows (drop i us) ≡ at 14 (get_or us i []) + (at 15 (get_or us i []) + sub_rows (drop (i + 1) us))
+  unfolding sub_rows
+  rows-item h = ap sub_rows (item-turn h)
+
+  pub rows-done : length us ≤ i → sub_rows (drop i us) ≡ 0
+  unfolding sub_rows
+  rows-done h = ap sub_rows (drop_all i us h)
+
+  module _ (total : Bool) (e : ids_apart (drop i us) ≡ total) where
+    ids-turn : i < length us → (all (λ v. not (same_id (id_at v) (id_at (get_or us i [])))) (drop (i + 1) us) && ids_apart (drop (i + 1) us)) ≡ total
+    ids-turn h = sym (ap ids_apart (item-turn h)) ∙ e
+
+    pub ids-stop : i < length us → all (λ v. not (same_id (id_at v) (id_at (get_or us i [])))) (drop (i + 1) us) ≡ false → false ≡ total
+    ids-stop h q = sym (ap (λ (t : Bool). t && ids_apart (drop (i + 1) us)) q) ∙ ids-turn h
+
+    pub ids_next : i < length us → all (λ v. not (same_id (id_at v) (id_at (get_or us i [])))) (drop (i + 1) us) ≡ true → ids_apart (drop (i + 1) us) ≡ total
+    ids_next h q = sym (ap (λ (t : Bool). t && ids_apart (drop (i + 1) us)) q) ∙ ids-turn h
+
+    pub ids-end : length us ≤ i → true ≡ total
+    ids-end h = sym (ap ids_apart (drop_all i us h)) ∙ e
+
+  module _ {A : Type 0} (p : A → Bool) (of : Row → List Row → List Row → A) (rows : List Row) (base : ℕ) (total : Bool) (e : all p (each_sub of (drop i us) (drop base rows)) ≡ total) where
+    abbrev pub item : A
+    item = let w = get_or us i [] in of w (take (at 14 w) (drop base rows)) (take (at 15 w) (drop (at 14 w) (drop base rows)))
+
+    pub item_turn : i < length us → (p item && all p (each_sub of (drop (i + 1) us) (drop (base + (at 14 (get_or us i []) + at 15 (get_or us i []))) rows))) ≡ total
     unfolding each_sub
-    walk_turn h =
-        let w = get_or subs i [] in
+    item_turn h =
+        let w = get_or us i [] in
         let d : drop (at 15 w) (drop (at 14 w) (drop base rows)) ≡ drop (base + (at 14 w + at 15 w)) rows =
         drop-drop (at 15 w) (at 14 w) (drop base rows) ∙ drop-drop (at 14 w + at 15 w) base rows in
-        sym (ap (λ (l : List Row). all p (each_sub of l (drop base rows))) (part-turn subs i n [] h b)
-        ∙ ap (λ (l : List Row). p here && all p (each_sub of (slice (i + 1) n subs) l)) d) ∙ e
+        sym (ap (λ (l : List Row). all p (each_sub of l (drop base rows))) (item-turn h)
+        ∙ ap (λ (l : List Row). p item && all p (each_sub of (drop (i + 1) us) l)) d) ∙ e
 
-    pub walk-stop : i < n → p here ≡ false → false ≡ total
-    walk-stop h q = sym (ap (λ (t : Bool). t && all p (each_sub of (slice (i + 1) n subs) (drop (base + (at 14 (get_or subs i []) + at 15 (get_or subs i []))) rows))) q) ∙ walk_turn h
+    pub item-stop : i < length us → p item ≡ false → false ≡ total
+    item-stop h q = sym (ap (λ (t : Bool). t && all p (each_sub of (drop (i + 1) us) (drop (base + (at 14 (get_or us i []) + at 15 (get_or us i []))) rows))) q) ∙ item_turn h
 
-    pub walk-next : i < n → p here ≡ true → all p (each_sub of (slice (i + 1) n subs) (drop (base + (at 14 (get_or subs i []) + at 15 (get_or subs i []))) rows)) ≡ total
-    walk-next h q = sym (ap (λ (t : Bool). t && all p (each_sub of (slice (i + 1) n subs) (drop (base + (at 14 (get_or subs i []) + at 15 (get_or subs i []))) rows))) q) ∙ walk_turn h
+    pub item-next : i < length us → p item ≡ true → all p (each_sub of (drop (i + 1) us) (drop (base + (at 14 (get_or us i []) + at 15 (get_or us i []))) rows)) ≡ total
+    item-next h q = sym (ap (λ (t : Bool). t && all p (each_sub of (drop (i + 1) us) (drop (base + (at 14 (get_or us i []) + at 15 (get_or us i []))) rows))) q) ∙ item_turn h
 
-    pub walk_end : i ≡ n → true ≡ total
+    pub item-end : length us ≤ i → true ≡ total
     unfolding each_sub
-    walk_end q = sym (ap (λ (l : List Row). all p (each_sub of l (drop base rows))) (part_end subs i n q)) ∙ e
-
-  module _ (total : Bool) (e : ids_apart (slice i n subs) ≡ total) where
-    ids-turn : i < n → (all (λ v. not (same_id (id_at v) (id_at (get_or subs i [])))) (slice (i + 1) n subs) && ids_apart (slice (i + 1) n subs)) ≡ total
-    ids-turn h = sym (ap ids_apart (part-turn subs i n [] h b)) ∙ e
-
-    pub ids-stop : i < n → all (λ v. not (same_id (id_at v) (id_at (get_or subs i [])))) (slice (i + 1) n subs) ≡ false → false ≡ total
-    ids-stop h q = sym (ap (λ (t : Bool). t && ids_apart (slice (i + 1) n subs)) q) ∙ ids-turn h
-
-    pub ids_next : i < n → all (λ v. not (same_id (id_at v) (id_at (get_or subs i [])))) (slice (i + 1) n subs) ≡ true → ids_apart (slice (i + 1) n subs) ≡ total
-    ids_next h q = sym (ap (λ (t : Bool). t && ids_apart (slice (i + 1) n subs)) q) ∙ ids-turn h
-
-    pub ids-end : i ≡ n → true ≡ total
-    ids-end q = sym (ap ids_apart (part_end subs i n q)) ∙ e
+    item-end h = sym (ap (λ (l : List Row). all p (each_sub of l (drop base rows))) (drop_all i us h)) ∙ e
 
 pub rows_in_lem : (n : ℕ) → n ≤ 512 → n ≡ rows_up_to n
 rows_in_lem n h = rw (le-leb n 512 h)

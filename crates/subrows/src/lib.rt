@@ -3,7 +3,7 @@
 
 ghost use Rattle.std.specs.Prelude.{◌≡◌, true, not, ◌&&◌, ◌+◌, ◌≤◌, ◌<◌, ◌^◌, length, take, drop};
 ghost use Rattle.std.proofs.Math.Seq.{slice};
-ghost use Rattle.model.specs.Model.{id_of, same_id};
+ghost use Rattle.model.specs.Model.{same_id};
 ghost use Rattle.definition.specs.Base.{all, every};
 ghost use Rattle.definition.specs.Calls.{id_ok};
 ghost use Rattle.definition.specs.Words.{at, kind_by};
@@ -11,6 +11,7 @@ ghost use Rattle.definition.specs.Layout.{id_at, sub_rows, words_strict};
 ghost use Rattle.subrows.specs.Subrows.{row_ok, row_after, RowForm, flight_ok, holder_ok, flying_ok, sorted_ok, word_tests, own_ok, each_ok, ids_apart, rows_up_to, rows_counted, row_tests, rows_sound};
 
 use entry::{ROWS, Row, SEQ_END, SIZE_END};
+use model::Id;
 
 type SubRow = [u64; 16];
 
@@ -42,12 +43,10 @@ fn entries_ok(rows: &[Row], from: usize, to: usize) -> bool
     ensures value { result ≡ all row_ok (slice from to rows.now) }
     ensures rows_value { result ≡ true → all holder_ok (slice from to rows.now) ≡ true }
 {
-    let mut i = from;
-    while i < to {
+    for i in from..to {
         if !entry_ok(rows[i]) {
             return false;
         }
-        i += 1;
     }
     true
 }
@@ -81,6 +80,7 @@ fn sorted_ok(rows: &[Row], from: usize, to: usize) -> bool
 {
     let mut last = 0;
     let mut i = from;
+    // A while: four rows a turn, for speed; with `chunks_exact(4)` and its remainder the code is no shorter.
     while 4 <= to - i {
         let a = rows[i];
         let b = rows[i + 1];
@@ -92,13 +92,12 @@ fn sorted_ok(rows: &[Row], from: usize, to: usize) -> bool
         last = d[0];
         i += 4;
     }
-    while i < to {
+    for i in i..to {
         let row = rows[i];
         if !follows(row, last) {
             return false;
         }
         last = row[0];
-        i += 1;
     }
     last < SEQ_END
 }
@@ -111,8 +110,7 @@ fn flying_ok(rows: &[Row], from: usize, to: usize, next: u64, freed: u64) -> boo
 {
     let mut least = 0;
     let mut count = 0;
-    let mut i = from;
-    while i < to {
+    for i in from..to {
         let row = rows[i];
         let dseq = row[6];
         if !flight_ok(row) {
@@ -126,22 +124,18 @@ fn flying_ok(rows: &[Row], from: usize, to: usize, next: u64, freed: u64) -> boo
         }
         least = dseq + 1;
         count += (row[7] != 0) as u64;
-        i += 1;
     }
     freed == count
 }
 
 // ---- consumers
 
-// How many rows the first n consumers have; 513 for more than 512.
-fn sub_rows(subs: &[SubRow], n: usize) -> usize
-    requires { n ≤ (length subs.now) }
-    ensures { result ≡ rows_up_to (sub_rows (take n subs.now)) }
+// How many rows the consumers have; 513 for more than 512.
+fn sub_rows(subs: &[SubRow]) -> usize
+    ensures { result ≡ rows_up_to (sub_rows subs.now) }
 {
     let mut room: u64 = 512;
-    let mut i = 0;
-    while i < n {
-        let w = subs[i];
+    for w in subs {
         let inflight = w[14];
         let held = w[15];
         if room < inflight {
@@ -152,7 +146,6 @@ fn sub_rows(subs: &[SubRow], n: usize) -> usize
             return 513;
         }
         room -= held;
-        i += 1;
     }
     (512 - room) as usize
 }
@@ -197,63 +190,50 @@ fn sub_ok(w: SubRow, rows: &[Row], base: usize, most: u64, on_queue: bool) -> bo
     sorted_ok(rows, mid, end)
 }
 
-// The first n consumers.
-fn subs_ok(subs: &[SubRow], n: usize, rows: &[Row], most: u64, on_queue: bool) -> bool
-    requires n_bound { n ≤ (length subs.now) }
-    requires subs_in_bounds { sub_rows (take n subs.now) ≤ length rows.now }
-    requires subs_bound { sub_rows (take n subs.now) ≤ 512 }
-    ensures { result ≡ each_ok (kind_by on_queue) most (take n subs.now) rows.now }
+// Each consumer with its rows.
+fn subs_ok(subs: &[SubRow], rows: &[Row], most: u64, on_queue: bool) -> bool
+    requires subs_in_bounds { sub_rows subs.now ≤ length rows.now }
+    requires subs_bound { sub_rows subs.now ≤ 512 }
+    ensures { result ≡ each_ok (kind_by on_queue) most subs.now rows.now }
 {
     let mut base = 0;
-    let mut i = 0;
-    while i < n {
-        let w = subs[i];
-        if !sub_ok(w, rows, base, most, on_queue) {
+    for w in subs {
+        if !sub_ok(*w, rows, base, most, on_queue) {
             return false;
         }
         base += w[14] as usize + w[15] as usize;
-        i += 1;
     }
     true
 }
 
 // ---- identifiers
 
-// Whether two identifiers are one: equal words hold equal numbers.
-fn same_id(conn: u64, session: u64, value: u64, conn2: u64, session2: u64, value2: u64) -> bool
-    ensures { result ≡ same_id (id_of conn session value) (id_of conn2 session2 value2) }
+fn id_of(w: SubRow) -> Id
+    ensures { result ≡ id_at w }
 {
-    (conn == conn2) & ((session == session2) & (value == value2))
+    Id::of_words(w[0], w[1], w[2])
 }
 
-// No consumer from place i on has this identifier.
-fn alone(subs: &[SubRow], from: usize, n: usize, conn: u64, session: u64, value: u64) -> bool
-    requires from_le_n { from ≤ n }
-    requires n_bound { n ≤ (length subs.now) }
-    ensures { result ≡ all (λ v. not (same_id (id_at v) (id_of conn session value))) (slice from n subs.now) }
+fn has_id(w: SubRow, id: Id) -> bool
+    ensures { result ≡ same_id (id_at w) id }
 {
-    let mut i = from;
-    while i < n {
-        let w = subs[i];
-        if same_id(w[0], w[1], w[2], conn, session, value) {
-            return false;
-        }
-        i += 1;
-    }
-    true
+    id_of(w) == id
 }
 
-fn ids_apart(subs: &[SubRow], n: usize) -> bool
-    requires { n ≤ (length subs.now) }
-    ensures { result ≡ ids_apart (take n subs.now) }
+// None of the consumers has this identifier.
+fn alone(subs: &[SubRow], id: Id) -> bool
+    ensures { result ≡ all (λ v. not (same_id (id_at v) id)) subs.now }
 {
-    let mut i = 0;
-    while i < n {
-        let w = subs[i];
-        if !alone(subs, i + 1, n, w[0], w[1], w[2]) {
+    subs.iter().all(|w| !has_id(*w, id))
+}
+
+fn ids_apart(subs: &[SubRow]) -> bool
+    ensures { result ≡ ids_apart subs.now }
+{
+    for i in 0..subs.len() {
+        if !alone(&subs[i + 1..], id_of(subs[i])) {
             return false;
         }
-        i += 1;
     }
     true
 }
@@ -261,6 +241,7 @@ fn ids_apart(subs: &[SubRow], n: usize) -> bool
 // ---- all
 
 // How many rows the consumers have, 513 for more than 512 or for too few consumers; and whether all is sound.
+// A struct: `others` is promised where `ok` is false, too.
 #[derive(Clone, Copy)]
 pub struct Look {
     pub others: usize,
@@ -270,7 +251,6 @@ pub struct Look {
 // The consumers and the rows, which the tables have.
 fn rows_ok(
     subs: &[SubRow],
-    n: usize,
     rows: &[Row],
     others: usize,
     reserved: usize,
@@ -278,16 +258,15 @@ fn rows_ok(
     most: u64,
     on_queue: bool,
 ) -> bool
-    requires n_in_bounds { n ≤ length subs.now }
-    requires others_value { others ≡ sub_rows (take n subs.now) }
+    requires others_value { others ≡ sub_rows subs.now }
     requires waiting_in_bounds { (others + (reserved + waiting) ≤ length rows.now) × (others + (reserved + waiting) ≤ 512) }
-    ensures { result ≡ every (row_tests (kind_by on_queue) most others reserved waiting (take n subs.now) rows.now) }
+    ensures { result ≡ every (row_tests (kind_by on_queue) most others reserved waiting subs.now rows.now) }
 {
-    if !subs_ok(subs, n, rows, most, on_queue) {
+    if !subs_ok(subs, rows, most, on_queue) {
         return false;
     }
     let first = others + reserved;
-    let ids = ids_apart(subs, n);
+    let ids = ids_apart(subs);
     let kept = entries_ok(rows, others, first);
     let sorted = sorted_ok(rows, first, first + waiting);
     ids & (kept & sorted)
@@ -311,7 +290,8 @@ pub fn test_all(
         let others = ROWS + 1;
         return Look { others, ok };
     }
-    let others = sub_rows(subs, n);
+    let subs = &subs[..n];
+    let others = sub_rows(subs);
     if ROWS < reserved {
         return Look { others, ok };
     }
@@ -325,6 +305,6 @@ pub fn test_all(
     if rows.len() < used {
         return Look { others, ok };
     }
-    let ok = rows_ok(subs, n, rows, others, reserved, waiting, most, on_queue);
+    let ok = rows_ok(subs, rows, others, reserved, waiting, most, on_queue);
     Look { others, ok }
 }

@@ -3,6 +3,7 @@ pub mod Bounds
 pub mod Loops
 pub mod Segments
 pub mod Strict
+pub mod Chains
 pub mod Laws
 pub mod Rows
 pub mod Search

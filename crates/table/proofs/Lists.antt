@@ -1,13 +1,13 @@
 -- Guards of two comparisons, parts of a list, and a list that is written from a place on, an element at a time.
 -- Assumes nothing.
 use mathlib.Core.Path.{◌≡◌, refl, sym, ap, ◌∙◌}
-use mathlib.Core.Bool.{Bool, true, false, ◌&&◌, and-false}
+use mathlib.Core.Bool.{Bool, true, false, ◌&&◌}
 use mathlib.Core.List.{List, [], ◌∷◌, ◌++◌, append_assoc}
 use Prim.Native.Nat.{ℕ, zero, suc, ◌+◌, ◌-◌, ◌≤◌, ◌<◌}
 use native.Mathlib.Nat.{suc-sub-suc, sub-zero, le_of_suc-le-suc, not-suc-le-zero}
 use native.Mathlib.Numerals.{add-one}
 use native.Mathlib.Omega.{arith}
-use borrow.Author.Tests.{le-leb, lt-leb, leb-true}
+use borrow.Author.Tests.{le-leb, leb-true}
 use lib.Dec.{leb}
 use lib.ListN.{length, take, drop, get_or, set, length-append, length-drop, take-append-drop}
 use lib.Seq.{take-nil, take-suc, drop-cons, append_snoc, set_at, slice, length-take-le, drop-append-le, get_or-append-add, get_or-drop, drop-append-add, drop-drop, take-append-add, take-append-le, take-take, take_at, drop_at}
@@ -25,24 +25,9 @@ module _ {ℓ} {A : Type ℓ} (a b c d : ℕ) (x y : A) where
   pub both_hold : a ≤ b → c ≤ d → (whether leb a b && leb c d then x else y) ≡ x
   both_hold h k = rw (le-leb a b h, le-leb c d k)
 
-  pub first-fails : b < a → (whether leb a b && leb c d then x else y) ≡ y
-  first-fails h = rw (lt-leb a b h)
-
-  pub second-fails : d < c → (whether leb a b && leb c d then x else y) ≡ y
-  second-fails h = rw (lt-leb c d h, and-false)
-
 module _ {ℓ} {A : Type ℓ} (a b c d : ℕ) (x y : A) where
   pub three-hold : a ≤ b → b ≤ c → c ≤ d → (whether (leb a b && leb b c) && leb c d then x else y) ≡ x
   three-hold h k l = rw (le-leb a b h, le-leb b c k, le-leb c d l)
-
-  pub one-fails : b < a → (whether (leb a b && leb b c) && leb c d then x else y) ≡ y
-  one-fails h = rw (lt-leb a b h)
-
-  pub two-fails : c < b → (whether (leb a b && leb b c) && leb c d then x else y) ≡ y
-  two-fails h = rw (lt-leb b c h, and-false)
-
-  pub three-fails : d < c → (whether (leb a b && leb b c) && leb c d then x else y) ≡ y
-  three-fails h = rw (lt-leb c d h, and-false)
 
 -- what holds within the bounds and of the other answer too
 pub guarded {ℓ κ} : {A : Type ℓ} (P : A → Type κ) (a b c d : ℕ) (x y : A) → (a ≤ b → c ≤ d → P x) → P y → P (whether leb a b && leb c d then x else y)
@@ -52,6 +37,10 @@ guarded {A} P a b c d x y f g = go (leb a b) (leb c d) (leb-true a b) (leb-true 
     go true true h k = f (h refl) (k refl)
     go true false h k = g
     go false v h k = g
+
+-- and what is meant where not both hold
+pub outside {ℓ} : {A : Type ℓ} (a b c d : ℕ) (x y : A) → (a ≤ b → c ≤ d → x ≡ y) → (whether leb a b && leb c d then x else y) ≡ y
+outside a b c d x y f = guarded (λ z. z ≡ y) a b c d x y f refl
 
 pub guarded₃ {ℓ κ} : {A : Type ℓ} (P : A → Type κ) (a b c d : ℕ) (x y : A) → (a ≤ b → b ≤ c → c ≤ d → P x) → P y → P (whether (leb a b && leb b c) && leb c d then x else y)
 guarded₃ {A} P a b c d x y f g = go (leb a b) (leb b c) (leb c d) (leb-true a b) (leb-true b c) (leb-true c d)
@@ -138,10 +127,6 @@ module _ {ℓ} {A : Type ℓ} where
         ap (λ (l : List A). set l j x) (split x k)
         ∙ set_at (take a rs ++ m) (get_or rs j x) (drop (suc j) rs) x j (head-length (omega arith))
         ∙ joined x
-
-    -- one more is left as it was
-    pub written_same : (z : A) → j < length rs → written a m j rs ≡ written a (m ++ (get_or rs j z ∷ [])) (j + 1) rs
-    written_same z k = split z k ∙ joined (get_or rs j z)
 
     -- before place a the list is as it was
     pub written_low : (i : ℕ) → i ≤ a → j ≤ length rs → take i (written a m j rs) ≡ take i rs

@@ -6,8 +6,8 @@ use mathlib.Core.List.{List, [], ◌∷◌, ◌++◌, map, append-nil, append_as
 use Prim.Native.Nat.{ℕ, ◌+◌, ◌-◌, ◌≤◌, ◌<◌}
 use native.Mathlib.Nat.{add-zero}
 use native.Mathlib.Omega.{arith}
-use lib.ListN.{length, take, drop, get_or, set, length-map}
-use lib.Seq.{slice, slice_empty, length-slice, set-get_or}
+use lib.ListN.{length, take, drop, get_or, set, length-map, drop_of_length-le}
+use lib.Seq.{slice, slice_empty, length-slice, set-get_or, take-length, drop-drop}
 use Rattle.definition.specs.Layout.{Row}
 use Rattle.words.proofs.Tests.{by-test}
 use Rattle.definition.specs.Base.{whether◌then◌else◌, keep, tally}
@@ -16,7 +16,7 @@ use Rattle.definition.proofs.Thin.{tally-append}
 pub use Rattle.definition.proofs.Sums.{kept-length}
 use Rattle.table.specs.Table.{closed, close_gap, mapped, rows_removed, remove_rows, compacted}
 use Rattle.table.proofs.Bounds.{close-in, remove-in}
-use Rattle.table.proofs.Lists.{slice-take, slice_snoc, written, written_none, written-length, written_at, written-drop, written-take, written-more, written_same}
+use Rattle.table.proofs.Lists.{slice-take, slice_snoc, written, written_none, written-length, written_at, written-drop, written-take, written-more}
 
 -- ---- lists through a map
 
@@ -64,6 +64,10 @@ module _ (f : Row → Row) where
   pub mapped-size : (from to : ℕ) (rs : List Row) → from ≤ to → to ≤ length rs → from + length (map f (slice from to rs)) ≡ to
   mapped-size from to rs h b = omega (arith, length-map (slice from to rs) f, length-slice from to rs b)
 
+  -- the first i rows changed
+  abbrev pub front_mapped : ℕ → List Row → List Row
+  front_mapped i rs = mapped f 0 i rs
+
   module _ (from i : ℕ) (rs now : List Row) (h : from ≤ i) (b : i < length rs) (q : now ≡ mapped f from i rs) where
     done-length : from + length (map f (slice from i rs)) ≡ i
     done-length = mapped-size from i rs h (omega arith)
@@ -85,11 +89,20 @@ module _ (f : Row → Row) where
         ∙ written-more from i (map f (slice from i rs)) rs done-length x b
         ∙ ap (λ (l : List Row). written from l (i + 1) rs) (more x (e ∙ ap f mapped_at))
 
-    pub mapped-same : f (get_or now i []) ≡ get_or now i [] → now ≡ mapped f from (i + 1) rs
-    unfolding mapped written
-    mapped-same e =
-        q ∙ written_same from i (map f (slice from i rs)) rs done-length [] b
-        ∙ ap (λ (l : List Row). written from l (i + 1) rs) (more (get_or rs i []) (sym mapped_at ∙ sym e ∙ ap f mapped_at))
+  -- a part is lent, and each of its rows changed
+  mapped-whole : (s : List Row) → mapped f 0 (length s) s ≡ map f s
+  unfolding mapped
+  mapped-whole s = ap₂ (λ (x y : List Row). map f x ++ y) (take-length s) (drop_of_length-le s {i = length s} (omega arith)) ∙ append-nil (map f s)
+
+  pub mapped-lent : (from to i : ℕ) (rs now : List Row) → from ≤ to → i ≡ length (take (to - from) (drop from rs)) → now ≡ front_mapped i (take (to - from) (drop from rs))
+      → take from rs ++ (now ++ drop (to - from) (drop from rs)) ≡ mapped f from to rs
+  unfolding mapped
+  mapped-lent from to i rs now h e q =
+      let s : List Row = take (to - from) (drop from rs) in
+      let u : from + (to - from) ≡ to = omega arith in
+      ap₂ (λ (x y : List Row). take from rs ++ (x ++ y))
+      (q ∙ ap (λ (k : ℕ). mapped f 0 k s) e ∙ mapped-whole s ∙ ap (map f) (sym (slice-take from to rs h)))
+      (drop-drop (to - from) from rs ∙ ap (λ (n : ℕ). drop n rs) u)
 
 -- ---- rows are taken out
 

@@ -1,15 +1,14 @@
 -- The table of rows: the used rows stand at the front, in one order. What each function of the table leaves, as lists of rows.
 -- Outside its bounds a function changes nothing. A row is ten words: 0 the sequence number, 5 redelivery, 6 the delivery number, 7 freed (0 is no),
 -- 8 acknowledged in a transaction, 9 the size. Assumes nothing.
-use Rattle.std.specs.Prelude.{Bool, false, not, ◌&&◌, List, [], ◌∷◌, ◌++◌, map, ℕ, suc, ◌+◌, ◌-◌, leb, eqb, length, take, drop, get_or, set}
+use Rattle.std.specs.Prelude.{◌≡◌, Bool, false, not, ◌&&◌, List, [], ◌∷◌, ◌++◌, map, ℕ, suc, ◌+◌, ◌-◌, leb, eqb, length, take, drop, get_or, set, Option, Some, None}
 use Rattle.std.proofs.Math.Seq.{slice}
 use Rattle.words.specs.Words.{unsigned, int}
 use Rattle.entry.specs.Entry.{one_more}
 use Rattle.definition.specs.Base.{whether◌then◌else◌, keep, tally, member}
 use Rattle.definition.specs.Layout.{Row}
-use Rattle.entry.specs.declared.Found.{Found}
-use Rattle.entry.specs.declared.Found.TheVariants.{At, Nothing}
 use Rattle.table.specs.declared.Removed.{Removed}
+use Rattle.table.specs.declared.Span.{Span}
 
 -- from ≤ to ≤ n
 abbrev pub inside : ℕ → ℕ → ℕ → Bool
@@ -41,12 +40,12 @@ unfoldable pub open_gap : ℕ → ℕ → ℕ → List Row → List Row
 open_gap at k n rs = whether gap_room at n k (length rs) then lifted at k n rs else rs
 
 -- the first of the rows with that sequence number; the first of the rows stands at i
-unfoldable pub find_from : ℕ → ℕ → List Row → Found
-find_from i seq [] = Nothing
-find_from i seq (r ∷ rs) = whether eqb (get_or r 0 0) seq then At i else find_from (suc i) seq rs
+unfoldable pub find_from : ℕ → ℕ → List Row → Option ℕ
+find_from i seq [] = None
+find_from i seq (r ∷ rs) = whether eqb (get_or r 0 0) seq then Some i else find_from (suc i) seq rs
 
-unfoldable pub find_seq : ℕ → ℕ → ℕ → List Row → Found
-find_seq from to seq rs = whether inside from to (length rs) then find_from from seq (slice from to rs) else Nothing
+unfoldable pub find_seq : ℕ → ℕ → ℕ → List Row → Option ℕ
+find_seq from to seq rs = whether inside from to (length rs) then find_from from seq (slice from to rs) else None
 
 -- whether one of the rows has that sequence number
 abbrev pub holds_seq : ℕ → List Row → Bool
@@ -64,6 +63,14 @@ unfoldable pub place_of : ℕ → ℕ → ℕ → List Row → ℕ
 place_of from to seq rs = whether inside from to (length rs) then place_from from seq (slice from to rs) else to
 
 -- ---- rows of a segment, by a test and by a change of a row
+
+-- a number is from first to last
+abbrev pub in_numbers : Span → ℕ → Bool
+in_numbers p n = leb p.first n && leb n p.last
+
+-- none is from 1 to 0
+abbrev pub no_span : Span
+no_span = record { first = 1; last = 0 }
 
 -- a delivery number from first to last, both included
 abbrev pub dseq_between : ℕ → ℕ → Row → Bool
@@ -131,3 +138,7 @@ removed_range first last from to n rs = record {
 -- the rows of from..to that fail a test, moved together
 unfoldable pub compacted : (Row → Bool) → ℕ → ℕ → List Row → List Row
 compacted p from to rs = take from rs ++ (keep (λ r. not (p r)) (slice from to rs) ++ drop (to - tally p (slice from to rs)) rs)
+
+-- the answers that may come are those of a test
+abbrev pub Tests : (Row → Bool → Type 0) → (Row → Bool) → Type 0
+Tests answers p = (r : Row) (b : Bool) → answers r b → b ≡ p r

@@ -3,7 +3,8 @@
 
 ghost use Rattle.std.specs.Prelude.{◌≡◌, ◌≤◌, length};
 
-use program::Input;
+use program::{Input, Source};
+use reading::How;
 use std::fs::File;
 use std::io::{Seek, SeekFrom, Write};
 use std::os::unix::fs::FileTypeExt;
@@ -11,7 +12,8 @@ use std::{fs, io};
 use texting::Bad;
 
 // What is carried from part to part: the bytes of the last line so far, the number of the next line, the calls in the block, whether a line was bad,
-// whether the output could not be written, and whether there is more to read.
+// whether the output could not be written, and whether there is more to read: three flags, as a bad line does not end the reading. That k is at most 6
+// stands in contracts: with a ghost field each loop over it would have to be proved on the struct taken apart.
 #[derive(Clone, Copy)]
 struct Work {
     have: usize,
@@ -28,27 +30,18 @@ struct Work {
 fn last_end(buf: &[u8], n: usize) -> usize
     ensures { result ≤ n }
 {
-    let mut i = n;
-    while 0 < i {
-        if i <= buf.len() {
-            if buf[i - 1] == b'\n' {
-                return i;
-            }
-        }
-        i -= 1;
+    let read = &buf[0..n.min(buf.len())];
+    match read.iter().rposition(|b| *b == b'\n') {
+        Some(i) => i + 1,
+        None => 0,
     }
-    0
 }
 
 // Moves the bytes from a place on to the front.
 fn keep(buf: &mut [u8], from: usize, n: usize) {
-    let mut i = from;
-    while i < n {
-        if buf.len() <= i {
-            return;
-        }
-        buf[i - from] = buf[i];
-        i += 1;
+    let end = n.min(buf.len());
+    if from < end {
+        buf.copy_within(from..end, 0);
     }
 }
 
@@ -96,10 +89,11 @@ fn check(rt: HostRuntime, part: &[u8], w: Work) -> Work
 {
     let mut next = w;
     let mut from = 0;
+    // A while: the place moves on by the lines that were taken.
     while from < part.len() {
         let b = texting::first_bad(part, from, next.line);
         next.line = b.line;
-        if b.kind == 0 {
+        if b.fault.is_none() {
             return next;
         }
         complain(rt, part, b);
@@ -117,6 +111,7 @@ fn write_full(rt: HostRuntime, part: &[u8], block: &mut [u8], w: Work) -> Work
 {
     let mut next = w;
     let mut from = 0;
+    // A while: the place moves on by the lines that were taken.
     while from < part.len() {
         let f = texting::fill(part, from, block, next.k);
         if f.count < texting::FULL {
@@ -183,12 +178,9 @@ fn stopped(w: Work) -> Work
     ensures { result.k ≡ w.k }
 {
     Work {
-        have: w.have,
-        line: w.line,
-        k: w.k,
         bad: true,
-        gone: w.gone,
         more: false,
+        ..w
     }
 }
 
@@ -228,10 +220,10 @@ fn turn(
 {
     let g = program::read(rt, b"textcalls", from, buf, w.have);
     let n = g.n;
-    if g.how == reading::FAILED {
+    if g.how == How::Failed {
         return stopped(w);
     }
-    if g.how == reading::END {
+    if g.how == How::End {
         return last_part(rt, buf, n, block, w, write);
     }
     let end = last_end(buf, n);
@@ -263,8 +255,7 @@ fn pass(rt: HostRuntime, from: &mut Input, write: bool) -> Work {
         gone: false,
         more: true,
     };
-    let mut turns = 18446744073709551615u64;
-    while 0 < turns {
+    for _ in 0..u64::MAX {
         w = turn(rt, from, &mut buf, &mut block, w, write);
         if w.gone {
             return w;
@@ -272,7 +263,6 @@ fn pass(rt: HostRuntime, from: &mut Input, write: bool) -> Work {
         if !w.more {
             return w;
         }
-        turns -= 1;
     }
     stopped(w)
 }
@@ -331,7 +321,6 @@ fn place_of(rt: HostRuntime, from: &mut Input) -> Option<u64> {
             Some(place)
         }
         Input::File(file) => file.stream_position().ok(),
-        Input::Closed => None,
     }
 }
 
@@ -345,7 +334,6 @@ fn go_back(rt: HostRuntime, from: &mut Input, place: u64) -> io::Result<()> {
         Input::File(file) => {
             file.seek(SeekFrom::Start(place))?;
         }
-        Input::Closed => {}
     }
     Ok(())
 }
@@ -380,12 +368,9 @@ fn text_calls(rt: HostRuntime, from: &mut Input) {
 // ---- the argument
 
 fn main(rt: HostRuntime) {
-    let mut s = program::open_argument(rt, b"textcalls", b"usage: textcalls [FILE]\n");
-    if s.how == program::FAILED {
-        spoil(rt);
-        return;
-    }
-    if s.how == program::OPENED {
-        text_calls(rt, &mut s.input);
+    match program::open_argument(rt, b"textcalls", b"usage: textcalls [FILE]\n") {
+        Source::Opened(mut input) => text_calls(rt, &mut input),
+        Source::Nothing => {}
+        Source::Failed => spoil(rt),
     }
 }

@@ -13,41 +13,39 @@ use Rattle.textwords.specs.Text.{has_mark}
 use Rattle.calls.specs.declared.Call.{Call}
 use Rattle.callfile.specs.Blocks.{calls_in, call_at}
 use Rattle.callfile.specs.Lines.{word_field, newline, bad_line}
+use Rattle.calltext.specs.declared.Fault.{Fault}
+use Rattle.calltext.specs.declared.Fault.TheVariants.{UnknownCall, NotANumber, TooManyArguments, NotADestination, NoName}
 use Rattle.calltext.specs.Names.{name_at, code_place, minus_at}
 use Rattle.calltext.specs.Faults.{fault_word}
 use Rattle.calltext.specs.Shown.{shown_words, fields, code_field, shown_destination, destination_text, call_text}
 use Rattle.calltext.proofs.Tables.{short}
 use Rattle.calltext.proofs.Showing.{field-length, place-low, code-length, destination-length}
 use Rattle.calltext.proofs.RoundTrip.{shown-within}
-use Rattle.texting.specs.Lines.{unknown_call, no_number, too_many, no_destination, no_name, complaint, text_line_kind, shown_byte, shown_word, mark_complaint, marked_line, wrong_with}
+use Rattle.texting.specs.Lines.{unknown_call, no_number, too_many, no_destination, no_name, complaint, said_fault, shown_byte, shown_word, mark_complaint, marked_line, wrong_with}
 use Rattle.texting.specs.Shown.{call_texts, block_text}
 
 -- ---- messages
 
-module _ (kind : ℕ) where
-  pub says-unknown : kind ≡ 2 → unknown_call ≡ complaint kind
+module _ {f : Fault} where
+  pub says_unknown : f ≡ UnknownCall → unknown_call ≡ complaint f
   unfolding complaint
-  says-unknown e = rw (eq-eqb kind 2 e)
+  says_unknown e = rw e
 
-  pub says-number : kind ≡ 3 → no_number ≡ complaint kind
+  pub says_number : f ≡ NotANumber → no_number ≡ complaint f
   unfolding complaint
-  says-number e = let n : kind ≡ 2 → ⊥ = λ f. omega arith in rw (ne_eqb kind 2 n, eq-eqb kind 3 e)
+  says_number e = rw e
 
-  pub says-many : kind ≡ 4 → too_many ≡ complaint kind
+  pub says_many : f ≡ TooManyArguments → too_many ≡ complaint f
   unfolding complaint
-  says-many e = let n : kind ≡ 2 → ⊥ = λ f. omega arith in let m : kind ≡ 3 → ⊥ = λ f. omega arith in rw (ne_eqb kind 2 n, ne_eqb kind 3 m, eq-eqb kind 4 e)
+  says_many e = rw e
 
-  pub says-destination : kind ≡ 5 → no_destination ≡ complaint kind
+  pub says_destination : f ≡ NotADestination → no_destination ≡ complaint f
   unfolding complaint
-  says-destination e =
-      let n : kind ≡ 2 → ⊥ = λ f. omega arith in
-      let m : kind ≡ 3 → ⊥ = λ f. omega arith in
-      let l : kind ≡ 4 → ⊥ = λ f. omega arith in
-      rw (ne_eqb kind 2 n, ne_eqb kind 3 m, ne_eqb kind 4 l, eq-eqb kind 5 e)
+  says_destination e = rw e
 
-  pub says-name : (kind ≡ 2 → ⊥) → (kind ≡ 3 → ⊥) → (kind ≡ 4 → ⊥) → (kind ≡ 5 → ⊥) → no_name ≡ complaint kind
+  pub says_name : f ≡ NoName → no_name ≡ complaint f
   unfolding complaint
-  says-name e f g h = rw (ne_eqb kind 2 e, ne_eqb kind 3 f, ne_eqb kind 4 g, ne_eqb kind 5 h)
+  says_name e = rw e
 
 -- a byte that is shown as it is, or not
 module _ (b : ℕ) where
@@ -66,11 +64,9 @@ shown-next w i h = ap (map shown_byte) (take_next w i 0 h) ∙ map-append shown_
 
 -- a word that is not cut, and one that is
 module _ (w : List ℕ) where
-  pub shown-whole : length w ≤ 40 → map shown_byte (take (length w) w) ++ (10 ∷ []) ≡ shown_word w
+  pub shown-whole : length w ≤ 40 → map shown_byte w ++ (10 ∷ []) ≡ shown_word w
   unfolding shown_word
-  shown-whole h =
-      let e : take (length w) w ≡ take 40 w = take_all (length w) w (omega arith) ∙ sym (take_all 40 w h) in
-      rw (le-leb (length w) 40 h, e)
+  shown-whole h = rw (le-leb (length w) 40 h, take_all 40 w h)
 
   pub shown-cut : 40 < length w → map shown_byte (take 40 w) ++ (46 ∷ 46 ∷ 10 ∷ []) ≡ shown_word w
   unfolding shown_word
@@ -88,7 +84,7 @@ module _ (n : ℕ) (line : List ℕ) where
   unfolding wrong_with
   wrong-mark t = rw t
 
-  pub wrong_word : marked_line n line ≡ false → complaint (text_line_kind line) ++ shown_word (fault_word line) ≡ wrong_with n line
+  pub wrong_word : marked_line n line ≡ false → complaint (said_fault line) ++ shown_word (fault_word line) ≡ wrong_with n line
   unfolding wrong_with
   wrong_word t = rw t
 

@@ -1,9 +1,10 @@
 -- The lines of a text one by one, and what is done with each. Assumes nothing.
+use Rattle.std.specs.Prelude.{Option, Some, Ok, Err}
 use Prim.Native.Nat.{ℕ, suc, ◌+◌, ◌-◌, ◌≤◌, ◌<◌}
 use native.Mathlib.Omega.{arith}
 use mathlib.Core.Path.{◌≡◌, refl, ap, sym, ◌∙◌}
 use mathlib.Core.List.{List, [], ◌∷◌}
-use borrow.Author.Tests.{eq-eqb, ne_eqb, le-leb, lt-leb, lt-ltb, le-ltb}
+use borrow.Author.Tests.{eq-eqb, ne_eqb, le-leb, lt-leb}
 use lib.Dec.{eqb, leb}
 use lib.ListN.{length, replicate, take, drop, length-drop, drop_of_length-le}
 use lib.Seq.{length-take-le, drop-drop}
@@ -12,12 +13,12 @@ use Rattle.stats.specs.Counted.{more}
 use Rattle.textwords.specs.declared.Stop.TheVariants.{LineEnd}
 use Rattle.textwords.specs.Text.{onto, run}
 use Rattle.textwords.proofs.Words.{run-within}
-use Rattle.callblocks.specs.Packed.{with_call, sealed}
-use Rattle.calltext.specs.declared.Parsed.{Parsed}
-use Rattle.calltext.specs.Lines.{line_call}
-use Rattle.texting.specs.declared.Bad.{Bad}
+use Rattle.calls.specs.declared.Call.{Call}
+use Rattle.callblocks.specs.Packed.{sealed}
+use Rattle.calltext.specs.declared.Fault.{Fault}
+use Rattle.calltext.specs.Lines.{Parsed, line_call}
 use Rattle.texting.specs.declared.Filled.{Filled}
-use Rattle.texting.specs.Lines.{lines_of, text_line_kind, is_bad}
+use Rattle.texting.specs.Lines.{lines_of, is_bad}
 use Rattle.texting.specs.Parts.{after_line, Filling, filling, with_parsed, count_parsed, fill_from, begun, ended, sealing, Fills, bad_at, bad_nowhere, first_bad}
 
 -- ---- lines
@@ -56,13 +57,6 @@ unfolding lines_of
 lines_end t at h = rw (drop_of_length-le t h)
 
 -- ---- into a block
-
-module _ (k : ℕ) (p : Parsed) (block : List ℕ) where
-  pub call-in : p.kind ≡ 0 → (k + 1 ≡ count_parsed k p) × (with_call k p.call block ≡ with_parsed k p block)
-  call-in e = (rw (eq-eqb p.kind 0 e), rw (eq-eqb p.kind 0 e))
-
-  pub call-out : (p.kind ≡ 0 → ⊥) → (k ≡ count_parsed k p) × (block ≡ with_parsed k p block)
-  call-out e = (rw (ne_eqb p.kind 0 e), rw (ne_eqb p.kind 0 e))
 
 module _ (k : ℕ) (block : List ℕ) where
   pub begun-empty : k ≡ 0 → replicate (length block) 0 ≡ begun k block
@@ -127,28 +121,28 @@ module _ (n at : ℕ) where
   bad-none = refl
 
   module _ (l : List ℕ) (ls : List (List ℕ)) where
-    pub bad-here : 1 < text_line_kind l → first_bad n at (l ∷ ls) ≡ bad_at (text_line_kind l) n at l
+    pub bad-here : (f : Fault) → line_call l ≡ Err f → first_bad n at (l ∷ ls) ≡ bad_at (Some f) n at l
     unfolding first_bad
-    bad-here h = rw (lt-ltb 1 (text_line_kind l) h)
+    bad-here f e = rw e
 
-    pub bad-later : text_line_kind l ≤ 1 → first_bad n at (l ∷ ls) ≡ first_bad (more n) (after_line at l) ls
+    pub bad-later : (c : Option Call) → line_call l ≡ Ok c → first_bad n at (l ∷ ls) ≡ first_bad (more n) (after_line at l) ls
     unfolding first_bad
-    bad-later h = rw (le-ltb 1 (text_line_kind l) h)
+    bad-later c e = rw e
 
-module _ (n at : ℕ) (t : List ℕ) {e kind : ℕ} (w : Taken t at e) (q : kind ≡ text_line_kind (take (e - at) (drop at t))) where
-  pub bad-found : 1 < kind → record { kind = kind; line = n; from = at; to = e; at = e + 1 } ≡ first_bad n at (lines_of (drop at t))
-  bad-found h =
+module _ (n at : ℕ) (t : List ℕ) {e : ℕ} (w : Taken t at e) where
+  pub bad-found : (f : Fault) → line_call (take (e - at) (drop at t)) ≡ Err f → record { fault = Some f; line = n; from = at; to = e; at = e + 1 } ≡ first_bad n at (lines_of (drop at t))
+  bad-found f h =
       let l = take (e - at) (drop at t) in
       let end : at + length l ≡ e = omega (arith, w.next) in
-      let f : record { kind = kind; line = n; from = at; to = e; at = e + 1 } ≡ bad_at (text_line_kind l) n at l =
-      λ i. record { kind = q i; line = n; from = at; to = sym end i; at = sym w.next i } in
-      rw w.lines (f ∙ sym (bad-here n at l (lines_of (drop (e + 1) t)) (omega arith)))
+      let g : record { fault = Some f; line = n; from = at; to = e; at = e + 1 } ≡ bad_at (Some f) n at l =
+      λ i. record { fault = Some f; line = n; from = at; to = sym end i; at = sym w.next i } in
+      rw w.lines (g ∙ sym (bad-here n at l (lines_of (drop (e + 1) t)) f h))
 
-  pub bad-passed : kind ≤ 1 → first_bad (more n) (e + 1) (lines_of (drop (e + 1) t)) ≡ first_bad n at (lines_of (drop at t))
-  bad-passed h =
+  pub bad-passed : (c : Option Call) → line_call (take (e - at) (drop at t)) ≡ Ok c → first_bad (more n) (e + 1) (lines_of (drop (e + 1) t)) ≡ first_bad n at (lines_of (drop at t))
+  bad-passed c h =
       let l = take (e - at) (drop at t) in
       let ls = lines_of (drop (e + 1) t) in
-      rw w.lines (ap (λ (m : ℕ). first_bad (more n) m ls) (sym w.next) ∙ sym (bad-later n at l ls (omega arith)))
+      rw w.lines (ap (λ (m : ℕ). first_bad (more n) m ls) (sym w.next) ∙ sym (bad-later n at l ls c h))
 
 -- ---- each call takes at least a line
 

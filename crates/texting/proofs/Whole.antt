@@ -1,9 +1,11 @@
 -- What the library does call by call gives the call file and the messages of the whole text. Assumes nothing.
+use Rattle.std.specs.Prelude.{Some, None, Ok, Err}
 use Prim.Native.Nat.{ℕ, ◌+◌, ◌-◌, ◌≤◌, ◌<◌}
 use native.Mathlib.Omega.{arith}
 use mathlib.Core.Path.{◌≡◌, refl, ap, sym, ◌∙◌}
+use mathlib.Core.Bool.{false}
 use mathlib.Core.List.{List, [], ◌∷◌, ◌++◌, append-nil}
-use borrow.Author.Tests.{ne_eqb, leb-true, ltb-true, ltb-false}
+use borrow.Author.Tests.{leb-true, ltb-true, ltb-false}
 use lib.Dec.{eqb, leb, ltb}
 use lib.ListN.{length, take, drop, length-append}
 use Rattle.words.proofs.Tests.{by-test}
@@ -12,8 +14,8 @@ use Rattle.calls.specs.declared.Call.{Call}
 use Rattle.callblocks.specs.Packed.{sealed}
 use Rattle.textwords.specs.declared.Stop.TheVariants.{LineEnd}
 use Rattle.textwords.specs.Text.{onto, run}
-use Rattle.calltext.specs.Lines.{line_call}
-use Rattle.texting.specs.Lines.{lines_of, text_line_kind, is_call, is_bad, line_calls, message, messages}
+use Rattle.calltext.specs.Lines.{Parsed, line_call}
+use Rattle.texting.specs.Lines.{lines_of, is_bad, call_onto, line_calls, message, messages}
 use Rattle.texting.specs.Parts.{after_line, with_parsed, count_parsed, fill_from, first_bad, said, next_line}
 use Rattle.texting.specs.Whole.{empty, blocks}
 use Rattle.texting.proofs.Taking.{first, taken, lines_end}
@@ -75,13 +77,18 @@ unfolding blocks
 full-file block [] = sym (append-nil (sealed 7 block))
 full-file block (c ∷ cs) = refl
 
+-- a line's call, if it is one, goes into the block
+call-step : (p : Parsed) (block : List ℕ) (k : ℕ) (cs : List Call) → leb 7 k ≡ false → blocks block k (call_onto p cs) ≡ blocks (with_parsed k p block) (count_parsed k p) cs
+unfolding blocks
+call-step (Ok (Some c)) block k cs t = rw t
+call-step (Ok None) block k cs t = refl
+call-step (Err f) block k cs t = refl
+
 -- filling a block leaves the file that comes out, also with more lines behind those of the text
 fill-lines : (ls ms : List (List ℕ)) (block : List ℕ) (k at : ℕ) → blocks block k (line_calls (ls ++ ms)) ≡ blocks (fill_from block k at ls).block (fill_from block k at ls).count (line_calls ((fill_from block k at ls).rest ++ ms))
 unfolding fill_from blocks line_calls
 fill-lines [] ms block k at = refl
-fill-lines (l ∷ ls) ms block k at = by-test (leb 7 k) (λ t. rw t) (λ t. rw t (by-test (is_call l)
-    (λ c. rw (c, t) (fill-lines ls ms _ _ (after_line at l)))
-    (λ c. rw c (fill-lines ls ms block k (after_line at l)))))
+fill-lines (l ∷ ls) ms block k at = by-test (leb 7 k) (λ t. rw t) (λ t. rw t (call-step (line_call l) block k (line_calls (ls ++ ms)) t ∙ fill-lines ls ms _ _ (after_line at l)))
 
 -- the lines that are left stand where the filling ended
 fill-rest : (ls : List (List ℕ)) (block : List ℕ) (k at : ℕ) (t : List ℕ) → ls ≡ lines_of (drop at t) → (fill_from block k at ls).rest ≡ lines_of (drop (fill_from block k at ls).at t)
@@ -112,8 +119,7 @@ bad-lines (l ∷ ls) ms n at t e =
     let r = lines-tail t at l ls e in
     by-test (is_bad l)
     (λ b.
-    let z : text_line_kind l ≡ 0 → ⊥ = λ z. omega (arith, ltb-true 1 (text_line_kind l) b) in
-    rw (b, ne_eqb (text_line_kind l) 0 z) (λ i. message n (line-there t at l ls e i) ++ messages (more n) (r i ++ ms)))
+    rw (b, b) (λ i. message n (line-there t at l ls e i) ++ messages (more n) (r i ++ ms)))
     (λ b. rw b (bad-lines ls ms (more n) (after_line at l) t r))
 
 -- `first_bad`, as a step of the whole messages

@@ -1,11 +1,14 @@
 -- The lines of a text, the calls of the good ones, and what is said of the bad ones. Assumes nothing.
-use Rattle.std.specs.Prelude.{ℕ, Bool, ◌&&◌, List, [], ◌∷◌, ◌++◌, map, eqb, leb, ltb, length, take}
+use Rattle.std.specs.Prelude.{Option, Some, None, Ok, Err, ℕ, Bool, ◌&&◌, List, [], ◌∷◌, ◌++◌, map, unwrap_or, is_some, eqb, leb, length, take}
+use Rattle.std.specs.Result.{result_err}
 use Rattle.words.specs.Pick.{whether◌then◌else◌}
 use Rattle.stats.specs.Counted.{more}
 use Rattle.calls.specs.declared.Call.{Call}
 use Rattle.callfile.specs.Lines.{field}
 use Rattle.textwords.specs.Text.{onto, has_mark}
-use Rattle.calltext.specs.Lines.{line_call}
+use Rattle.calltext.specs.declared.Fault.{Fault}
+use Rattle.calltext.specs.declared.Fault.TheVariants.{UnknownCall, NotANumber, TooManyArguments, NotADestination, NoName}
+use Rattle.calltext.specs.Lines.{Parsed, line_call}
 use Rattle.calltext.specs.Faults.{fault_word}
 
 -- parted at each end of a line; the last line needs none
@@ -13,20 +16,23 @@ unfoldable pub lines_of : List ℕ → List (List ℕ)
 lines_of [] = []
 lines_of (b ∷ bs) = whether eqb b 10 then [] ∷ lines_of bs else onto b (lines_of bs)
 
--- what a line is: 0 a call, 1 empty, from 2 on a bad one
-abbrev pub text_line_kind : List ℕ → ℕ
-text_line_kind line = (line_call line).kind
-
-abbrev pub is_call : List ℕ → Bool
-is_call line = eqb (text_line_kind line) 0
+-- what is wrong with a line: nothing with a call, or an empty one
+abbrev pub line_fault : List ℕ → Option Fault
+line_fault line = result_err (line_call line)
 
 abbrev pub is_bad : List ℕ → Bool
-is_bad line = ltb 1 (text_line_kind line)
+is_bad line = is_some (line_fault line)
+
+-- a line's call before others, where it is a call
+abbrev pub call_onto : Parsed → List Call → List Call
+call_onto (Ok (Some c)) cs = c ∷ cs
+call_onto (Ok None) cs = cs
+call_onto (Err f) cs = cs
 
 -- the calls of some lines
 unfoldable pub line_calls : List (List ℕ) → List Call
 line_calls [] = []
-line_calls (l ∷ ls) = whether is_call l then (line_call l).call ∷ line_calls ls else line_calls ls
+line_calls (l ∷ ls) = call_onto (line_call l) (line_calls ls)
 
 -- `: unknown call: `, `: not a number of 64 bits: `, `: more than eight arguments: `, `: not a destination's number: `, `: no call's name after: `, each before
 -- the word at fault
@@ -45,9 +51,16 @@ no_destination = 58 ∷ 32 ∷ 110 ∷ 111 ∷ 116 ∷ 32 ∷ 97 ∷ 32 ∷ 100 
 abbrev pub no_name : List ℕ
 no_name = 58 ∷ 32 ∷ 110 ∷ 111 ∷ 32 ∷ 99 ∷ 97 ∷ 108 ∷ 108 ∷ 39 ∷ 115 ∷ 32 ∷ 110 ∷ 97 ∷ 109 ∷ 101 ∷ 32 ∷ 97 ∷ 102 ∷ 116 ∷ 101 ∷ 114 ∷ 58 ∷ 32 ∷ []
 
-unfoldable pub complaint : ℕ → List ℕ
-complaint kind =
-    whether eqb kind 2 then unknown_call else whether eqb kind 3 then no_number else whether eqb kind 4 then too_many else whether eqb kind 5 then no_destination else no_name
+unfoldable pub complaint : Fault → List ℕ
+complaint UnknownCall = unknown_call
+complaint NotANumber = no_number
+complaint TooManyArguments = too_many
+complaint NotADestination = no_destination
+complaint NoName = no_name
+
+-- what is said to be wrong with a line; of one that is not bad, that it has no name
+abbrev pub said_fault : List ℕ → Fault
+said_fault line = unwrap_or (line_fault line) NoName
 
 -- a byte of a word, if it is printable ASCII; else a question mark
 abbrev pub shown_byte : ℕ → ℕ
@@ -71,7 +84,7 @@ marked_line n line = eqb n 1 && has_mark line
 
 -- what is wrong with line n
 unfoldable pub wrong_with : ℕ → List ℕ → List ℕ
-wrong_with n line = whether marked_line n line then mark_complaint else complaint (text_line_kind line) ++ shown_word (fault_word line)
+wrong_with n line = whether marked_line n line then mark_complaint else complaint (said_fault line) ++ shown_word (fault_word line)
 
 -- `line` and a line's number
 abbrev pub line_number : ℕ → List ℕ

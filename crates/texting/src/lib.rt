@@ -4,11 +4,11 @@
 ghost use Rattle.std.specs.Prelude.{◌≡◌, ◌++◌, map, ◌+◌, ◌≤◌, length, take, drop, replicate};
 ghost use Rattle.callfile.specs.Placed.{Puts, PutLine};
 ghost use Rattle.calltext.specs.Faults.{fault_word};
-ghost use Rattle.texting.specs.Lines.{lines_of, text_line_kind, complaint, shown_byte, shown_word, marked_line, wrong_with, line_number, message, long_message};
+ghost use Rattle.texting.specs.Lines.{lines_of, said_fault, complaint, shown_byte, shown_word, marked_line, wrong_with, line_number, message, long_message};
 ghost use Rattle.texting.specs.Parts.{with_parsed, count_parsed, fill_from, begun, ended, sealing, Fills, first_bad};
 ghost use Rattle.texting.specs.Shown.{call_texts, block_text};
 
-use calltext::Parsed;
+use calltext::{Fault, Parsed};
 use textwords::Stop;
 
 // The calls of a full block.
@@ -29,10 +29,10 @@ pub struct Filled {
     pub at: usize,
 }
 
-// A bad line: its kind and number, where it stands in the text, and the place after it. Kind 0: no line is bad, and the number is that of the next line.
+// A bad line: its fault and number, where it stands in the text, and the place after it. None: no line is bad, and the number is that of the next line.
 #[derive(Clone, Copy)]
 pub struct Bad {
-    pub kind: u64,
+    pub fault: Option<Fault>,
     pub line: u64,
     pub from: usize,
     pub to: usize,
@@ -41,21 +41,11 @@ pub struct Bad {
 
 // ---- from text to blocks
 
-fn wipe(block: &mut [u8])
-    ensures { block.new ≡ replicate (length block.old) 0 }
-{
-    let mut i = 0;
-    while i < block.len() {
-        block[i] = 0;
-        i += 1;
-    }
-}
-
 fn begin(block: &mut [u8], k: usize)
     ensures { block.new ≡ begun k block.old }
 {
     if k == 0 {
-        wipe(block);
+        block.fill(0);
     }
 }
 
@@ -64,11 +54,9 @@ fn add_call(block: &mut [u8], k: usize, p: Parsed) -> usize
     requires { k ≤ 6 }
     ensures { (result ≡ count_parsed k p) × (block.new ≡ with_parsed k p block.old) × (result ≤ 7) }
 {
-    let kind = p.kind;
-    let call = p.call;
-    if kind != calltext::CALL {
+    let Ok(Some(call)) = p else {
         return k;
-    }
+    };
     callblocks::put_call(block, k, call);
     k + 1
 }
@@ -79,6 +67,7 @@ fn take_lines(text: &[u8], from: usize, block: &mut [u8], k: usize) -> Filled
 {
     let mut count = k;
     let mut at = from;
+    // A while: the place moves on by a line at each turn.
     while at < text.len() {
         if 6 < count {
             return Filled { count, at };
@@ -118,14 +107,14 @@ pub fn first_bad(text: &[u8], from: usize, line: u64) -> Bad
 {
     let mut n = line;
     let mut at = from;
+    // A while: the place moves on by a line at each turn.
     while at < text.len() {
         let e = textwords::scan(text, at, Stop::LineEnd);
         let p = calltext::parse(&text[at..e]);
-        let kind = p.kind;
         let next = e + 1;
-        if calltext::EMPTY < kind {
+        if let Err(fault) = p {
             return Bad {
-                kind,
+                fault: Some(fault),
                 line: n,
                 from: at,
                 to: e,
@@ -136,7 +125,7 @@ pub fn first_bad(text: &[u8], from: usize, line: u64) -> Bad
         at = next;
     }
     Bad {
-        kind: 0,
+        fault: None,
         line: n,
         from: at,
         to: at,
@@ -147,42 +136,36 @@ pub fn first_bad(text: &[u8], from: usize, line: u64) -> Bad
 // ---- messages
 
 // What is wrong with a line.
-fn put_complaint(out: &mut [u8], at: usize, kind: u64) -> usize
+fn put_complaint(out: &mut [u8], at: usize, fault: Fault) -> usize
     requires { at + 30 ≤ length out.old }
-    ensures { Puts (complaint kind) at out.old result out.new × (result ≤ at + 30) }
+    ensures { Puts (complaint fault) at out.old result out.new × (result ≤ at + 30) }
 {
-    match kind {
-        calltext::UNKNOWN => callfile::put_all(out, at, b": unknown call: "),
-        calltext::NO_NUMBER => callfile::put_all(out, at, b": not a number of 64 bits: "),
-        calltext::TOO_MANY => callfile::put_all(out, at, b": more than eight arguments: "),
-        calltext::NO_DESTINATION => callfile::put_all(out, at, b": not a destination's number: "),
-        _ => callfile::put_all(out, at, b": no call's name after: "),
+    match fault {
+        Fault::UnknownCall => callfile::put_all(out, at, b": unknown call: "),
+        Fault::NotANumber => callfile::put_all(out, at, b": not a number of 64 bits: "),
+        Fault::TooManyArguments => callfile::put_all(out, at, b": more than eight arguments: "),
+        Fault::NotADestination => callfile::put_all(out, at, b": not a destination's number: "),
+        Fault::NoName => callfile::put_all(out, at, b": no call's name after: "),
     }
 }
 
 fn shown(b: u8) -> u8
     ensures { result ≡ shown_byte b }
 {
-    if b < 32 {
-        return b'?';
+    match b {
+        b' '..=b'~' => b,
+        _ => b'?',
     }
-    if 126 < b {
-        return b'?';
-    }
-    b
 }
 
-// The first n bytes of a word.
-fn put_bytes(out: &mut [u8], at: usize, word: &[u8], n: usize) -> usize
-    requires { (n ≤ length word.now) × (at + n ≤ length out.old) }
-    ensures { Puts (map shown_byte (take n word.now)) at out.old result out.new × (result ≤ at + n) }
+// Bytes of a word.
+fn put_bytes(out: &mut [u8], at: usize, part: &[u8]) -> usize
+    requires { at + length part.now ≤ length out.old }
+    ensures { Puts (map shown_byte part.now) at out.old result out.new × (result ≤ at + length part.now) }
 {
     let mut next = at;
-    let mut i = 0;
-    while i < n {
-        let b = shown(word[i]);
-        next = callfile::put_byte(out, next, b);
-        i += 1;
+    for b in part {
+        next = callfile::put_byte(out, next, shown(*b));
     }
     next
 }
@@ -193,24 +176,23 @@ fn put_shown(out: &mut [u8], at: usize, word: &[u8]) -> usize
     ensures { Puts (shown_word word.now) at out.old result out.new × (result ≤ at + 43) }
 {
     if word.len() <= CUT {
-        let a = put_bytes(out, at, word, word.len());
+        let a = put_bytes(out, at, word);
         return callfile::put_all(out, a, b"\n");
     }
-    let a = put_bytes(out, at, word, CUT);
+    let a = put_bytes(out, at, &word[0..CUT]);
     callfile::put_all(out, a, b"..\n")
 }
 
 // What is wrong with a line, and the word at fault.
 fn put_fault(out: &mut [u8], at: usize, line: &[u8]) -> usize
     requires { at + 73 ≤ length out.old }
-    ensures { Puts (complaint (text_line_kind line.now) ++ shown_word (fault_word line.now)) at out.old result out.new × (result ≤ at + 73) }
+    ensures { Puts (complaint (said_fault line.now) ++ shown_word (fault_word line.now)) at out.old result out.new × (result ≤ at + 73) }
 {
-    let p = calltext::parse(line);
-    let kind = p.kind;
+    let fault = calltext::parse(line).err().unwrap_or(Fault::NoName);
     let f = calltext::fault_of(line);
     let from = f.from;
     let to = f.to;
-    let a = put_complaint(out, at, kind);
+    let a = put_complaint(out, at, fault);
     put_shown(out, a, &line[from..to])
 }
 
@@ -289,11 +271,8 @@ fn put_calls(out: &mut [u8], block: &[u8], count: usize) -> usize
     ensures { Puts (call_texts count block.now) 0 out.old result out.new × (result ≤ 3584) }
 {
     let mut at = 0;
-    let mut k = 0;
-    while k < count {
-        let c = callfile::call_at(block, k);
-        at = calltext::put_text(out, at, c);
-        k += 1;
+    for k in 0..count {
+        at = calltext::put_text(out, at, callfile::call_at(block, k));
     }
     at
 }

@@ -1,29 +1,24 @@
 -- A scan, byte by byte, and a comparison. Assumes nothing.
-use Prim.Native.Nat.{ℕ, suc, ◌+◌, ◌≤◌, ◌<◌}
+use Rattle.std.proofs.Common.{ℕ, suc, ◌<◌, ◌≤◌, drop, ◌≡◌, refl, ap, ◌∙◌, Bool, true, false, ◌&&◌, List, [], ◌∷◌, length, Option, MatchOption, unwrap_or}
 use native.Mathlib.Numerals.{add-one}
-use mathlib.Core.Path.{◌≡◌, refl, ap}
-use mathlib.Core.Bool.{true, false, and-eq-true_iff, false≢true}
-use mathlib.Core.List.{List, [], ◌∷◌}
-use borrow.Author.Tests.{eq-eqb, ne_eqb}
+use Rattle.std.specs.List.{AllWithin, HoldsAt}
+use Rattle.std.specs.Cmp.Lexicographic.{pointwise}
+use Rattle.std.proofs.lemmas.Iterator.{index_from_first}
+use mathlib.Core.Bool.{and-eq-true_iff, false≢true}
+use lib.ListN.{drop_of_length-le}
 use lib.Dec.{eqb}
-use lib.ListN.{length, get_or, drop, drop_of_length-le}
-use lib.Seq.{drop-cons}
-use Rattle.words.proofs.Tests.{by-test}
+use Rattle.words.proofs.Tests.{eqb_comm, by-test}
 use Rattle.textwords.specs.declared.Stop.{Stop}
 use Rattle.textwords.specs.Text.{stops, run, same_text}
 
-module _ (s : Stop) (l : List ℕ) (i : ℕ) where
-  pub run-stop : i < length l → stops s (get_or l i 0) ≡ true → run s (drop i l) ≡ 0
-  unfolding run
-  run-stop h t = rw (drop-cons l i 0 h, t)
+pub run_end : (s : Stop) (l : List ℕ) (i : ℕ) → length l ≤ i → run s (drop i l) ≡ 0
+unfolding run
+run_end s l i h = rw (drop_of_length-le l h)
 
-  pub run_more : i < length l → stops s (get_or l i 0) ≡ false → run s (drop i l) ≡ suc (run s (drop (i + 1) l))
-  unfolding run
-  run_more h t = rw (add-one i, drop-cons l i 0 h, t)
-
-  pub run_end : length l ≤ i → run s (drop i l) ≡ 0
-  unfolding run
-  run_end h = rw (drop_of_length-le l h)
+-- where the first byte is that stops a scan
+pub run-position : (s : Stop) (l : List ℕ) (r : Option ℕ) → MatchOption r (AllWithin (λ (b : ℕ). stops s b ≡ false) l 0 (length l)) (λ (i : ℕ). (i < length l) × HoldsAt (λ (b : ℕ). stops s b ≡ true) l i × AllWithin (λ (b : ℕ). stops s b ≡ false) l 0 i) → run s l ≡ unwrap_or r (length l)
+unfolding run
+run-position s l r h = index_from_first (run s) (λ (b : ℕ). stops s b ≡ true) (λ (b : ℕ). stops s b ≡ false) refl (λ x xs t. rw t) (λ x xs t. rw (t, add-one (run s xs))) l r h
 
 -- ---- two texts
 
@@ -37,15 +32,18 @@ same-lengths (x ∷ xs) (y ∷ ys) t = ap suc (same-lengths xs ys ((and-eq-true_
 pub other-lengths : (a b : List ℕ) → (length a ≡ length b → ⊥) → same_text a b ≡ false
 other-lengths a b h = by-test (same_text a b) (λ t. absurd (h (same-lengths a b t))) (λ t. t)
 
-module _ (a b : List ℕ) (i : ℕ) (h : i < length a) (k : i < length b) where
-  pub same_byte : get_or a i 0 ≡ get_or b i 0 → same_text (drop (i + 1) a) (drop (i + 1) b) ≡ same_text (drop i a) (drop i b)
-  unfolding same_text
-  same_byte e = rw (add-one i, drop-cons a i 0 h, drop-cons b i 0 k, eq-eqb _ _ e)
-
-  pub other_byte : (get_or a i 0 ≡ get_or b i 0 → ⊥) → same_text (drop i a) (drop i b) ≡ false
-  unfolding same_text
-  other_byte n = rw (drop-cons a i 0 h, drop-cons b i 0 k, ne_eqb _ _ n)
-
-pub same_end : (a b : List ℕ) (i : ℕ) → length a ≤ i → length b ≤ i → same_text (drop i a) (drop i b) ≡ true
+-- the answer of `==`
+pub same-equal : (a b : List ℕ) → pointwise eqb a b ≡ same_text a b
 unfolding same_text
-same_end a b i h k = rw (drop_of_length-le a h, drop_of_length-le b k)
+same-equal [] [] = refl
+same-equal [] (y ∷ ys) = refl
+same-equal (x ∷ xs) [] = refl
+same-equal (x ∷ xs) (y ∷ ys) = ap (λ (r : Bool). eqb x y && r) (same-equal xs ys)
+
+-- and of `starts_with`, which compares the other way around
+pub same-turned : (a b : List ℕ) → pointwise eqb a b ≡ same_text b a
+unfolding same_text
+same-turned [] [] = refl
+same-turned [] (y ∷ ys) = refl
+same-turned (x ∷ xs) [] = refl
+same-turned (x ∷ xs) (y ∷ ys) = ap (λ (r : Bool). eqb x y && r) (same-turned xs ys) ∙ ap (λ (t : Bool). t && same_text ys xs) (eqb_comm x y)

@@ -1,9 +1,9 @@
 // Text in words and numbers.
 #![tactic(auto)]
 
-ghost use Rattle.std.specs.Prelude.{◌≡◌, ◌+◌, drop};
+ghost use Rattle.std.specs.Prelude.{◌≡◌, ◌+◌, Some, drop};
 ghost use Rattle.textwords.specs.Text.{stops, run, blank, same_text, has_mark};
-ghost use Rattle.textwords.specs.Numbers.{digits_after, negated, number_of};
+ghost use Rattle.textwords.specs.Numbers.{unsigned_of, negated, number_of};
 
 const SPACE: u8 = 32;
 
@@ -15,8 +15,6 @@ const NEW_LINE: u8 = 10;
 
 const REMARK: u8 = 35;
 
-const MINUS: u8 = 45;
-
 // What a scan stops at: what parts words, a word, a remark, the end of a line.
 #[derive(Clone, Copy)]
 pub enum Stop {
@@ -24,13 +22,6 @@ pub enum Stop {
     Word,
     Remark,
     LineEnd,
-}
-
-// A word of text as a number of 64 bits.
-#[derive(Clone, Copy)]
-pub enum Number {
-    Of(u64),
-    Bad,
 }
 
 // ---- words
@@ -56,95 +47,64 @@ fn stops_at(s: Stop, b: u8) -> bool
 pub fn scan(text: &[u8], at: usize, s: Stop) -> usize
     ensures { result ≡ at + run s (drop at text.now) }
 {
-    let mut i = at;
-    while i < text.len() {
-        if stops_at(s, text[i]) {
-            return i;
-        }
-        i += 1;
-    }
-    i
+    let Some(rest) = text.get(at..) else {
+        return at;
+    };
+    at + rest
+        .iter()
+        .position(|b| stops_at(s, *b))
+        .unwrap_or(rest.len())
 }
 
 pub fn same(a: &[u8], b: &[u8]) -> bool
     ensures { result ≡ same_text a.now b.now }
 {
-    if a.len() != b.len() {
-        return false;
-    }
-    let mut i = 0;
-    while i < a.len() {
-        if a[i] != b[i] {
-            return false;
-        }
-        i += 1;
-    }
-    true
+    a == b
 }
 
 // Whether a text begins with a byte order mark, which some editors put there.
 pub fn has_mark(text: &[u8]) -> bool
     ensures { result ≡ has_mark text.now }
 {
-    if text.len() < 3 {
-        return false;
-    }
-    same(&text[0..3], &[239, 187, 191])
+    text.starts_with(&[239, 187, 191])
 }
 
 // ---- numbers
 
-// The number of the digits from a place on.
-fn digits(s: &[u8], from: usize) -> Number
-    ensures { result ≡ digits_after 0 (drop from s.now) }
+// The number of a text of digits.
+fn unsigned(s: &[u8]) -> Option<u64>
+    ensures { result ≡ unsigned_of s.now }
 {
+    if s.is_empty() {
+        return None;
+    }
     let mut n: u64 = 0;
-    let mut i = from;
-    while i < s.len() {
-        let b = words::wide(s[i]);
-        if b < 48 {
-            return Number::Bad;
-        }
-        if 57 < b {
-            return Number::Bad;
-        }
-        let d = b - 48;
-        if (words::MINUS_ONE - d) / 10 < n {
-            return Number::Bad;
-        }
-        n = n * 10 + d;
-        i += 1;
+    for b in s {
+        let d = match *b {
+            b'0'..=b'9' => *b - b'0',
+            _ => return None,
+        };
+        n = n.checked_mul(10)?.checked_add(u64::from(d))?;
     }
-    Number::Of(n)
+    Some(n)
 }
 
-fn negative(m: Number) -> Number
-    ensures { result ≡ negated m }
+// Less than nothing by n.
+fn negative(n: u64) -> Option<u64>
+    ensures { result ≡ negated (Some n) }
 {
-    let Number::Of(n) = m else {
-        return Number::Bad;
-    };
-    if n == 0 {
-        return Number::Of(0);
-    }
     if words::NEGATIVE < n {
-        return Number::Bad;
+        return None;
     }
-    Number::Of(words::MINUS_ONE - n + 1)
+    Some(n.wrapping_neg())
 }
 
-// A word of text as a number.
-pub fn number_of(s: &[u8]) -> Number
+// A word of text as a number of 64 bits, negative after a minus.
+pub fn number_of(s: &[u8]) -> Option<u64>
     ensures { result ≡ number_of s.now }
 {
-    if s.len() == 0 {
-        return Number::Bad;
+    match s.strip_prefix(b"-") {
+        Some(rest) => negative(unsigned(rest)?),
+        None => unsigned(s),
     }
-    if s[0] != MINUS {
-        return digits(s, 0);
-    }
-    if s.len() == 1 {
-        return Number::Bad;
-    }
-    negative(digits(s, 1))
 }

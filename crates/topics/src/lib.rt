@@ -37,6 +37,7 @@ fn serve_topic(
 {
     let mut s = start;
     let mut d = before;
+    // A while: the consumer and the rows change as copies go.
     while 0 < s.held {
         if !s.has_credit() {
             return Served { sub: s, head: d };
@@ -65,10 +66,7 @@ fn can_serve(subs: &[SubRow], i: usize) -> bool
     ensures { result ≡ can_serve (get_or subs.now i []) }
 {
     let s = consumers::load(subs, i);
-    if 0 < s.held {
-        return s.has_credit();
-    }
-    false
+    0 < s.held && s.has_credit()
 }
 
 // Each consumer in turn; base is where its rows begin.
@@ -82,23 +80,19 @@ fn serve_all(
     requires { Fits subs.old before (length rows.old) (length events.old) × (before.queue ≡ false) × (by ≤ 2 ^ 62) }
     ensures { Leaves (dispatch_topic by) before result subs.old rows.old events.old subs.new rows.new events.new × Dispatched before result }
 {
-    let n = before.consumers;
     let mut d = before;
     let mut base = 0;
-    let mut i = 0;
-    while i < n {
+    for i in 0..before.consumers {
         let s = consumers::load(subs, i);
-        if can_serve(subs, i) {
-            let r = serve_topic(rows, events, base, s, d, by);
-            let t = r.sub;
-            d = r.head;
-            base = base + t.inflight + t.held;
-            consumers::store(subs, i, t);
-            i += 1;
-        } else {
+        if !can_serve(subs, i) {
             base = base + s.inflight + s.held;
-            i += 1;
+            continue;
         }
+        let r = serve_topic(rows, events, base, s, d, by);
+        let t = r.sub;
+        d = r.head;
+        base = base + t.inflight + t.held;
+        consumers::store(subs, i, t);
     }
     d
 }

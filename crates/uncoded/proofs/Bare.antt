@@ -1,15 +1,14 @@
 -- A call that has no arguments and no refusal of its own, and one that only counts. Assumes nothing.
-use mathlib.Core.Path.{◌≡◌, refl, sym, ap, ◌∙◌, subst, subst⁻¹}
-use mathlib.Core.Bool.{Bool, true, false}
+use mathlib.Core.Path.{◌≡◌, refl, sym, ap, ◌∙◌, subst⁻¹}
+use mathlib.Core.Bool.{true, false}
 use mathlib.Core.List.{List, [], append-nil}
-use Prim.Native.Nat.{ℕ, zero, suc, ◌+◌, ◌≤◌}
+use Prim.Native.Nat.{ℕ, zero, suc}
 use native.Mathlib.Omega.{arith}
 use borrow.Author.Tests.{eq-eqb, ne_eqb}
 use lib.Dec.{eqb}
 use lib.ListN.{length, take}
 use Rattle.stats.specs.declared.Stats.{Stats}
 use Rattle.stats.specs.Counted.{with_expired_by, with_discarded_by}
-use Rattle.definition.specs.Base.{whether◌then◌else◌}
 use Rattle.definition.specs.Types.{Dest}
 use Rattle.definition.specs.Consumer.{◌⊕◌, add_expired, add_discarded}
 use Rattle.definition.specs.Destination.{count}
@@ -18,7 +17,6 @@ use Rattle.definition.specs.Layout.{Row, Buffers, view, formed, sound_buffers, l
 use Rattle.definition.proofs.Tests.{by-test, and_left}
 use Rattle.definition.proofs.Kept.{call-sound}
 use Rattle.state.specs.declared.Head.{Head}
-use Rattle.state.specs.declared.Answer.{Answer}
 use Rattle.state.specs.State.{head_view, loaded, stored_head, with_counters, done_as}
 use Rattle.state.specs.Fits.{Fits}
 use Rattle.state.specs.Leaves.{silent, Leaves}
@@ -29,7 +27,7 @@ use Rattle.engine.specs.declared.Outcome.{Outcome}
 use Rattle.uncoded.specs.Bare.{bare_refusal}
 use Rattle.engine.specs.Called.{outcome, Called}
 use Rattle.engine.specs.Performs.{Performs}
-use Rattle.engine.specs.Opened.{counted, finished}
+use Rattle.engine.specs.Opened.{counted}
 use Rattle.engine.proofs.Refusing.{done, call-refused, call-done}
 use Rattle.engine.proofs.Called.{refused-called, performed-called}
 use Rattle.engine.proofs.Performed.{silent-performs}
@@ -180,16 +178,15 @@ module _ (c : Call) (ok : arguments_ok c ≡ true) (free : (t : Dest) → own_re
       counted-done : Called q b (lent (stored_head (counted (with_counters x d)) h) subs rows) events events (outcome 0 0 d.events)
       counted-done = performed-called h subs rows events roomy whole c q (bare-done c ok free b (length events) z) (bare-leaves c ok free b (length events) z) (done_as 0 (with_counters x d)) subs rows events performs refl
 
-      pub counted-called : (a : Answer) → a ≡ done_as 0 (with_counters x d) → (r : Outcome) → r ≡ finished a → (h' : List ℕ) → h' ≡ (whether eqb a.refusal 0 then stored_head (counted a.head) h else h)
-          → Called q b (lent h' subs rows) events events r
-      counted-called a e r f h' g =
-          subst⁻¹ (λ (k : List ℕ). Called q b (lent k subs rows) events events r) (subst (λ (y : Answer). h' ≡ (whether eqb y.refusal 0 then stored_head (counted y.head) h else h)) e g)
-          (subst⁻¹ (λ (o : Outcome). Called q b (lent (stored_head (counted (with_counters x d)) h) subs rows) events events o) (f ∙ ap finished e) counted-done)
+      pub counted-called : (m : Head) → m ≡ with_counters x d → (r : Outcome) → r ≡ outcome 0 0 m.events → (h' : List ℕ) → h' ≡ stored_head (counted m) h → Called q b (lent h' subs rows) events events r
+      counted-called m e r f h' g =
+          subst⁻¹ (λ (k : List ℕ). Called q b (lent k subs rows) events events r) (g ∙ ap (λ (y : Head). stored_head (counted y) h) e)
+          (subst⁻¹ (λ (o : Outcome). Called q b (lent (stored_head (counted (with_counters x d)) h) subs rows) events events o) (f ∙ ap (λ (y : Head). outcome 0 0 y.events) e) counted-done)
 
 -- ---- the two calls
 
-module _ (h : List ℕ) (subs rows events : List Row) (z : bare_refusal (lent h subs rows) (length events) ≡ 0) (d x : Head) (is : d ≡ loaded h subs) (a : Answer) (e : a ≡ done_as 0 x)
-    (r : Outcome) (f : r ≡ finished a) (h' : List ℕ) (g : h' ≡ (whether eqb a.refusal 0 then stored_head (counted a.head) h else h))
+module _ (h : List ℕ) (subs rows events : List Row) (z : bare_refusal (lent h subs rows) (length events) ≡ 0) (d x : Head) (is : d ≡ loaded h subs)
+    (r : Outcome) (f : r ≡ outcome 0 0 x.events) (h' : List ℕ) (g : h' ≡ stored_head (counted x) h)
   where
     pub discarded-called : x ≡ with_counters (with_discarded_by d.stats 1) d → Called (buffer_call (lent h subs rows) (length events) discarding) (lent h subs rows) (lent h' subs rows) events events r
     unfolding arguments_ok own_refusal perform
@@ -197,7 +194,7 @@ module _ (h : List ℕ) (subs rows events : List Row) (z : bare_refusal (lent h 
         let n : Head = loaded h subs in
         let k = (bare-fits discarding refl (λ t. refl) h subs rows events z (add_discarded 1) (λ t. refl)).discarded in
         counted-called discarding refl (λ t. refl) h subs rows events z (add_discarded 1) (λ t. refl) (with_discarded_by n.stats 1) (discarded-plain n.stats 1 (omega (arith, k)))
-        a (e ∙ ap (done_as 0) (y ∙ ap (λ (m : Head). with_counters (with_discarded_by m.stats 1) m) is)) r f h' g
+        x (y ∙ ap (λ (m : Head). with_counters (with_discarded_by m.stats 1) m) is) r f h' g
 
     pub missing-called : x ≡ with_counters (with_expired_by d.stats 1) d → Called (buffer_call (lent h subs rows) (length events) missing) (lent h subs rows) (lent h' subs rows) events events r
     unfolding arguments_ok own_refusal perform
@@ -205,7 +202,7 @@ module _ (h : List ℕ) (subs rows events : List Row) (z : bare_refusal (lent h 
         let n : Head = loaded h subs in
         let k = (bare-fits missing refl (λ t. refl) h subs rows events z (add_expired 1) (λ t. refl)).expired in
         counted-called missing refl (λ t. refl) h subs rows events z (add_expired 1) (λ t. refl) (with_expired_by n.stats 1) (expired-plain n.stats 1 (omega (arith, k)))
-        a (e ∙ ap (done_as 0) (y ∙ ap (λ (m : Head). with_counters (with_expired_by m.stats 1) m) is)) r f h' g
+        x (y ∙ ap (λ (m : Head). with_counters (with_expired_by m.stats 1) m) is) r f h' g
 
 -- refused, each
 module _ (h : List ℕ) (subs rows events : List Row) (k : ℕ) (e : k ≡ bare_refusal (lent h subs rows) (length events)) (n : k ≡ 0 → ⊥) (r : Outcome) (f : r ≡ outcome k 0 0) where

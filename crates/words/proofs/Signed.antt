@@ -2,24 +2,20 @@
 -- Assumes nothing.
 use mathlib.Core.Path.{◌≡◌, refl, sym, ap, ◌∙◌}
 use mathlib.Core.Bool.{Bool, true, false}
-use Prim.Native.Nat.{ℕ, zero, suc, ◌-◌, ◌*◌, ◌≤◌, ◌<◌, ◌^◌}
+use Prim.Native.Nat.{ℕ, zero, suc, ◌-◌, ◌<◌, ◌^◌}
 use native.Mathlib.Nat.{zero-add}
 use native.Mathlib.Omega.{arith}
-use borrow.Author.Tests.{leb-false, le-ltb}
+use borrow.Author.Tests.{leb-false}
 use lib.IntN.{ℤ, pos, negsuc, ◌-ℤ◌}
 use lib.Signed.{le_z}
-use mir.Syntax.{Width, w64}
-use mir.Val.{SFits, to_z, of_z, bits, hbits}
-use mir.ValLaws.{to_z_pos, to_z-of_z, pow-bits}
+use mir.Syntax.{w64}
+use mir.Val.{SFits, to_z, of_z}
+use mir.ValLaws.{to_z-of_z}
 
 -- -1 - k
 pub flip : (k : ℕ) → negsuc 0 -ℤ pos k ≡ negsuc k
 flip zero = refl
 flip (suc k) = ap (λ (n : ℕ). negsuc (suc n)) (zero-add k)
-
--- -1 - (-n - 1)
-pub flip⁻ : (n : ℕ) → negsuc 0 -ℤ negsuc n ≡ pos n
-flip⁻ n = rw (le-ltb (suc n) 1 (omega arith)) (ap pos (omega arith))
 
 negative : (x : ℤ) → le_z (pos 0) x ≡ false → (n : ℕ) × (x ≡ negsuc n)
 negative (pos n) t = absurd (let h : n < 0 = leb-false 0 n t in omega arith)
@@ -28,21 +24,6 @@ negative (negsuc n) t = (n, refl)
 positive : (x : ℤ) → le_z (pos 0) x ≡ true → (n : ℕ) × (x ≡ pos n)
 positive (pos n) t = (n, refl)
 positive (negsuc n) t = let z : ◌≡◌ {A = Bool} true false = sym t in absurd (let y : ◌≡◌ {A = ℕ} 0 1 = cc in omega arith)
-
--- a number in the upper half of a width: the code's own sum, that it fits, and that it is the signed number of those bits
-module _ (v : Width) (w : ℕ) (h : 2 ^ hbits v ≤ w) (k : w < 2 ^ bits v) where
-  pub upper : negsuc 0 -ℤ to_z v (2 ^ bits v - 1 - w) ≡ negsuc (2 ^ bits v - suc w)
-  upper =
-      let e : 2 ^ bits v ≡ 2 ^ hbits v * 2 = pow-bits v in
-      let f : 2 ^ bits v - 1 - w ≡ 2 ^ bits v - suc w = omega arith in
-      let g : 2 ^ bits v - suc w < 2 ^ hbits v = omega arith in
-      rw (f, to_z_pos v (2 ^ bits v - suc w) g) (flip (2 ^ bits v - suc w))
-
-  pub upper_fits : SFits v (negsuc 0 -ℤ to_z v (2 ^ bits v - 1 - w))
-  upper_fits = let e : 2 ^ bits v ≡ 2 ^ hbits v * 2 = pow-bits v in rw upper (record { sfits = omega arith })
-
-  pub upper_is : to_z v (of_z v (negsuc 0 -ℤ to_z v (2 ^ bits v - 1 - w))) ≡ to_z v w
-  upper_is = let e : 2 ^ bits v - suc (2 ^ bits v - suc w) ≡ w = omega arith in rw upper (ap (to_z v) e)
 
 -- a number whose sign the code has tested, with the code's reading of it through its bits
 pub as-negative : (x : ℤ) → SFits w64 x → le_z (pos 0) (to_z w64 (of_z w64 x)) ≡ false

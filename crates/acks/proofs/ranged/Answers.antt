@@ -4,7 +4,7 @@ pub returns-in-Empty : goal.returns-in-Empty
 returns-in-Empty c = rw c.in-Empty.is c.none.ensures
 
 pub returns-in-Between : goal.returns-in-Between
-returns-in-Between c = rw (c.in-Between.is, c.least.ensures)
+returns-in-Between c = rw (c.in-Between.is, c.min.ensures)
 
 pub returns-in-Cumulative : goal.returns-in-Cumulative
 returns-in-Cumulative c = rw c.in-Cumulative.is

@@ -1,4 +1,6 @@
-use mathlib.Core.Path.{sym, ◌∙◌}
+use mathlib.Core.Path.{sym, ap, ◌∙◌}
+use Rattle.std.proofs.Common.{Ok}
+use Rattle.broker.specs.declared.Admission.{Admission}
 use borrow.Author.Tests.{lt-ltb, le-ltb, eq-eqb, ne_eqb}
 use Rattle.broker.specs.Broker.{admit_memory}
 use Rattle.broker.proofs.admit_memory.Goals as goal
@@ -38,7 +40,7 @@ unfolding admit_memory
 returns c =
     let e = le-ltb _ _ c.if-limit-gt-MEMORY_MOST.false in
     let n = ne_eqb _ _ c.if-limit-eq0.false in
-    c.room_for.ensures ∙
+    ap (λ (a : Admission). Ok a) c.room_for.ensures ∙
     (elim c.else-limited.branch [
       | else-limited-via-then-limited+else-not-below_nine_tenths w ↦
           let h = sym w.below_nine_tenths.ensures ∙ w.if-not-below_nine_tenths.false in

@@ -30,11 +30,8 @@ base-in_range c =
 pub returns-then-not-in_range : goal.returns-then-not-in_range
 unfolding apply_expiry_options
 returns-then-not-in_range c =
-    let t = c.args.t in
-    let f : SFits w64 t.expiration = search rules in
-    let g : SFits w64 t.timestamp = search rules in
     let e = rw (to_z-of_z w64 c.args.now c.ranges.now) at c.in_range.ensures in
-    rw (to_z-of_z w64 t.expiration f, to_z-of_z w64 t.timestamp g, sym e ∙ c.if-not-in_range.true)
+    rw (sym e ∙ c.if-not-in_range.true)
 
 pub rebased-a-requires : goal.rebased-a-requires
 rebased-a-requires c = sym c.in_range.ensures ∙ c.if-not-in_range.false
@@ -54,10 +51,7 @@ unfolding apply_expiry_options expiry_steps
 returns c =
     let z = to_z-of_z w64 c.args.now c.ranges.now in
     let h : SFits w64 c.base_of-base.result = search rules in
-    let m = c.capped-c.result in
-    let f : SFits w64 m.expiration = search rules in
-    let g : SFits w64 m.timestamp = search rules in
     let y = to_z-of_z w64 c.base_of-base.result h in
     let b = rw (z, y, (based (goal.at.returns c).After-base_of-base).0, (based (goal.at.returns c).After-base_of-base).1) at c.defaulted-b.ensures in
     let e = rw (y, b, (based (goal.at.returns c).After-base_of-base).1) at c.capped-c.ensures in
-    rw (to_z-of_z w64 m.expiration f, to_z-of_z w64 m.timestamp g, rw z at c.expired.ensures, e, in_range (goal.at.returns c).After-base_of-base)
+    rw (rw z at c.expired.ensures, e, in_range (goal.at.returns c).After-base_of-base)

@@ -4,6 +4,3 @@ use Rattle.browsers.proofs.serve_each.Given as goal
 
 abbrev pub invariant-loop-i : goal.invariant-loop-i
 invariant-loop-i l = Round l.by l.initial.subs l.initial.rows l.initial.events l.initial.d l.subs l.rows l.events l.d l.base l.i
-
-abbrev pub decreases-loop-i : goal.decreases-loop-i
-decreases-loop-i l = l.n - l.i

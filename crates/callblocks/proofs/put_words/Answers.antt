@@ -1,4 +1,3 @@
-use Prim.Native.Nat.{◌-◌}
 use lib.ListN.{get_or}
 use lib.Seq.{take_all}
 use Rattle.callfile.proofs.Parts.{then, nothing}
@@ -7,11 +6,11 @@ use native.Mathlib.Omega.{arith}
 use borrow.Author.Rules.{rules}
 use Rattle.callblocks.proofs.put_words.Goals as goal
 
-pub loop-k-init : goal.loop-k-init
-loop-k-init c = let a = c.args in (search rules, omega arith, omega arith, rw (no_word a.w) (nothing a.at a.block.now).0)
+pub loop-x-init : goal.loop-x-init
+loop-x-init c = let a = c.args in (search rules, omega arith, rw (no_word a.w) (nothing a.at a.block.now).0)
 
-pub loop-k-preserved : goal.loop-k-preserved
-loop-k-preserved c = let a = c.args in let v = c.loop-k.invariant in let p = c.put_bytes-next.ensures in (v.0, omega arith, omega (arith, p.next, bytes-length 8 (get_or a.w c.loop-k.k 0)), rw (one_word a.w c.loop-k.k (omega arith)) (then v.3 p))
+pub loop-x-preserved : goal.loop-x-preserved
+loop-x-preserved c = let a = c.args in let v = c.loop-x.invariant in let p = c.put_bytes-next.ensures in (v.0, omega (arith, p.next, bytes-length 8 (get_or a.w c.loop-x.x-index 0)), rw (one_word a.w c.loop-x.x-index (omega arith)) (then v.2 p))
 
 pub returns : goal.returns
-returns c = let a = c.args in let v = c.loop-k.invariant in rw (take_all c.loop-k.k a.w (omega arith)) at v.3
+returns c = let a = c.args in let v = c.loop-x.invariant in rw (take_all c.loop-x.x-index a.w (omega arith)) at v.2

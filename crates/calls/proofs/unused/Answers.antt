@@ -1,14 +1,12 @@
-use Prim.Native.Nat.{◌-◌}
-use mathlib.Core.Path.{sym, ◌∙◌}
-use native.Mathlib.Omega.{arith}
-use Rattle.calls.proofs.Rest.{used-word, unused-word, no_word}
+use Rattle.std.proofs.Common.{◌≡◌, arith, rules, tests, ◌∙◌, length, drop, nat_eq, take_all, length-drop}
+use Rattle.std.proofs.lemmas.Iterator.{YieldsList-from_slice}
+use Rattle.std.proofs.lemmas.Iterator.Search.{all_from_yields_List}
+use Rattle.calls.proofs.Rest.{zeros}
 use Rattle.calls.proofs.unused.Goals as goal
 
-pub returns-then-w-k-ne0 : goal.returns-then-w-k-ne0
-returns-then-w-k-ne0 c = sym (used-word c.args.w c.loop-k.k (omega arith) c.if-w-k-ne0.true) ∙ c.loop-k.invariant.1
-
-pub loop-k-preserved : goal.loop-k-preserved
-loop-k-preserved c = (c.loop-k.invariant.0, unused-word c.args.w c.loop-k.k (omega arith) c.if-w-k-ne0.false ∙ c.loop-k.invariant.1)
-
 pub returns : goal.returns
-returns c = sym (no_word c.args.w c.loop-k.k (omega arith)) ∙ c.loop-k.invariant.1
+returns c =
+    let ws = drop c.args.from c.args.w in
+    let n : length c.args.w ≡ 8 = search rules in
+    let rest = c.iter.ensures.rest ∙ take_all _ ws (simp length-drop (omega arith)) in
+    all_from_yields_List (λ w. nat_eq w 0) _ _ c.all.result c.all.ensures.ran (YieldsList-from_slice ws rest) (λ x b q k. search (rules, tests)) ∙ zeros ws

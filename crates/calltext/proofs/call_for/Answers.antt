@@ -9,12 +9,12 @@ use Rattle.calltext.proofs.call_for.Goals as goal
 pub returns-then-i-text : goal.returns-then-i-text
 returns-then-i-text c =
     let d = c.args.d in
-    c.without_call.ensures ∙ sym (for-none d) ∙ ap (call_for d) (sym (c.next_word-w.ensures.none c.if-i-text.true))
+    sym (for-none d) ∙ ap (call_for d) (sym (c.next_word-w.ensures.none c.if-i-text.true))
 
 pub returns-then-place-eq-RAW : goal.returns-then-place-eq-RAW
 returns-then-place-eq-RAW c =
     let d = c.args.d in
-    c.without_call-then-place-eq-RAW.ensures ∙ sym (for-raw d _ _ (sym c.place_of-place.ensures ∙ c.if-place-eq-RAW.true)) ∙ ap (call_for d) (sym (c.next_word-w.ensures.some c.if-i-text.false))
+    sym (for-raw d _ _ (sym c.place_of-place.ensures ∙ c.if-place-eq-RAW.true)) ∙ ap (call_for d) (sym (c.next_word-w.ensures.some c.if-i-text.false))
 
 pub returns : goal.returns
 returns c =

@@ -1,9 +1,9 @@
-use Prim.Native.Nat.{◌+◌, ◌-◌}
+use Prim.Native.Nat.{◌+◌}
 use mathlib.Core.Path.{refl, ap, sym, ◌∙◌}
-use borrow.Author.Tests.{not-true, not-false}
+use mathlib.Core.Bool.{not}
 use Rattle.textwords.proofs.Words.{to_word, at-word, word-within, passed, no_words}
 use Rattle.calltext.specs.Faults.{is_number, fault_among}
-use Rattle.calltext.proofs.Faulting.{among_none, among-many, among-here, among_later, stands, stands-not, also}
+use Rattle.calltext.proofs.Faulting.{number-some, among_none, among-many, among-here, among_later, stands, stands-not, also}
 use native.Mathlib.Omega.{arith}
 use Rattle.calltext.proofs.fault_from.Goals as goal
 
@@ -45,13 +45,13 @@ slice_bounds-number_of-end c =
     let p = passed a.text.now c.loop-i.i e.result (omega arith) v.1 e.ensures in
     omega (arith, p.within)
 
-pub returns-then-not-is_number : goal.returns-then-not-is_number
-returns-then-not-is_number c =
+pub returns-then-is_none : goal.returns-then-is_none
+returns-then-is_none c =
     let a = c.args in
     let v = c.loop-i.invariant in
     let e = c.scan-e in
     let p = passed a.text.now c.loop-i.i e.result (omega arith) v.1 e.ensures in
-    let no = sym (ap is_number c.number_of.ensures) ∙ sym c.is_number.ensures ∙ not-true _ c.if-not-is_number.true-raw in
+    let no = sym (ap is_number c.number_of.ensures) ∙ sym (number-some _) ∙ c.is_none.ensures ∙ ap not c.if-is_none.true in
     also (stands c.loop-i.i e.result (omega (arith, p.more)) p.within refl) (sym (among-here c.loop-i.n _ _ (omega arith) no) ∙ ap (fault_among c.loop-i.n) (sym p.words) ∙ v.3)
 
 pub loop-i-smaller : goal.loop-i-smaller
@@ -71,7 +71,7 @@ loop-i-preserved c =
     let s = c.scan-i-in-loop-i.ensures in
     let t = a.text.now in
     let q = p.within in
-    let yes = sym (ap is_number c.number_of.ensures) ∙ sym c.is_number.ensures ∙ not-false _ c.if-not-is_number.false-raw in
+    let yes = sym (ap is_number c.number_of.ensures) ∙ sym (number-some _) ∙ c.is_none.ensures ∙ ap not c.if-is_none.false in
     (word-within t e.result c.scan-i-in-loop-i.result q s, at-word t e.result c.scan-i-in-loop-i.result q s, omega arith, ap (fault_among (c.loop-i.n + 1)) (sym (to_word t e.result c.scan-i-in-loop-i.result q s)) ∙ sym (among_later c.loop-i.n _ _ (omega arith) yes) ∙ ap (fault_among c.loop-i.n) (sym p.words) ∙ v.3)
 
 pub returns : goal.returns

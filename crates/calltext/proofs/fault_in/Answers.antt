@@ -1,8 +1,9 @@
 use Prim.Native.Nat.{◌-◌}
 use mathlib.Core.Path.{◌≡◌, sym, ap, ◌∙◌}
+use mathlib.Core.Bool.{not}
 use borrow.Author.Tests.{not-true, not-false}
 use Rattle.calltext.specs.Faults.{is_number, fault_in}
-use Rattle.calltext.proofs.Faulting.{in-none, in-plain, in-destination, in-placed, also}
+use Rattle.calltext.proofs.Faulting.{number-some, in-none, in-plain, in-destination, in-placed, also}
 use native.Mathlib.Omega.{arith}
 use Rattle.calltext.proofs.fault_in.Goals as goal
 
@@ -20,15 +21,15 @@ returns-then-not-at_sign c =
     let plain = sym c.at_sign.ensures ∙ not-true _ c.if-not-at_sign.true-raw in
     also c.fault_named.ensures (sym (ap fault_in (c.next_word-w.ensures.some c.if-i-text.false) ∙ in-plain _ _ plain))
 
-pub returns-then-not-is_number : goal.returns-then-not-is_number
-returns-then-not-is_number c =
+pub returns-then-is_none : goal.returns-then-is_none
+returns-then-is_none c =
     let w = c.next_word-w.ensures in
     let at = sym c.at_sign.ensures ∙ not-false _ c.if-not-at_sign.false-raw in
-    let no = sym (ap is_number c.destination_of.ensures) ∙ sym c.is_number.ensures ∙ not-true _ c.if-not-is_number.true-raw in
+    let no = sym (ap is_number c.destination_of.ensures) ∙ sym (number-some _) ∙ c.is_none.ensures ∙ ap not c.if-is_none.true in
     record { order = w.order; within = w.within; bytes = sym (ap fault_in (w.some c.if-i-text.false) ∙ in-destination _ _ at no) }
 
 pub returns : goal.returns
 returns c =
     let at = sym c.at_sign.ensures ∙ not-false _ c.if-not-at_sign.false-raw in
-    let yes = sym (ap is_number c.destination_of.ensures) ∙ sym c.is_number.ensures ∙ not-false _ c.if-not-is_number.false-raw in
+    let yes = sym (ap is_number c.destination_of.ensures) ∙ sym (number-some _) ∙ c.is_none.ensures ∙ ap not c.if-is_none.false in
     also c.fault_after.ensures (sym (ap fault_in (c.next_word-w.ensures.some c.if-i-text.false) ∙ in-placed _ _ at yes))

@@ -10,4 +10,4 @@ pub returns-then-place-eq-RAW : goal.returns-then-place-eq-RAW
 returns-then-place-eq-RAW c = let a = c.args in c.gather_from-then-place-eq-RAW.ensures ∙ sym (by-raw a.d a.place _ c.if-place-eq-RAW.true)
 
 pub returns : goal.returns
-returns c = let a = c.args in c.without_call.ensures ∙ sym (unknown a.d a.place _ (omega arith))
+returns c = let a = c.args in sym (unknown a.d a.place _ (omega arith))

@@ -8,7 +8,7 @@ use Rattle.calltext.proofs.Gathering.{destination-low, no_call, one-call, placed
 use Rattle.calltext.proofs.parse_words.Goals as goal
 
 pub returns-then-i-text : goal.returns-then-i-text
-returns-then-i-text c = c.without_call.ensures ∙ sym no_call ∙ ap call_in (sym (c.next_word-w.ensures.none c.if-i-text.true))
+returns-then-i-text c = sym no_call ∙ ap call_in (sym (c.next_word-w.ensures.none c.if-i-text.true))
 
 pub returns-then-not-at_sign : goal.returns-then-not-at_sign
 returns-then-not-at_sign c =
@@ -19,12 +19,12 @@ returns-then-not-at_sign c =
 pub returns-in_default : goal.returns-in_default
 returns-in_default c =
     let at = sym c.at_sign.ensures ∙ not-false _ c.if-not-at_sign.false-raw in
-    c.without_call-in_default.ensures ∙ sym (no-destination _ _ at (sym c.destination_of.ensures ∙ c.in_default.is)) ∙ ap call_in (sym (c.next_word-w.ensures.some c.if-i-text.false))
+    sym (no-destination _ _ at (sym c.destination_of.ensures ∙ c.in_default.is)) ∙ ap call_in (sym (c.next_word-w.ensures.some c.if-i-text.false))
 
 pub call_for-requires : goal.call_for-requires
-call_for-requires c = (c.next_word-w.ensures.within, destination-low _ c.in-Of.d (sym c.destination_of.ensures ∙ c.in-Of.is))
+call_for-requires c = (c.next_word-w.ensures.within, destination-low _ c.in-Some.d (sym c.destination_of.ensures ∙ c.in-Some.is))
 
 pub returns : goal.returns
 returns c =
     let at = sym c.at_sign.ensures ∙ not-false _ c.if-not-at_sign.false-raw in
-    c.call_for.ensures ∙ sym (placed-call _ _ at c.in-Of.d (sym c.destination_of.ensures ∙ c.in-Of.is)) ∙ ap call_in (sym (c.next_word-w.ensures.some c.if-i-text.false))
+    c.call_for.ensures ∙ sym (placed-call _ _ at c.in-Some.d (sym c.destination_of.ensures ∙ c.in-Some.is)) ∙ ap call_in (sym (c.next_word-w.ensures.some c.if-i-text.false))

@@ -1,19 +1,16 @@
-use Prim.Native.Nat.{◌-◌}
-use mathlib.Core.Path.{refl, sym, ◌∙◌}
-use Rattle.calltext.specs.Names.{name_place}
-use Rattle.calltext.proofs.Tables.{place-hit, place-miss, place_end}
-use native.Mathlib.Omega.{arith}
+use Rattle.std.proofs.Common.{true, false, rules, tests, ◌∙◌, ◌≡◌, sym, Bor, List, ℕ, length, map, ap, unwrap_or}
+use Rattle.std.proofs.lemmas.Iterator.{YieldsList-from_slice, IsFirst-from_position}
+use Rattle.textwords.specs.Text.{same_text}
+use Rattle.calltext.specs.Names.{names, name_place, place_in}
+use Rattle.calltext.proofs.Tables.{first-place}
 use Rattle.calltext.proofs.place_of.Goals as goal
 
-pub loop-k-init : goal.loop-k-init
-unfolding name_place
-loop-k-init c = (omega arith, refl)
-
-pub returns-then-is_name : goal.returns-then-is_name
-returns-then-is_name c = let a = c.args in sym (place-hit a.word.now c.loop-k.k (omega arith) (sym c.is_name.ensures ∙ c.if-is_name.true)) ∙ c.loop-k.invariant.1
-
-pub loop-k-preserved : goal.loop-k-preserved
-loop-k-preserved c = let a = c.args in (omega arith, sym (place-miss a.word.now c.loop-k.k (omega arith) (sym c.is_name.ensures ∙ c.if-is_name.false)) ∙ c.loop-k.invariant.1)
-
 pub returns : goal.returns
-returns c = let a = c.args in sym (place_end a.word.now c.loop-k.k (omega arith)) ∙ c.loop-k.invariant.1
+unfolding names name_place
+returns c =
+    let a = c.args in
+    let l = c.iter.result.rest.now in
+    let r = first-place a.word.now l c.position.result (IsFirst-from_position _ _ c.position.result (λ (n : Bor (List ℕ)). same_text a.word.now n.now ≡ true) (λ (n : Bor (List ℕ)). same_text a.word.now n.now ≡ false) c.position.ensures.ran (YieldsList-from_slice l cc) (λ x q k. search (rules, tests)) (λ x q k. search (rules, tests))) in
+    let m : map (λ (n : Bor (List ℕ)). n.now) l ≡ names = ap (map (λ (n : Bor (List ℕ)). n.now)) c.iter.ensures.rest in
+    let k : length l ≡ 18 = ap length c.iter.ensures.rest in
+    c.unwrap_or.ensures ∙ ap (unwrap_or c.position.result) (sym k) ∙ sym r ∙ ap (λ (ns : List (List ℕ)). place_in ns 0 a.word.now) m

@@ -1,4 +1,4 @@
-use Prim.Native.Nat.{◌+◌, ◌-◌, ◌*◌, ◌≤◌}
+use Prim.Native.Nat.{◌+◌, ◌*◌, ◌≤◌}
 use mathlib.Core.Path.{◌≡◌}
 use lib.ListN.{length}
 use Rattle.callfile.specs.Placed.{Puts}
@@ -7,6 +7,3 @@ use Rattle.calltext.proofs.put_fields.Given as goal
 
 abbrev pub invariant-loop-k : goal.invariant-loop-k
 invariant-loop-k l = (length l.w ≡ 8) × (l.k ≤ l.n) × (l.next ≤ l.at + 22 * l.k) × Puts (fields l.place l.w l.k) l.at l.initial.out l.next l.out
-
-abbrev pub decreases-loop-k : goal.decreases-loop-k
-decreases-loop-k l = l.n - l.k

@@ -1,23 +1,15 @@
-use mathlib.Core.Path.{◌≡◌, refl, ap, ◌∙◌}
-use mathlib.Core.List.{[]}
-use Prim.Native.Nat.{◌-◌}
-use lib.ListN.{get_or, set, length-set}
+use Rattle.std.proofs.Common.{arith, ap, ◌∙◌, set, take}
 use Rattle.consumers.specs.Table.{cleared_row}
-use Rattle.consumers.proofs.Lists.{on_none, on-turn, on-all}
-use native.Mathlib.Omega.{arith}
-use borrow.Author.Rules.{rules}
+use Rattle.consumers.proofs.Lists.{on_none, on-turn, on-lent}
 use Rattle.consumers.proofs.clear.Goals as goal
 
-pub loop-i-init : goal.loop-i-init
-loop-i-init c = (search rules, refl, on_none cleared_row _)
+pub loop-w-init : goal.loop-w-init
+loop-w-init c = on_none cleared_row _
 
-pub loop-i-preserved : goal.loop-i-preserved
-loop-i-preserved c = let l = c.loop-i in
-    let a = c.args in
-    let e : c.emptied.result ≡ cleared_row (get_or l.subs l.i []) = c.emptied.ensures in
-    (search rules, simp length-set l.invariant.1, ap (set l.subs l.i) e ∙ on-turn cleared_row l.i a.subs.now l.subs (omega arith) l.invariant.2)
+pub loop-w-preserved : goal.loop-w-preserved
+loop-w-preserved c = let l = c.loop-w in
+    let x = take c.min-end.result c.args.subs.now in
+    ap (set l.w-items l.w-index) c.emptied.ensures ∙ on-turn cleared_row l.w-index x l.w-items (omega arith) l.invariant
 
 pub returns : goal.returns
-returns c = let l = c.loop-i in
-    let a = c.args in
-    l.invariant.2 ∙ on-all cleared_row l.i a.n a.subs.now (omega arith)
+returns c = on-lent cleared_row c.loop-w.w-index _ c.args.n c.args.subs.now _ (omega arith) (omega arith) c.loop-w.invariant

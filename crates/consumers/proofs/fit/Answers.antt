@@ -1,26 +1,9 @@
-use mathlib.Core.Path.{refl, sym, ◌∙◌}
-use Prim.Native.Nat.{◌-◌}
-use borrow.Author.Tests.{not-true, not-false}
+use Rattle.std.proofs.Common.{rules, tests, ◌∙◌}
+use Rattle.std.proofs.lemmas.Iterator.{YieldsList-from_slice, YieldsList-from_take}
+use Rattle.std.proofs.lemmas.Iterator.Search.{all_from_yields_List}
+use Rattle.definition.proofs.Chains.{list_all-all}
 use Rattle.consumers.specs.Table.{fitting}
-use Rattle.consumers.proofs.Table.{all-next, all-not, all_none}
-use native.Mathlib.Omega.{arith}
-use borrow.Author.Rules.{rules}
 use Rattle.consumers.proofs.fit.Goals as goal
 
-pub loop-i-init : goal.loop-i-init
-loop-i-init c = (search rules, refl)
-
-pub returns-then-not-fits : goal.returns-then-not-fits
-returns-then-not-fits c = let l = c.loop-i in
-    let a = c.args in
-    sym (l.invariant.1 ∙ all-not l.i a.n a.subs.now (omega arith) fitting (sym c.fits.ensures ∙ not-true _ c.if-not-fits.true-raw))
-
-pub loop-i-preserved : goal.loop-i-preserved
-loop-i-preserved c = let l = c.loop-i in
-    let a = c.args in
-    (search rules, l.invariant.1 ∙ all-next l.i a.n a.subs.now (omega arith) fitting (sym c.fits.ensures ∙ not-false _ c.if-not-fits.false-raw))
-
 pub returns : goal.returns
-returns c = let l = c.loop-i in
-    let a = c.args in
-    sym (l.invariant.1 ∙ all_none l.i a.n a.subs.now (omega arith) fitting)
+returns c = all_from_yields_List fitting _ _ c.all.result c.all.ensures.ran (YieldsList-from_take c.args.n (YieldsList-from_slice c.args.subs.now cc) cc) (λ x b q k. search (rules, tests)) ∙ list_all-all fitting _

@@ -1,21 +1,10 @@
-use mathlib.Core.Path.{ap, ◌∙◌}
-use Prim.Native.Nat.{◌-◌, min}
-use native.Mathlib.Nat.{zero-add}
-use Rattle.consumers.proofs.Table.{kept_next, kept-none}
-use native.Mathlib.Omega.{arith}
-use borrow.Author.Rules.{rules}
+use Rattle.std.proofs.Common.{rules, refl, ◌∙◌, ◌+◌, min, take}
+use Rattle.std.proofs.lemmas.Iterator.{YieldsList-from_slice, YieldsList-from_take}
+use Rattle.std.proofs.lemmas.Iterator.Consumers.{fold_from_yields_List}
+use Rattle.consumers.specs.Table.{kept_by, kept_rows}
+use Rattle.consumers.proofs.Table.{fold-capped}
 use Rattle.consumers.proofs.held_rows.Goals as goal
 
-pub loop-i-init : goal.loop-i-init
-loop-i-init c = (search rules, search rules, ap (min 513) (zero-add _))
-
-pub loop-i-preserved : goal.loop-i-preserved
-loop-i-preserved c = let l = c.loop-i in
-    let a = c.args in
-    (search rules, omega (arith, c.sum_of-count.ensures), rw (c.sum_of-count.ensures, c.kept_by.ensures) (kept_next l.i a.n a.subs.now (omega arith) a.queue l.count ∙ l.invariant.2))
-
 pub returns : goal.returns
-returns c = let l = c.loop-i in
-    let a = c.args in
-    let b = l.invariant.1 in
-    omega (arith, kept-none l.i a.n a.subs.now (omega arith) a.queue, l.invariant.2)
+unfolding kept_rows
+returns c = fold_from_yields_List _ (λ a w. min 513 (a + min 513 (kept_by c.args.queue w))) 0 c.fold.result c.fold.ensures.ran (YieldsList-from_take c.args.n (YieldsList-from_slice c.args.subs.now cc) cc) (λ a x b q k. search rules) ∙ fold-capped (kept_by c.args.queue) (kept_rows c.args.queue) refl (λ w ws. refl) (take c.args.n c.args.subs.now)

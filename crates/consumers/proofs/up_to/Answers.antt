@@ -8,4 +8,4 @@ use Rattle.consumers.proofs.up_to.Goals as goal
 
 pub returns : goal.returns
 returns c = let h : length c.args.w ≡ 16 = search rules in
-    ap₂ (λ (w : Row) (k : ℕ). set w 9 k) (sym (sixteen-words c.args.w h)) c.least.ensures
+    ap₂ (λ (w : Row) (k : ℕ). set w 9 k) (sym (sixteen-words c.args.w h)) c.min.ensures

@@ -16,10 +16,10 @@ pub returns-then-n-le-FEW : goal.returns-then-n-le-FEW
 returns-then-n-le-FEW c = let a = c.args in c.few_agree-then-n-le-FEW.ensures ∙ agree-means (take a.n a.rows.now)
 
 pub returns-then-n-le-SOME : goal.returns-then-n-le-SOME
-returns-then-n-le-SOME c = let a = c.args in c.some_agree.ensures ∙ agree-means (take a.n a.rows.now)
+returns-then-n-le-SOME c = let a = c.args in c.many_agree.ensures ∙ agree-means (take a.n a.rows.now)
 
 pub returns-then-n-le-ROWS : goal.returns-then-n-le-ROWS
-returns-then-n-le-ROWS c = let a = c.args in c.many_agree.ensures ∙ agree-means (take a.n a.rows.now)
+returns-then-n-le-ROWS c = let a = c.args in c.many_agree-then-n-le-ROWS.ensures ∙ agree-means (take a.n a.rows.now)
 
 pub returns : goal.returns
 returns c = let a = c.args in c.few_agree-2.ensures ∙ agree-means (take a.n a.rows.now)

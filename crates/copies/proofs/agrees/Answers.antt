@@ -1,5 +1,9 @@
 use Rattle.copies.proofs.Laws.{slot-new, slot-copy}
 use native.Mathlib.Omega.{arith}
+use Rattle.std.proofs.Common.{sym, ap, ◌∙◌}
+use Rattle.definition.specs.Base.{all}
+use Rattle.definition.proofs.Chains.{slice-range}
+use Rattle.copies.specs.Copies.{alike}
 use Rattle.copies.proofs.agrees.Goals as goal
 
 pub returns-then-place-eq0 : goal.returns-then-place-eq0
@@ -17,3 +21,6 @@ pub returns-then-row-seq : goal.returns-then-row-seq
 returns-then-row-seq c =
     let a = c.args in
     slot-copy a.rows.now a.from a.to c.requires.to_in_bounds a.seq a.size a.place c.requires.rows_value c.requires.slot (omega arith) c.if-row-seq.true
+
+pub returns : goal.returns
+returns c = c.alike.ensures ∙ ap (all (alike c.args.seq c.args.size)) (sym (slice-range c.args.from c.args.to c.args.rows.now c.requires.from_le_to))

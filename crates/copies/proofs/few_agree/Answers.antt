@@ -1,27 +1,19 @@
-use mathlib.Core.Path.{sym, ◌∙◌}
-use mathlib.Core.Bool.{true}
-use borrow.Author.Tests.{not-true, not-false}
-use Rattle.copies.proofs.Laws.{agree-more, agree-stop, agree-none, agree-all}
-use native.Mathlib.Omega.{arith}
-use borrow.Author.Rules.{rules}
+use Rattle.std.proofs.Common.{◌∙◌, sym, arith}
+use Rattle.copies.proofs.Laws.{agree-more, agree-stop, agree-none, agree-all, alike-after}
 use Rattle.copies.proofs.few_agree.Goals as goal
 
 pub loop-i-init : goal.loop-i-init
-loop-i-init c = (search rules, agree-none c.args.n c.args.rows.now)
+loop-i-init c = agree-none c.args.n c.args.rows.now
 
 pub returns-then-not-alike : goal.returns-then-not-alike
 returns-then-not-alike c =
     let a = c.args in
-    let g = c.alike in
-    agree-stop a.rows.now c.loop-i.i a.n c.requires c.loop-i-test.true c.loop-i.invariant.0 (sym g.ensures ∙ not-true g.result c.if-not-alike.true-raw)
+    agree-stop a.rows.now c.loop-i.i a.n c.requires c.loop-i-test.true c.loop-i.auto.i (alike-after a.rows.now c.loop-i.i a.n c.requires c.loop-i-test.true c.loop-i.auto.i ∙ sym c.alike.ensures ∙ c.if-not-alike.true)
 
 pub loop-i-preserved : goal.loop-i-preserved
 loop-i-preserved c =
     let a = c.args in
-    let g = c.alike in
-    (search rules, agree-more a.rows.now c.loop-i.i a.n c.requires c.loop-i-test.true c.loop-i.invariant.0 c.loop-i.invariant.1 (sym g.ensures ∙ not-false g.result c.if-not-alike.false-raw))
+    agree-more a.rows.now c.loop-i.i a.n c.requires c.loop-i-test.true c.loop-i.auto.i c.loop-i.invariant (alike-after a.rows.now c.loop-i.i a.n c.requires c.loop-i-test.true c.loop-i.auto.i ∙ sym c.alike.ensures ∙ c.if-not-alike.false)
 
 pub returns : goal.returns
-returns c =
-    let a = c.args in
-    agree-all c.loop-i.i a.n a.rows.now (omega arith) c.loop-i.invariant.1
+returns c = agree-all c.loop-i.i c.args.n c.args.rows.now (omega (arith, c.loop-i-test.false)) c.loop-i.invariant

@@ -1,6 +1,5 @@
 use mathlib.Core.Path.{◌≡◌}
 use mathlib.Core.Bool.{true}
-use Prim.Native.Nat.{◌-◌, ◌≤◌}
 use lib.ListN.{length}
 use lib.Seq.{slice}
 use Rattle.copies.specs.Copies.{agree_at}
@@ -8,7 +7,4 @@ use Rattle.copies.proofs.Laws.{Slots}
 use Rattle.copies.proofs.many_agree.Given as goal
 
 abbrev pub invariant-loop-i : goal.invariant-loop-i
-invariant-loop-i l = (l.i ≤ l.n) × (agree_at (slice l.i l.n l.rows) ≡ true) × (length l.slots ≡ 1024) × Slots 1024 l.slots l.i l.n l.rows
-
-abbrev pub decreases-loop-i : goal.decreases-loop-i
-decreases-loop-i l = l.i
+invariant-loop-i g l = (agree_at (slice l.i l.n l.rows) ≡ true) × (length l.slots ≡ g.row.N) × Slots g.row.N l.slots l.i l.n l.rows

@@ -1,18 +1,21 @@
-use mathlib.Core.Path.{sym, ap, ◌∙◌}
-use lib.ListN.{take}
-use lib.Seq.{take_all, take-length}
+use Rattle.std.proofs.Common.{◌≡◌, ℕ, List, Bool, length, take, min, sym, ap, ◌∙◌}
+use Rattle.std.proofs.lemmas.List.{take_min}
 use Rattle.definition.specs.Base.{distinct}
 use Rattle.distinct.proofs.Laws.{rising-distinct}
-use native.Mathlib.Omega.{arith}
 use Rattle.distinct.proofs.distinct.Goals as goal
 
-pub returns-then-len-n : goal.returns-then-len-n
-returns-then-len-n c =
-    let a = c.args in
-    let xs = a.xs.now in
-    c.many_distinct.ensures ∙ ap distinct (take-length xs ∙ sym (take_all a.n xs (omega arith)))
+-- the numbers looked at are the first n
+same : (r : Bool) (m n : ℕ) (xs : List ℕ) → m ≡ min n (length xs) → r ≡ distinct (take m xs) → r ≡ distinct (take n xs)
+same r m n xs e h = h ∙ ap distinct (ap (λ (k : ℕ). take k xs) e ∙ take_min n xs)
 
 pub returns-then-rising : goal.returns-then-rising
-returns-then-rising c =
-    let a = c.args in
-    sym (rising-distinct 0 (take a.n a.xs.now) (sym c.rising.ensures ∙ c.if-rising.true))
+returns-then-rising c = same _ _ c.args.n c.args.xs.now c.min.ensures (sym (rising-distinct 0 (take c.min.result c.args.xs.now) (sym c.rising.ensures ∙ c.if-rising.true)))
+
+pub returns-then-first-le-FEW : goal.returns-then-first-le-FEW
+returns-then-first-le-FEW c = same _ _ c.args.n c.args.xs.now c.min.ensures c.few_distinct.ensures
+
+pub returns-then-first-le-SOME : goal.returns-then-first-le-SOME
+returns-then-first-le-SOME c = same _ _ c.args.n c.args.xs.now c.min.ensures c.many_distinct.ensures
+
+pub returns-else-first-le-SOME : goal.returns-else-first-le-SOME
+returns-else-first-le-SOME c = same _ _ c.args.n c.args.xs.now c.min.ensures c.many_distinct-else-first-le-SOME.ensures

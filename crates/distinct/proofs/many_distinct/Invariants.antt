@@ -1,13 +1,7 @@
-use mathlib.Core.Path.{◌≡◌}
-use mathlib.Core.Bool.{true}
-use Prim.Native.Nat.{◌≤◌, ◌-◌}
-use lib.ListN.{length, take}
+use Rattle.std.proofs.Common.{◌≡◌, true, length, take}
 use Rattle.definition.specs.Base.{distinct}
 use Rattle.distinct.proofs.Laws.{Marked}
 use Rattle.distinct.proofs.many_distinct.Given as goal
 
 abbrev pub invariant-loop-i : goal.invariant-loop-i
-invariant-loop-i l = (l.i ≤ l.n) × (distinct (take l.i l.xs) ≡ true) × (length l.slots ≡ 1024) × Marked 1024 l.slots (take l.i l.xs)
-
-abbrev pub decreases-loop-i : goal.decreases-loop-i
-decreases-loop-i l = l.n - l.i
+invariant-loop-i g l = (distinct (take l.i l.xs) ≡ true) × (length l.slots ≡ g.row.N) × Marked g.row.N l.slots (take l.i l.xs)

@@ -1,20 +1,8 @@
-use Prim.Native.Nat.{◌-◌}
-use Rattle.distinct.proofs.Laws.{member-found, member-next, member-nowhere}
-use native.Mathlib.Omega.{arith}
-use borrow.Author.Rules.{rules}
+use Rattle.std.proofs.Common.{rules, tests, ◌∙◌, eqb}
+use Rattle.std.proofs.lemmas.Iterator.{YieldsList-from_slice}
+use Rattle.std.proofs.lemmas.Iterator.Search.{any_from_yields_List}
+use Rattle.distinct.proofs.Laws.{any-member}
 use Rattle.distinct.proofs.met.Goals as goal
 
-pub returns-then-xs-i : goal.returns-then-xs-i
-returns-then-xs-i c =
-    let a = c.args in
-    member-found a.x a.xs.now c.loop-i.i a.n c.requires c.loop-i.invariant.1 c.loop-i-test.true c.if-xs-i.true
-
-pub loop-i-preserved : goal.loop-i-preserved
-loop-i-preserved c =
-    let a = c.args in
-    (search rules, member-next a.x a.xs.now c.loop-i.i a.n c.requires c.loop-i.invariant.1 c.loop-i-test.true c.if-xs-i.false)
-
 pub returns : goal.returns
-returns c =
-    let a = c.args in
-    member-nowhere a.x a.xs.now c.loop-i.i a.n c.requires c.loop-i.invariant.1 (omega arith)
+returns c = any_from_yields_List (eqb c.args.x) _ _ c.any.result c.any.ensures.ran (YieldsList-from_slice c.args.xs.now cc) (λ x b q k. search (rules, tests)) ∙ any-member c.args.x c.args.xs.now

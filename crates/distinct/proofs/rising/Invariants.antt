@@ -1,12 +1,6 @@
-use mathlib.Core.Path.{◌≡◌}
-use Prim.Native.Nat.{◌≤◌, ◌-◌}
-use lib.ListN.{take}
-use lib.Seq.{slice}
+use Rattle.std.proofs.Common.{◌≡◌, drop}
 use Rattle.definition.specs.Base.{rising}
 use Rattle.distinct.proofs.rising.Given as goal
 
-abbrev pub invariant-loop-i : goal.invariant-loop-i
-invariant-loop-i l = (l.i ≤ l.n) × (rising l.last (slice l.i l.n l.xs) ≡ rising 0 (take l.n l.xs))
-
-abbrev pub decreases-loop-i : goal.decreases-loop-i
-decreases-loop-i l = l.n - l.i
+abbrev pub invariant-loop-x : goal.invariant-loop-x
+invariant-loop-x l = rising l.last (drop l.x-index l.xs) ≡ rising 0 l.xs

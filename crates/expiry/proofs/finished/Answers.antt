@@ -8,11 +8,10 @@ use Rattle.expiry.proofs.finished.Goals as goal
 pub returns-then-gone-gt0 : goal.returns-then-gone-gt0
 returns-then-gone-gt0 c =
     let a = c.args in
-    c.done.ensures
-    ∙ ap (λ (x : Head). done_as a.gone x) (c.touch_idle.ensures ∙ ap (touched a.clock) c.count_expired-counted.ensures)
+    ap (λ (x : Head). done_as a.gone x) (c.touch_idle.ensures ∙ ap (touched a.clock) c.count_expired-counted.ensures)
     ∙ sym (if-true _ _ (lt-ltb 0 a.gone c.if-gone-gt0.true))
 
 pub returns : goal.returns
 returns c =
     let a = c.args in
-    c.done-2.ensures ∙ sym (if-false _ _ (le-ltb 0 a.gone c.if-gone-gt0.false))
+    sym (if-false _ _ (le-ltb 0 a.gone c.if-gone-gt0.false))

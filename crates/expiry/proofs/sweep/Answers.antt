@@ -1,4 +1,4 @@
-use mathlib.Core.Path.{sym, ap, ◌∙◌}
+use mathlib.Core.Path.{refl, sym, ap, ◌∙◌}
 use Prim.Native.Nat.{◌≤◌, ◌^◌}
 use native.Mathlib.Omega.{arith}
 use borrow.Author.Tests.{not-true, not-false, le-leb, lt-leb}
@@ -16,14 +16,14 @@ use Rattle.expiry.proofs.sweep.Goals as goal
 pub returns-then-not-fits : goal.returns-then-not-fits
 returns-then-not-fits c =
     let a = c.args in
-    let p = refused _ (and-off _ _ (sym c.fits.ensures ∙ not-true _ c.if-not-fits.true-raw)) _ (sweep_out a.clock a.most) (sweep_expired a.clock a.most) a.d a.subs.now a.rows.now a.events.now _ c.refused.ensures in record { leaves_if = p.0; sweep_answers = p.1 }
+    let p = refused _ (and-off _ _ (sym c.fits.ensures ∙ not-true _ c.if-not-fits.true-raw)) _ (sweep_out a.clock a.most) (sweep_expired a.clock a.most) a.d a.subs.now a.rows.now a.events.now _ refl in record { leaves_if = p.0; sweep_answers = p.1 }
 
 pub returns-then-clock-gt-CLOCK_MOST : goal.returns-then-clock-gt-CLOCK_MOST
 returns-then-clock-gt-CLOCK_MOST c =
     let a = c.args in
     let t = sym c.fits.ensures ∙ not-false _ c.if-not-fits.false-raw in
     let no = lt-leb a.clock (2 ^ 62) (omega (arith, c.if-clock-gt-CLOCK_MOST.true)) in
-    let p = refused _ (and-on _ _ t ∙ and-off _ (leb a.most 512) no) _ (sweep_out a.clock a.most) (sweep_expired a.clock a.most) a.d a.subs.now a.rows.now a.events.now _ c.refused-then-clock-gt-CLOCK_MOST.ensures in record { leaves_if = p.0; sweep_answers = p.1 }
+    let p = refused _ (and-on _ _ t ∙ and-off _ (leb a.most 512) no) _ (sweep_out a.clock a.most) (sweep_expired a.clock a.most) a.d a.subs.now a.rows.now a.events.now _ refl in record { leaves_if = p.0; sweep_answers = p.1 }
 
 pub returns-then-most-gt-ROWS : goal.returns-then-most-gt-ROWS
 returns-then-most-gt-ROWS c =
@@ -31,7 +31,7 @@ returns-then-most-gt-ROWS c =
     let t = sym c.fits.ensures ∙ not-false _ c.if-not-fits.false-raw in
     let clock = le-leb a.clock (2 ^ 62) (omega (arith, c.if-clock-gt-CLOCK_MOST.false)) in
     let no = lt-leb a.most 512 (omega (arith, c.if-most-gt-ROWS.true)) in
-    let p = refused _ (and-on _ _ t ∙ and-on _ (leb a.most 512) clock ∙ no) _ (sweep_out a.clock a.most) (sweep_expired a.clock a.most) a.d a.subs.now a.rows.now a.events.now _ c.refused-then-most-gt-ROWS.ensures in record { leaves_if = p.0; sweep_answers = p.1 }
+    let p = refused _ (and-on _ _ t ∙ and-on _ (leb a.most 512) clock ∙ no) _ (sweep_out a.clock a.most) (sweep_expired a.clock a.most) a.d a.subs.now a.rows.now a.events.now _ refl in record { leaves_if = p.0; sweep_answers = p.1 }
 
 pub sweep_list-w-requires : goal.sweep_list-w-requires
 sweep_list-w-requires c =

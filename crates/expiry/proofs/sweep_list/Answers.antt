@@ -1,6 +1,5 @@
-use Prim.Native.Nat.{◌-◌, ◌≤◌}
+use Prim.Native.Nat.{◌≤◌}
 use native.Mathlib.Omega.{arith}
-use borrow.Author.Tests.{not-true, not-false}
 use lib.ListN.{length}
 use Rattle.expiry.proofs.Lists.{k-few, turn-start, turn-next, turn-none, turn_end}
 use Rattle.expiry.proofs.sweep_list.Goals as goal
@@ -8,15 +7,15 @@ use Rattle.expiry.proofs.sweep_list.Goals as goal
 pub loop-w-init : goal.loop-w-init
 loop-w-init c = let a = c.args in turn-start a.most a.by a.from a.rows.now a.start c.requires
 
-pub soonest-n-requires : goal.soonest-n-requires
-soonest-n-requires c =
+pub soonest-requires : goal.soonest-requires
+soonest-requires c =
     let f = c.loop-w.invariant.fine in
     (omega arith, omega (arith, f.rows, f.used, f.room), f.clock)
 
-pub returns-then-not-n : goal.returns-then-not-n
-returns-then-not-n c =
+pub returns-in_default : goal.returns-in_default
+returns-in_default c =
     let l = c.loop-w in
-    let a = c.args in record { rows_after = turn-none a.most a.by a.from a.rows.now a.start l.rows l.w l.invariant c.soonest-n.result c.soonest-n.ensures (not-true _ c.if-not-n.true); shorter = l.invariant.shorter; rows_unchanged = l.invariant.past; stays_strict = l.invariant.strict }
+    let a = c.args in record { rows_after = turn-none a.most a.by a.from a.rows.now a.start l.rows l.w l.invariant c.in_default.ensures; shorter = l.invariant.shorter; rows_unchanged = l.invariant.past; stays_strict = l.invariant.strict }
 
 pub overflow_sub-w : goal.overflow_sub-w
 overflow_sub-w c =
@@ -25,7 +24,7 @@ overflow_sub-w c =
     let f = l.invariant.fine in
     let u : l.w.used ≤ length l.rows = omega (arith, f.used, f.room) in
     let r = c.remove_seq-k in
-    let few = k-few a.from l.w l.rows f.rows u c.soonest-n.result.entry r.result _ r.ensures.value r.ensures.rows_after in
+    let few = k-few a.from l.w l.rows f.rows u c.in-Some.e r.result _ r.ensures.value r.ensures.rows_after in
     omega (arith, few, f.rows)
 
 pub overflow_sub-w-in-loop-w : goal.overflow_sub-w-in-loop-w
@@ -35,7 +34,7 @@ overflow_sub-w-in-loop-w c =
     let f = l.invariant.fine in
     let u : l.w.used ≤ length l.rows = omega (arith, f.used, f.room) in
     let r = c.remove_seq-k in
-    let few = k-few a.from l.w l.rows f.rows u c.soonest-n.result.entry r.result _ r.ensures.value r.ensures.rows_after in
+    let few = k-few a.from l.w l.rows f.rows u c.in-Some.e r.result _ r.ensures.value r.ensures.rows_after in
     omega (arith, few, f.rows)
 
 pub loop-w-preserved : goal.loop-w-preserved
@@ -43,8 +42,7 @@ loop-w-preserved c =
     let l = c.loop-w in
     let a = c.args in
     let r = c.remove_seq-k in
-    let n = c.soonest-n in
-    turn-next a.most a.by a.from a.rows.now a.start l.rows l.w l.invariant n.result r.result _ c.loop-w-test.true n.ensures (not-false _ c.if-not-n.false) r.ensures.value r.ensures.rows_after
+    turn-next a.most a.by a.from a.rows.now a.start l.rows l.w l.invariant c.in-Some.e r.result _ c.loop-w-test.true c.in-Some.ensures r.ensures.value r.ensures.rows_after
 
 pub returns : goal.returns
 returns c =

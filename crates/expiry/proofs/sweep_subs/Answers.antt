@@ -1,5 +1,4 @@
 use mathlib.Core.Path.{refl, ap, ◌∙◌}
-use Prim.Native.Nat.{◌-◌}
 use native.Mathlib.Omega.{arith}
 use lib.ListN.{set}
 use Rattle.consumers.specs.declared.Sub.{Sub}
@@ -35,17 +34,6 @@ overflow_add-base c =
     let pre = c.requires in
     let h = round-rows a.most a.by a.subs.now a.rows.now a.d a.gone pre l.subs l.rows l.w l.base l.i l.invariant c.loop-i-test.true _ c.load-s.ensures in
     omega (arith, h, l.invariant.used, pre.used, c.sweep_held-w.ensures.shorter.length)
-
-pub overflow_add-i : goal.overflow_add-i
-overflow_add-i c =
-    let h = c.loop-i-test.true in
-    let pre = c.requires in
-    omega (arith, h, pre.consumers)
-
-pub loop-i-smaller : goal.loop-i-smaller
-loop-i-smaller c =
-    let h = c.loop-i-test.true in
-    omega arith
 
 pub loop-i-preserved : goal.loop-i-preserved
 loop-i-preserved c =

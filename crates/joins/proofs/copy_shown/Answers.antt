@@ -1,10 +1,11 @@
 use mathlib.Core.Path.{sym, ◌∙◌}
-use Prim.Native.Nat.{◌-◌, ◌<◌}
+use Prim.Native.Nat.{◌<◌}
 use native.Mathlib.Omega.{arith}
 use lib.ListN.{length}
 use Rattle.joins.proofs.Copies.{copying-start, copying-end, copying-room, copying-hit, copying-miss}
 use borrow.Author.Rules.{rules}
 use Rattle.joins.proofs.copy_shown.Goals as goal
+use Rattle.joins.proofs.copy_shown.Goals.{then-is_shown, else-is_shown}
 
 pub loop-i-init : goal.loop-i-init
 loop-i-init c =
@@ -49,27 +50,15 @@ overflow_add-j c =
     let g = l.invariant in
     omega (arith, less, g.end, g.same, g.from_low)
 
-pub loop-i-smaller-then-is_shown : goal.loop-i-smaller-then-is_shown
-loop-i-smaller-then-is_shown c =
-    omega (arith, c.loop-i-test.true)
-
-pub loop-i-preserved-then-is_shown : goal.loop-i-preserved-then-is_shown
-loop-i-preserved-then-is_shown c =
-    let l = c.loop-i in
-    let a = c.args in
-    let less = c.loop-i-test.true in
-    copying-hit a.selector a.at a.from a.to a.rows.now l.rows l.j l.i l.invariant less (sym c.is_shown.ensures ∙ c.if-is_shown.true)
-
-pub loop-i-smaller : goal.loop-i-smaller
-loop-i-smaller c =
-    omega (arith, c.loop-i-test.true)
-
 pub loop-i-preserved : goal.loop-i-preserved
 loop-i-preserved c =
     let l = c.loop-i in
     let a = c.args in
     let less = c.loop-i-test.true in
-    copying-miss a.selector a.at a.from a.to a.rows.now l.rows l.j l.i l.invariant less (sym c.is_shown.ensures ∙ c.if-is_shown.false)
+    elim c.if-is_shown.branch [
+      | then-is_shown w ↦ rw (w.rows-is, w.j-is) (copying-hit a.selector a.at a.from a.to a.rows.now l.rows l.j l.i l.invariant less (sym c.is_shown.ensures ∙ w.if-is_shown.true))
+      | else-is_shown w ↦ rw (w.rows-is, w.j-is) (copying-miss a.selector a.at a.from a.to a.rows.now l.rows l.j l.i l.invariant less (sym c.is_shown.ensures ∙ w.if-is_shown.false))
+    ]
 
 pub returns : goal.returns
 returns c =

@@ -1,46 +1,36 @@
-use mathlib.Core.Path.{◌≡◌, refl, sym, ap, ◌∙◌}
-use mathlib.Core.Bool.{Bool, true, false}
-use mathlib.Core.List.{[]}
-use Prim.Native.Nat.{ℕ, ◌-◌}
-use native.Mathlib.Omega.{arith}
-use lib.ListN.{get_or, length-set}
-use lib.Seq.{slice}
-use Rattle.definition.specs.Base.{tally}
+use Rattle.std.proofs.Common.{arith, ◌≡◌, ap, ◌∙◌, true, Bool, not, List, ◌++◌, length, take, drop, ℕ, ◌-◌, ◌<◌, ◌≤◌, ◌^◌}
+use Rattle.std.proofs.Math.Seq.{slice, slice_empty}
+use borrow.Author.Tests.{le-leb}
+use lib.Dec.{leb}
+use mir.Syntax.{w64}
+use mir.ValLaws.{to_z_pos}
+use Rattle.entry.specs.Entry.{entry_of, expired, expired_row}
+use Rattle.definition.specs.Base.{keep, tally}
 use Rattle.definition.specs.Layout.{Row}
-use Rattle.table.specs.Table.{compacted}
-use Rattle.table.proofs.Segments.{tally-none, count_turn, count-miss, compacted-none, compacted-at, compacted-gone, compacted-kept}
+use Rattle.definition.proofs.Tests.{if-true, and_both}
+use Rattle.table.specs.Table.{segment_of, compacted, rows_removed, removed_rows, remove_rows}
 use Rattle.joins.specs.Joins.{gone_at}
-use borrow.Author.Rules.{rules}
 use Rattle.joins.proofs.purge.Goals as goal
 
-pub loop-i-init : goal.loop-i-init
-loop-i-init c =
-    let a = c.args in
-    (search rules, search rules, (refl, search rules), tally-none (gone_at a.by) a.from a.rows.now, compacted-none _ _ _)
+same-test : (by : ℕ) → by ≤ 2 ^ 62 → expired_row by ≡ gone_at by
+same-test by h = let low : by < 2 ^ 63 = omega arith in λ j w. expired (to_z_pos w64 by low j) (entry_of w)
 
-pub loop-i-preserved-then-is_gone : goal.loop-i-preserved-then-is_gone
-loop-i-preserved-then-is_gone c =
-    let l = c.loop-i in
-    let a = c.args in
-    let p : Row → Bool = gone_at a.by in
-    let x : Row = get_or l.rows l.i [] in
-    let hit : p x ≡ true = sym c.is_gone.ensures ∙ c.if-is_gone.true in
-    let at : x ≡ get_or a.rows.now l.i [] = compacted-at p a.from l.i _ l.rows (search rules) (search rules) l.invariant.4 in
-    (search rules, search rules, (search rules, search rules), count_turn p a.from l.i a.rows.now x true l.gone 1 (search rules) (search rules) at hit refl l.invariant.3, compacted-gone p a.from l.i _ l.rows (search rules) (search rules) l.invariant.4 hit)
+within : (from to : ℕ) (rs : List Row) → from ≤ to → to ≤ length rs → segment_of from to to (length rs) ≡ true
+within from to rs h b = and_both _ _ (and_both (leb from to) (leb to to) (le-leb from to h) (le-leb to to (omega arith))) (le-leb to (length rs) b)
 
-pub loop-i-preserved : goal.loop-i-preserved
-loop-i-preserved c =
-    let l = c.loop-i in
-    let a = c.args in
-    let p : Row → Bool = gone_at a.by in
-    let x : Row = get_or l.rows l.i [] in
-    let miss : p x ≡ false = sym c.is_gone.ensures ∙ c.if-is_gone.false in
-    let at : x ≡ get_or a.rows.now l.i [] = compacted-at p a.from l.i _ l.rows (search rules) (search rules) l.invariant.4 in
-    (search rules, search rules, (simp length-set (search rules), search rules), count-miss p a.from l.i a.rows.now x l.gone (search rules) (search rules) at miss l.invariant.3, compacted-kept p a.from l.i _ l.rows (search rules) (search rules) l.invariant.4 l.gone l.invariant.3 miss)
+-- rows that go from the end of those in use
+removed-last : (p : Row → Bool) (from to : ℕ) (rs : List Row) → rows_removed p from to to rs ≡ compacted p from to rs
+unfolding rows_removed compacted
+removed-last p from to rs = ap (λ (x : List Row). take from rs ++ (keep (λ r. not (p r)) (slice from to rs) ++ (x ++ drop (to - tally p (slice from to rs)) rs))) (slice_empty to rs)
 
 pub returns : goal.returns
+unfolding removed_rows remove_rows
 returns c =
-    let l = c.loop-i in
     let a = c.args in
-    let p : Row → Bool = gone_at a.by in
-    let e : l.i ≡ a.to = omega arith in record { value = l.invariant.3 ∙ ap (λ (m : ℕ). tally p (slice a.from m a.rows.now)) e; rows_after = l.invariant.4 ∙ ap (λ (m : ℕ). compacted p a.from m a.rows.now) e }
+    let h = c.requires in
+    let q = c.remove_expired.ensures in
+    let e = same-test a.by h.2 in
+    let t = within a.from a.to a.rows.now h.0 h.1 in record {
+      value = q.value ∙ if-true _ _ t ∙ ap (λ (p : Row → Bool). tally p (slice a.from a.to a.rows.now)) e;
+      rows_after = q.rows_after ∙ if-true _ _ t ∙ removed-last (expired_row a.by) a.from a.to a.rows.now ∙ ap (λ (p : Row → Bool). compacted p a.from a.to a.rows.now) e;
+    }

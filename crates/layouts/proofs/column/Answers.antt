@@ -1,6 +1,6 @@
 use mathlib.Core.Path.{ap, ◌∙◌}
 use mathlib.Core.List.{List, []}
-use Prim.Native.Nat.{ℕ, ◌-◌}
+use Prim.Native.Nat.{ℕ}
 use lib.ListN.{get_or, set}
 use Rattle.layouts.proofs.Rows.{in-range-at, table-few, table-ranged}
 use Rattle.layouts.proofs.Lanes.{filled_none, filled_more, filled-all, column-most}
@@ -8,7 +8,7 @@ use native.Mathlib.Omega.{arith}
 use Rattle.layouts.proofs.column.Goals as goal
 
 pub loop-i-init : goal.loop-i-init
-loop-i-init c = (omega arith, filled_none c.args.table.now c.args.k c.args.padding)
+loop-i-init c = filled_none c.args.table.now c.args.k c.args.padding
 
 pub overflow_cast-out : goal.overflow_cast-out
 overflow_cast-out c =
@@ -23,13 +23,11 @@ bounds-out-i c =
 pub loop-i-preserved : goal.loop-i-preserved
 loop-i-preserved c =
     let a = c.args in
-    let t = a.table.now in (
-      omega (arith, c.loop-i-test.true),
-      ap (λ (xs : List ℕ). set xs c.loop-i.i (get_or (get_or t c.loop-i.i []) a.k 0)) c.loop-i.invariant.1
-          ∙ filled_more t a.k a.padding c.loop-i.i c.loop-i-test.true (table-few t c.requires.table_value),
-    )
+    let t = a.table.now in
+    ap (λ (xs : List ℕ). set xs c.loop-i.i (get_or (get_or t c.loop-i.i []) a.k 0)) c.loop-i.invariant
+    ∙ filled_more t a.k a.padding c.loop-i.i c.loop-i-test.true (table-few t c.requires.table_value)
 
 pub returns : goal.returns
 returns c =
     let a = c.args in
-    c.loop-i.invariant.1 ∙ filled-all a.table.now a.k a.padding c.loop-i.i (omega (arith, c.loop-i.invariant.0, c.loop-i-test.false))
+    c.loop-i.invariant ∙ filled-all a.table.now a.k a.padding c.loop-i.i (omega (arith, c.loop-i.auto, c.loop-i-test.false))

@@ -1,11 +1,11 @@
-use borrow.Author.Tests.{le-leb, lt-leb}
+use Rattle.std.proofs.Common.{rules, tests}
 use Rattle.layouts.specs.Steps.{lane}
 use Rattle.layouts.proofs.lane.Goals as goal
 
-pub returns-then-layout-first : goal.returns-then-layout-first
+pub returns-then-first-layout : goal.returns-then-first-layout
 unfolding lane
-returns-then-layout-first c = let a = c.args in rw (lt-leb a.first a.layout c.if-layout-first.true)
+returns-then-first-layout c = search (rules, tests)
 
-pub returns : goal.returns
+pub returns-else-first-layout : goal.returns-else-first-layout
 unfolding lane
-returns c = let a = c.args in rw (le-leb a.first a.layout c.if-layout-first.false)
+returns-else-first-layout c = search (rules, tests)

@@ -1,5 +1,4 @@
 use mathlib.Core.Path.{◌≡◌, ap, ◌∙◌}
-use Prim.Native.Nat.{◌-◌}
 use lib.ListN.{length, get_or}
 use mir.Val.{bool_byte}
 use Rattle.layouts.specs.Layouts.{one}
@@ -12,7 +11,7 @@ use Rattle.layouts.proofs.lane_count.Goals as goal
 pub overflow_add-count : goal.overflow_add-count
 overflow_add-count c =
     let b = c.lane.result in
-    omega (arith, c.loop-i.invariant.0, c.loop-i.invariant.1.0, one_byte b, one-most b)
+    omega (arith, c.loop-i.invariant.0, one_byte b, one-most b)
 
 pub loop-i-preserved : goal.loop-i-preserved
 loop-i-preserved c =
@@ -26,11 +25,11 @@ loop-i-preserved c =
     let m : length es ≡ 64 = c.requires.lasts_len in
     let e = lanes_next fs es i a.layout (omega arith) (omega arith) in
     let o : bool_byte b ≡ one (lane (get_or fs i 0) (get_or es i 0) a.layout) = one_byte b ∙ ap one c.lane.ensures in
-    (omega arith, (omega (arith, c.loop-i.invariant.1.0, one_byte b, one-most b), omega (arith, c.loop-i.invariant.1.1)))
+    (omega (arith, c.loop-i.invariant.0, one_byte b, one-most b), omega (arith, c.loop-i.invariant.1))
 
 pub returns : goal.returns
 returns c =
     let a = c.args in
     let n : length a.firsts.now ≡ 64 = c.requires.firsts_len in
     let e = lanes_end a.firsts.now a.lasts.now c.loop-i.i a.layout (omega (arith, c.loop-i-test.false)) in
-    omega (arith, c.loop-i.invariant.1.1)
+    omega (arith, c.loop-i.invariant.1)

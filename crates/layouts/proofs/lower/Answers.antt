@@ -1,18 +1,15 @@
-use mathlib.Core.Path.{sym, ap, ◌∙◌}
-use mathlib.Core.Bool.{Bool}
+use Rattle.std.proofs.Common.{rules, tests}
 use Rattle.layouts.specs.Steps.{lower}
-use Rattle.layouts.proofs.Lowest.{lower-above, lower-taken, lower-passed}
 use Rattle.layouts.proofs.lower.Goals as goal
-
-pub returns-then-lowest-at : goal.returns-then-lowest-at
-returns-then-lowest-at c = let a = c.args in sym (lower-above a.found a.layout a.lowest c.if-lowest-at.true)
+use Rattle.layouts.proofs.lower.Goals.{else-at-lowest-via-then-at-lowest+else-found, else-at-lowest-via-else-at-lowest}
 
 pub returns-then-found : goal.returns-then-found
-returns-then-found c =
-    let a = c.args in
-    sym (ap (λ (b : Bool). lower b a.layout a.lowest) c.if-found.true ∙ lower-taken a.layout a.lowest c.if-lowest-at.false)
+unfolding lower
+returns-then-found c = search (rules, tests)
 
-pub returns : goal.returns
-returns c =
-    let a = c.args in
-    sym (ap (λ (b : Bool). lower b a.layout a.lowest) c.if-found.false ∙ lower-passed a.layout a.lowest)
+pub returns-else-at-lowest : goal.returns-else-at-lowest
+unfolding lower
+returns-else-at-lowest c = elim c.else-at-lowest.branch [
+  | else-at-lowest-via-then-at-lowest+else-found w ↦ search (rules, tests)
+  | else-at-lowest-via-else-at-lowest w ↦ search (rules, tests)
+]

@@ -1,5 +1,5 @@
 use mathlib.Core.Path.{sym, ap, ◌∙◌}
-use Prim.Native.Nat.{ℕ, ◌+◌, ◌-◌}
+use Prim.Native.Nat.{ℕ, ◌+◌}
 use lib.Dec.{ltb}
 use lib.ListN.{drop, drop_of_length-le}
 use Rattle.layouts.specs.Layouts.{first, is_overlap}
@@ -10,15 +10,15 @@ use Rattle.layouts.proofs.Lanes.{column-length, count-right}
 use borrow.Author.Rules.{rules}
 use Rattle.layouts.proofs.overlap.Goals as goal
 
-pub loop-i-init : goal.loop-i-init
+pub loop-row-init : goal.loop-row-init
 unfolding overlap_of
-loop-i-init c = search rules
+loop-row-init c = search rules
 
 pub start-at-requires : goal.start-at-requires
 start-at-requires c =
     let s = c in
     let t = s.args.table.now in
-    in-range-at t c.loop-i.i c.loop-i-test.true (table-ranged t s.requires)
+    in-range-at t c.loop-row.row-index c.loop-row-test.true (table-ranged t s.requires)
 
 pub lane_count-requires : goal.lane_count-requires
 lane_count-requires c =
@@ -26,20 +26,18 @@ lane_count-requires c =
     let t = s.args.table.now in
     let n = table-few t s.requires in record { firsts_len = column-length t 0 1 c.column-firsts.result n c.column-firsts.ensures; lasts_len = column-length t 1 0 c.column-lasts.result n c.column-lasts.ensures }
 
-pub loop-i-preserved : goal.loop-i-preserved
-loop-i-preserved c =
+pub loop-row-preserved : goal.loop-row-preserved
+loop-row-preserved c =
     let n = c.lane_count in
     let x = c.start-at in
     let t = c.args.table.now in
-    let e = count-right t c.column-firsts.result c.column-lasts.result x.result n.result c.column-firsts.ensures c.column-lasts.ensures n.ensures in (
-      search rules,
-      ap (λ (r : ℕ). lowest_of (is_overlap t) first r (drop (c.loop-i.i + 1) t))
-          (c.lower-lowest.ensures ∙ ap (λ (m : ℕ). lower (ltb 1 m) x.result c.loop-i.lowest) e ∙ ap (λ (l : ℕ). lower (is_overlap t l) l c.loop-i.lowest) x.ensures)
-          ∙ sym (ap (lowest_of (is_overlap t) first c.loop-i.lowest) (rows_next t c.loop-i.i c.loop-i-test.true))
-          ∙ c.loop-i.invariant.1,
-    )
+    let e = count-right t c.column-firsts.result c.column-lasts.result x.result n.result c.column-firsts.ensures c.column-lasts.ensures n.ensures in
+    ap (λ (r : ℕ). lowest_of (is_overlap t) first r (drop (c.loop-row.row-index + 1) t))
+    (c.lower-lowest.ensures ∙ ap (λ (m : ℕ). lower (ltb 1 m) x.result c.loop-row.lowest) e ∙ ap (λ (l : ℕ). lower (is_overlap t l) l c.loop-row.lowest) x.ensures)
+    ∙ sym (ap (lowest_of (is_overlap t) first c.loop-row.lowest) (rows_next t c.loop-row.row-index c.loop-row-test.true))
+    ∙ c.loop-row.invariant
 
 pub returns : goal.returns
 returns c =
     let t = c.args.table.now in
-    sym (ap (lowest_of (is_overlap t) first c.loop-i.lowest) (drop_of_length-le t c.loop-i-test.false)) ∙ c.loop-i.invariant.1 ∙ overlap-right t
+    sym (ap (lowest_of (is_overlap t) first c.loop-row.lowest) (drop_of_length-le t c.loop-row-test.false)) ∙ c.loop-row.invariant ∙ overlap-right t

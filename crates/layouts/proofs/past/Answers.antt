@@ -11,6 +11,6 @@ pub returns-then-covers : goal.returns-then-covers
 returns-then-covers c = let a = c.args in
     sym (past-on a.row a.at (sym c.covers.ensures ∙ c.if-covers.true))
 
-pub returns : goal.returns
-returns c = let a = c.args in
+pub returns-else-covers : goal.returns-else-covers
+returns-else-covers c = let a = c.args in
     sym (past-stays a.row a.at (sym c.covers.ensures ∙ c.if-covers.false))

@@ -1,17 +1,15 @@
 use mathlib.Core.Path.{sym, ◌∙◌}
-use Prim.Native.Nat.{◌-◌}
 use Rattle.layouts.proofs.Rows.{selector-here, selector-next, selector-none}
-use borrow.Author.Rules.{rules}
 use Rattle.layouts.proofs.selector_at.Goals as goal
 
 pub returns-then-covers : goal.returns-then-covers
 returns-then-covers c = let a = c.args in
-    selector-here a.table.now c.loop-i.i a.layout c.loop-i-test.true c.loop-i.invariant.1 (sym c.covers.ensures ∙ c.if-covers.true)
+    selector-here a.table.now c.loop-row.row-index a.layout c.loop-row-test.true c.loop-row.invariant (sym c.covers.ensures ∙ c.if-covers.true)
 
-pub loop-i-preserved : goal.loop-i-preserved
-loop-i-preserved c = let a = c.args in
-    (search rules, selector-next a.table.now c.loop-i.i a.layout c.loop-i-test.true c.loop-i.invariant.1 (sym c.covers.ensures ∙ c.if-covers.false))
+pub loop-row-preserved : goal.loop-row-preserved
+loop-row-preserved c = let a = c.args in
+    selector-next a.table.now c.loop-row.row-index a.layout c.loop-row-test.true c.loop-row.invariant (sym c.covers.ensures ∙ c.if-covers.false)
 
 pub returns : goal.returns
 returns c = let a = c.args in
-    selector-none a.table.now c.loop-i.i a.layout c.loop-i-test.false c.loop-i.invariant.1
+    selector-none a.table.now c.loop-row.row-index a.layout c.loop-row-test.false c.loop-row.invariant

@@ -1,11 +1,7 @@
 use mathlib.Core.Path.{◌≡◌}
-use Prim.Native.Nat.{◌-◌, ◌≤◌}
-use lib.ListN.{length, drop}
+use lib.ListN.{drop}
 use Rattle.layouts.specs.Steps.{walk}
 use Rattle.layouts.proofs.walk.Given as goal
 
-abbrev pub invariant-loop-i : goal.invariant-loop-i
-invariant-loop-i l = (l.i ≤ length l.table) × (walk l.reached (drop l.i l.table) ≡ walk l.at l.table)
-
-abbrev pub decreases-loop-i : goal.decreases-loop-i
-decreases-loop-i l = length l.table - l.i
+abbrev pub invariant-loop-row : goal.invariant-loop-row
+invariant-loop-row l = walk l.reached (drop l.row-index l.table) ≡ walk l.at l.table

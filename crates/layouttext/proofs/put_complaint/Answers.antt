@@ -1,35 +1,34 @@
 use Rattle.callfile.proofs.Parts.{line-puts}
-use Rattle.layouttext.proofs.Saying.{says_row, says_first, says_last, says-selector, says-above, says-many}
+use Rattle.layouttext.proofs.Saying.{says_row, says_first, says_last, says_selector, says_above, says_many}
 use native.Mathlib.Omega.{arith}
 use Rattle.layouttext.proofs.put_complaint.Goals as goal
 
-pub returns-in-2 : goal.returns-in-2
-returns-in-2 c =
+pub returns-in-NotARow : goal.returns-in-NotARow
+returns-in-NotARow c =
     let p = line-puts (omega arith) (omega arith) c.put_all.ensures in
-    (rw (says_row c.args.kind c.in-2.is) at p, omega (arith, p.next))
+    (rw (says_row c.in-NotARow.is) at p, omega (arith, p.next))
 
-pub returns-in-3 : goal.returns-in-3
-returns-in-3 c =
-    let p = line-puts (omega arith) (omega arith) c.put_all-in-3.ensures in
-    (rw (says_first c.args.kind c.in-3.is) at p, omega (arith, p.next))
+pub returns-in-FirstOut : goal.returns-in-FirstOut
+returns-in-FirstOut c =
+    let p = line-puts (omega arith) (omega arith) c.put_all-in-FirstOut.ensures in
+    (rw (says_first c.in-FirstOut.is) at p, omega (arith, p.next))
 
-pub returns-in-4 : goal.returns-in-4
-returns-in-4 c =
-    let p = line-puts (omega arith) (omega arith) c.put_all-in-4.ensures in
-    (rw (says_last c.args.kind c.in-4.is) at p, omega (arith, p.next))
+pub returns-in-LastOut : goal.returns-in-LastOut
+returns-in-LastOut c =
+    let p = line-puts (omega arith) (omega arith) c.put_all-in-LastOut.ensures in
+    (rw (says_last c.in-LastOut.is) at p, omega (arith, p.next))
 
-pub returns-in-5 : goal.returns-in-5
-returns-in-5 c =
-    let p = line-puts (omega arith) (omega arith) c.put_all-in-5.ensures in
-    (rw (says-selector c.args.kind c.in-5.is) at p, omega (arith, p.next))
+pub returns-in-SelectorOut : goal.returns-in-SelectorOut
+returns-in-SelectorOut c =
+    let p = line-puts (omega arith) (omega arith) c.put_all-in-SelectorOut.ensures in
+    (rw (says_selector c.in-SelectorOut.is) at p, omega (arith, p.next))
 
-pub returns-in-6 : goal.returns-in-6
-returns-in-6 c =
-    let p = line-puts (omega arith) (omega arith) c.put_all-in-6.ensures in
-    (rw (says-above c.args.kind c.in-6.is) at p, omega (arith, p.next))
+pub returns-in-FirstAbove : goal.returns-in-FirstAbove
+returns-in-FirstAbove c =
+    let p = line-puts (omega arith) (omega arith) c.put_all-in-FirstAbove.ensures in
+    (rw (says_above c.in-FirstAbove.is) at p, omega (arith, p.next))
 
-pub returns-in_default : goal.returns-in_default
-returns-in_default c =
-    let n = c.in_default.in_default-own.rest in
-    let p = line-puts (omega arith) (omega arith) c.put_all-in_default.ensures in
-    (rw (says-many c.args.kind n.0.0.0.0.1 n.0.0.0.1 n.0.0.1 n.0.1 n.1) at p, omega (arith, p.next))
+pub returns-in-ManyRows : goal.returns-in-ManyRows
+returns-in-ManyRows c =
+    let p = line-puts (omega arith) (omega arith) c.put_all-in-ManyRows.ensures in
+    (rw (says_many c.in-ManyRows.is) at p, omega (arith, p.next))

@@ -1,7 +1,6 @@
-use Prim.Native.Nat.{◌-◌}
 use mathlib.Core.Path.{refl, sym, ◌∙◌}
 use Rattle.texting.proofs.Taking.{taken}
-use Rattle.layouttext.proofs.Lines.{row-few, state-start, state-none, state-fault, state-passed, kept-lengths, kept-few, reads}
+use Rattle.layouttext.proofs.Lines.{row-taken, state-start, state-none, state-fault, state-passed, kept-lengths, kept-few, reads}
 use native.Mathlib.Omega.{arith}
 use Rattle.layouttext.proofs.read_rows.Goals as goal
 
@@ -26,19 +25,19 @@ slice_bounds-parse-end c =
     let w = taken t c.loop-at.at c.scan-e.result c.loop-at-test.true c.scan-e.ensures in
     omega (arith, w.within)
 
-pub returns-then-kind-gt-EMPTY : goal.returns-then-kind-gt-EMPTY
-returns-then-kind-gt-EMPTY c =
+pub returns-in-Err : goal.returns-in-Err
+returns-in-Err c =
     let t = c.args.text.now in
     let w = taken t c.loop-at.at c.scan-e.result c.loop-at-test.true c.scan-e.ensures in
     let g = c.loop-at in
     let v = g.invariant in
     let b = c.requires in
-    reads v.2 (sym (state-fault g.rows g.lines g.count g.n g.at t v.2 (omega arith) (omega arith) w c.parse-p.ensures c.line_kind-kind.ensures c.if-kind-gt-EMPTY.true) ∙ v.3)
+    reads v.2 (sym (state-fault g.rows g.lines g.count g.n g.at t v.2 (omega arith) (omega arith) w c.parse.ensures c.in-Err.fault (sym c.in-Err.is ∙ c.line_kind-p.ensures)) ∙ v.3)
 
 pub keep-count-requires : goal.keep-count-requires
 keep-count-requires c =
     let v = c.loop-at.invariant in
-    (λ z. row-few c.loop-at.count c.parse-p.result (sym c.line_kind-kind.ensures ∙ z), omega arith, omega arith)
+    (λ row z. (row-taken c.loop-at.count c.parse.result (sym c.line_kind-p.ensures ∙ z)).0, omega arith, omega arith)
 
 pub overflow_add-at : goal.overflow_add-at
 overflow_add-at c =
@@ -59,9 +58,10 @@ loop-at-preserved c =
     let g = c.loop-at in
     let v = g.invariant in
     let k = c.keep-count.ensures in
-    let x = kept-lengths k in
-    let q = c.line_kind-kind.ensures in
-    (x.0 ∙ v.0, x.1 ∙ v.1, kept-few k v.2 (λ z. row-few g.count c.parse-p.result (sym q ∙ z)), state-passed g.rows g.lines g.count g.n g.at t v.2 (omega arith) (omega arith) w c.more_of-n.ensures c.parse-p.ensures q c.if-kind-gt-EMPTY.false k ∙ v.3)
+    let p = c.line_kind-p.result in
+    let x = kept-lengths p k in
+    let q = c.line_kind-p.ensures in
+    (x.0 ∙ v.0, x.1 ∙ v.1, kept-few p k v.2 (λ row z. (row-taken g.count c.parse.result (sym q ∙ z)).0), state-passed g.rows g.lines g.count g.n g.at t v.2 (omega arith) (omega arith) w c.more_of-n.ensures c.parse.ensures c.in_default.field-0 (sym c.in_default.is ∙ q) (rw c.in_default.is at k) ∙ v.3)
 
 pub returns : goal.returns
 returns c =

@@ -1,4 +1,4 @@
-use Prim.Native.Nat.{◌+◌, ◌-◌}
+use Prim.Native.Nat.{◌+◌}
 use mathlib.Core.Path.{refl, ap, sym, ◌∙◌}
 use lib.ListN.{drop, set, replicate, length-set}
 use Rattle.textwords.specs.declared.Stop.TheVariants.{Blank}
@@ -21,7 +21,7 @@ returns-then-n-eq3 c =
     let t = c.args.text.now in
     let v = c.loop-i.invariant in
     let p = passed t c.loop-i.i (c.loop-i.i + run Blank (drop c.loop-i.i t)) (omega arith) v.1 refl in
-    c.without_row.ensures ∙ sym (too_many c.loop-i.n c.loop-i.row _ _ c.if-n-eq3.true) ∙ ap (gather_row c.loop-i.n c.loop-i.row) (sym p.words) ∙ v.4
+    sym (too_many c.loop-i.n c.loop-i.row _ _ c.if-n-eq3.true) ∙ ap (gather_row c.loop-i.n c.loop-i.row) (sym p.words) ∙ v.4
 
 pub slice_bounds-number_of-count : goal.slice_bounds-number_of-count
 slice_bounds-number_of-count c =
@@ -49,7 +49,7 @@ returns-in_default c =
     let t = c.args.text.now in
     let v = c.loop-i.invariant in
     let p = passed t c.loop-i.i c.scan-e.result (omega arith) v.1 c.scan-e.ensures in
-    c.without_row-in_default.ensures ∙ sym (no_number c.loop-i.n c.loop-i.row _ _ c.if-n-eq3.false (sym c.number_of.ensures ∙ c.in_default.is)) ∙ ap (gather_row c.loop-i.n c.loop-i.row) (sym p.words) ∙ v.4
+    sym (no_number c.loop-i.n c.loop-i.row _ _ c.if-n-eq3.false (sym c.number_of.ensures ∙ c.in_default.is)) ∙ ap (gather_row c.loop-i.n c.loop-i.row) (sym p.words) ∙ v.4
 
 pub loop-i-smaller : goal.loop-i-smaller
 loop-i-smaller c =
@@ -65,7 +65,7 @@ loop-i-preserved c =
     let p = passed t c.loop-i.i c.scan-e.result (omega arith) v.1 c.scan-e.ensures in
     let s = c.scan-i-in-loop-i.ensures in
     let e = c.scan-e.result in
-    (word-within t e c.scan-i-in-loop-i.result p.within s, at-word t e c.scan-i-in-loop-i.result p.within s, omega arith, length-set c.loop-i.row c.loop-i.n c.in-Of.v ∙ v.3, ap (gather_row (c.loop-i.n + 1) (set c.loop-i.row c.loop-i.n c.in-Of.v)) (sym (to_word t e c.scan-i-in-loop-i.result p.within s)) ∙ sym (one_number c.loop-i.n c.loop-i.row _ _ c.if-n-eq3.false c.in-Of.v (sym c.number_of.ensures ∙ c.in-Of.is)) ∙ ap (gather_row c.loop-i.n c.loop-i.row) (sym p.words) ∙ v.4)
+    (word-within t e c.scan-i-in-loop-i.result p.within s, at-word t e c.scan-i-in-loop-i.result p.within s, omega arith, length-set c.loop-i.row c.loop-i.n c.in-Some.v ∙ v.3, ap (gather_row (c.loop-i.n + 1) (set c.loop-i.row c.loop-i.n c.in-Some.v)) (sym (to_word t e c.scan-i-in-loop-i.result p.within s)) ∙ sym (one_number c.loop-i.n c.loop-i.row _ _ c.if-n-eq3.false c.in-Some.v (sym c.number_of.ensures ∙ c.in-Some.is)) ∙ ap (gather_row c.loop-i.n c.loop-i.row) (sym p.words) ∙ v.4)
 
 pub returns : goal.returns
 returns c =

@@ -1,5 +1,4 @@
-use mathlib.Core.Path.{sym, ◌∙◌}
-use Prim.Native.Nat.{◌-◌}
+use mathlib.Core.Path.{◌≡◌, sym, ◌∙◌}
 use lib.ListN.{length}
 use Rattle.producers.specs.Groups.{has_id}
 use Rattle.producers.proofs.Loops.{room-start, room_next, room-here, search-start, search-here, search-next, search-none}
@@ -22,7 +21,7 @@ pub returns-then-same_at : goal.returns-then-same_at
 returns-then-same_at c =
     let l = c.loop-k in
     let a = c.args in
-    sym (search-here (has_id a.id) a.width a.n a.head.now l.k l.from c.loop-k-test.true (sym c.same_at.ensures ∙ c.if-same_at.true)) ∙ l.invariant.2
+    (c.loop-k-test.true, sym (search-here (has_id a.id) a.width a.n a.head.now l.k l.from c.loop-k-test.true (sym c.same_at.ensures ∙ c.if-same_at.true)) ∙ l.invariant.2)
 
 pub overflow_add-from : goal.overflow_add-from
 overflow_add-from c =
@@ -41,4 +40,5 @@ pub returns : goal.returns
 returns c =
     let l = c.loop-k in
     let a = c.args in
-    sym (search-none (has_id a.id) a.width a.n a.head.now l.k l.from c.loop-k-test.false l.invariant.0) ∙ l.invariant.2
+    let e : a.n ≡ l.k = omega (arith, l.invariant.0) in
+    e ∙ sym (search-none (has_id a.id) a.width a.n a.head.now l.k l.from c.loop-k-test.false l.invariant.0) ∙ l.invariant.2

@@ -25,7 +25,7 @@ pub returns-then-not-fits : goal.returns-then-not-fits
 returns-then-not-fits c =
     let a = c.args in
     let h : List ℕ = a.head.now in
-    carried (forgetting a.conn) a.d h (released a.conn a.d h) c.refused.result (refused_as 2 a.d) h h c.refused.ensures refl
+    carried (forgetting a.conn) a.d h (released a.conn a.d h) _ (refused_as 2 a.d) h h refl refl
     (released-unfit a.conn a.d h (sym c.fits.ensures ∙ not-true _ c.if-not-fits.true-raw))
 
 pub pack-requires : goal.pack-requires
@@ -41,7 +41,7 @@ returns c =
     let same = c.new-of.ensures in
     let stay = stays false (id_of a.conn 0 0) in
     let audits : ℕ = kept_count stay 1029 a.d.audits (drop 113 h) in
-    carried (forgetting a.conn) a.d h (released a.conn a.d h) c.done.result (done_as 0 (with_audit_count audits a.d)) _ (packed stay 113 1029 a.d.audits h)
-    (c.done.ensures ∙ ap (λ (x : ℕ). done_as 0 (with_audit_count x a.d)) (c.pack.ensures.0 ∙ ap (λ (i : Id). kept_count (stays false i) 1029 a.d.audits (drop 113 h)) same))
+    carried (forgetting a.conn) a.d h (released a.conn a.d h) _ (done_as 0 (with_audit_count audits a.d)) _ (packed stay 113 1029 a.d.audits h)
+    (ap (λ (x : ℕ). done_as 0 (with_audit_count x a.d)) (c.pack.ensures.0 ∙ ap (λ (i : Id). kept_count (stays false i) 1029 a.d.audits (drop 113 h)) same))
     (c.pack.ensures.1 ∙ ap (λ (i : Id). packed (stays false i) 113 1029 a.d.audits h) same)
     (released-done a.conn a.d h (fit (goal.at.returns c).Else-not-fits))

@@ -23,7 +23,7 @@ pub returns-then-not-fits : goal.returns-then-not-fits
 returns-then-not-fits c =
     let a = c.args in
     let h : List ℕ = a.head.now in
-    carried (removing a.id a.clock) a.d h (producer_removed a.clock a.id a.d h) c.refused.result (refused_as 2 a.d) h h c.refused.ensures refl
+    carried (removing a.id a.clock) a.d h (producer_removed a.clock a.id a.d h) _ (refused_as 2 a.d) h h refl refl
     (removed-unfit a.clock a.id a.d h (sym c.fits.ensures ∙ not-true _ c.if-not-fits.true-raw))
 
 pub pack-requires : goal.pack-requires
@@ -46,8 +46,8 @@ returns c =
     let producers : ℕ = kept_count gone 3 a.d.producers (drop 17 h) in
     let k₁ : List ℕ = packed gone 17 3 a.d.producers h in
     let audits : ℕ = kept_count gone 1029 a.d.audits (drop 113 k₁) in
-    carried (removing a.id a.clock) a.d h (producer_removed a.clock a.id a.d h) c.done.result (done_as 0 (touched a.clock (with_audit_count audits (with_producer_count producers a.d)))) _ (packed gone 113 1029 a.d.audits k₁)
-    (c.done.ensures ∙ ap (done_as 0) c.touch_idle.ensures
+    carried (removing a.id a.clock) a.d h (producer_removed a.clock a.id a.d h) _ (done_as 0 (touched a.clock (with_audit_count audits (with_producer_count producers a.d)))) _ (packed gone 113 1029 a.d.audits k₁)
+    (ap (done_as 0) c.touch_idle.ensures
     ∙ ap₂ (λ (x y : ℕ). done_as 0 (touched a.clock (with_audit_count y (with_producer_count x a.d)))) c.pack.ensures.0 (c.pack-2.ensures.0 ∙ ap (λ (x : List ℕ). kept_count gone 1029 a.d.audits (drop 113 x)) c.pack.ensures.1))
     (c.pack-2.ensures.1 ∙ ap (packed gone 113 1029 a.d.audits) c.pack.ensures.1)
     (removed-done a.clock a.id a.d h (fit (goal.at.returns c).Else-not-fits))

@@ -8,12 +8,12 @@ returns-then-at-ne0 c = let a = c.args in calls-were-read a.block.now a.at c.if-
 pub returns-then-n-eq0 : goal.returns-then-n-eq0
 returns-then-n-eq0 c = let a = c.args in nothing-was-read a.block.now a.at c.if-at-ne0.false c.read_of-n.result c.read_of-n.ensures c.if-n-eq0.true
 
-pub returns-then-kind-eq-CALLS : goal.returns-then-kind-eq-CALLS
-returns-then-kind-eq-CALLS c = let a = c.args in
+pub returns-in-Calls : goal.returns-in-Calls
+returns-in-Calls c = let a = c.args in
     let n = c.read_of-n in
-    calls-come a.block.now a.at c.if-at-ne0.false n.result n.ensures c.if-n-eq0.false (sym c.looks_like-kind.ensures ∙ c.if-kind-eq-CALLS.true)
+    calls-come a.block.now a.at c.if-at-ne0.false n.result n.ensures c.if-n-eq0.false (sym c.looks_like.ensures ∙ c.in-Calls.is)
 
-pub returns : goal.returns
-returns c = let a = c.args in
+pub returns-in_default : goal.returns-in_default
+returns-in_default c = let a = c.args in
     let n = c.read_of-n in
-    puzzles a.block.now a.at c.if-at-ne0.false n.result n.ensures c.if-n-eq0.false (λ z. c.if-kind-eq-CALLS.false (c.looks_like-kind.ensures ∙ z))
+    puzzles a.block.now a.at c.if-at-ne0.false n.result n.ensures c.if-n-eq0.false (λ z. c.in_default.not-Calls (c.looks_like.ensures ∙ z))

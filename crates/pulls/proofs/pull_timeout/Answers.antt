@@ -28,7 +28,7 @@ returns-then-not-s c =
     let a = c.args in
     let t = sym c.fits.ensures ∙ not-false _ c.if-not-fits.false-raw in
     let w = within-fits a.subs.now a.d (length a.rows.now) (length a.events.now) t in
-    let at = sym c.position.ensures ∙ c.in-At.is in
+    let at = sym c.position.ensures ∙ c.in-Some.is in
     timeout-idle _ t a.id a.d a.subs.now a.rows.now a.events.now w _ at c.load-s.result c.load-s.ensures a.generation _ (none_more a.d) (not-true _ c.if-not-s.true)
 
 pub returns-then-s-generation : goal.returns-then-s-generation
@@ -36,7 +36,7 @@ returns-then-s-generation c =
     let a = c.args in
     let t = sym c.fits.ensures ∙ not-false _ c.if-not-fits.false-raw in
     let w = within-fits a.subs.now a.d (length a.rows.now) (length a.events.now) t in
-    let at = sym c.position.ensures ∙ c.in-At.is in
+    let at = sym c.position.ensures ∙ c.in-Some.is in
     timeout-late _ t a.id a.d a.subs.now a.rows.now a.events.now w _ at c.load-s.result c.load-s.ensures a.generation _ (none_more a.d) (not-false _ c.if-not-s.false) (ne_eqb _ _ c.if-s-generation.true)
 
 pub returns : goal.returns
@@ -44,7 +44,7 @@ returns c =
     let a = c.args in
     let t = sym c.fits.ensures ∙ not-false _ c.if-not-fits.false-raw in
     let w = within-fits a.subs.now a.d (length a.rows.now) (length a.events.now) t in
-    let at = sym c.position.ensures ∙ c.in-At.is in
+    let at = sym c.position.ensures ∙ c.in-Some.is in
     let n = c.send_null in
     let f = fits-facts a.subs.now a.d (length a.rows.now) (length a.events.now) t in
     timeout-sent _ t a.id a.d a.subs.now a.rows.now a.events.now w _ at c.load-s.result c.load-s.ensures a.generation (omega arith) (not-false _ c.if-not-s.false) (eq-eqb _ _ c.if-s-generation.false) _ _ _ n.ensures.value.0 n.ensures.subs_after n.ensures.value.1

@@ -27,7 +27,7 @@ returns-then-s-gt0 c =
     let a = c.args in
     let t = sym c.fits.ensures ∙ not-false _ c.if-not-fits.false-raw in
     let w = within-fits a.subs.now a.d (length a.rows.now) (length a.events.now) t in
-    let at = sym c.position.ensures ∙ c.in-At.is in
+    let at = sym c.position.ensures ∙ c.in-Some.is in
     let both = register-not _ t a.id a.d a.subs.now a.rows.now a.events.now w _ at c.load-s.result c.load-s.ensures _ (λ _. t) c.if-s-gt0.true in record { leaves_if = both.0; pull_waits = both.1 }
 
 pub pulling-requires : goal.pulling-requires
@@ -35,7 +35,7 @@ pulling-requires c =
     let a = c.args in
     let t = sym c.fits.ensures ∙ not-false _ c.if-not-fits.false-raw in
     let w = within-fits a.subs.now a.d (length a.rows.now) (length a.events.now) t in
-    let at = sym c.position.ensures ∙ c.in-At.is in
+    let at = sym c.position.ensures ∙ c.in-Some.is in
     generation-low _ t a.id a.d a.subs.now a.rows.now a.events.now w _ at c.load-s.result c.load-s.ensures refl
 
 pub returns : goal.returns
@@ -43,6 +43,6 @@ returns c =
     let a = c.args in
     let t = sym c.fits.ensures ∙ not-false _ c.if-not-fits.false-raw in
     let w = within-fits a.subs.now a.d (length a.rows.now) (length a.events.now) t in
-    let at = sym c.position.ensures ∙ c.in-At.is in
-    let made = c.store.ensures ∙ ap (λ (y : Sub). set a.subs.now c.in-At.i (sub_words y)) c.pulling.ensures in
+    let at = sym c.position.ensures ∙ c.in-Some.is in
+    let made = c.store.ensures ∙ ap (λ (y : Sub). set a.subs.now c.in-Some.i (sub_words y)) c.pulling.ensures in
     let both = register-put _ t a.id a.d a.subs.now a.rows.now a.events.now w _ at c.load-s.result c.load-s.ensures refl c.if-s-gt0.false _ made in record { leaves_if = both.0; pull_waits = both.1 }

@@ -33,6 +33,6 @@ returns c =
     let a = c.args in
     let t = sym c.fits.ensures ∙ not-false _ c.if-not-fits.false-raw in
     let w = within-fits a.subs.now a.d (length a.rows.now) (length a.events.now) t in
-    let at = sym c.position.ensures ∙ c.in-At.is in
-    let made = c.store.ensures ∙ ap (λ (y : Sub). set a.subs.now c.in-At.i (sub_words y)) (c.with_prefetch.ensures ∙ ap (λ (n : ℕ). sub_prefetch n c.load-s.result) (c.room.ensures ∙ ap room (to_z-of_z w32 a.prefetch c.ranges.prefetch))) in
+    let at = sym c.position.ensures ∙ c.in-Some.is in
+    let made = c.store.ensures ∙ ap (λ (y : Sub). set a.subs.now c.in-Some.i (sub_words y)) (c.with_prefetch.ensures ∙ ap (λ (n : ℕ). sub_prefetch n c.load-s.result) (c.room.ensures ∙ ap room (to_z-of_z w32 a.prefetch c.ranges.prefetch))) in
     prefetch-put _ t a.id a.d a.subs.now a.rows.now a.events.now w _ at c.load-s.result c.load-s.ensures refl a.prefetch _ made

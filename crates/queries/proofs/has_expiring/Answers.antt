@@ -1,6 +1,6 @@
 use mathlib.Core.Path.{sym, ap, ◌∙◌}
 use native.Mathlib.Omega.{arith}
-use lib.Seq.{slice}
+use lib.Seq.{slice, length-take-le}
 use Prim.Native.Nat.{ℕ}
 use Rattle.definition.specs.Base.{all}
 use Rattle.definition.specs.Queries.{expirations}
@@ -20,11 +20,18 @@ lasting-waiting-requires c =
     let z = sym c.barred-refusal.ensures ∙ c.if-refusal-ne0.false in
     let n = few a.head.now a.subs.now a.rows.now z c.load-d.result c.load-d.ensures in record { from_le_to = omega (arith, c.first_waiting.ensures); to_in_bounds = omega (arith, n.1, n.2) }
 
+pub slice_bounds-subs_lasting-end : goal.slice_bounds-subs_lasting-end
+slice_bounds-subs_lasting-end c =
+    let a = c.args in
+    let z = sym c.barred-refusal.ensures ∙ c.if-refusal-ne0.false in
+    let n = few a.head.now a.subs.now a.rows.now z c.load-d.result c.load-d.ensures in
+    sym (length-take-le c.load-d.result.consumers a.subs.now n.3)
+
 pub subs_lasting-held-requires : goal.subs_lasting-held-requires
 subs_lasting-held-requires c =
     let a = c.args in
     let z = sym c.barred-refusal.ensures ∙ c.if-refusal-ne0.false in
-    let n = few a.head.now a.subs.now a.rows.now z c.load-d.result c.load-d.ensures in record { n_in_bounds = n.3; subs_in_bounds = n.4 }
+    let n = few a.head.now a.subs.now a.rows.now z c.load-d.result c.load-d.ensures in n.4
 
 pub returns : goal.returns
 returns c =

@@ -1,4 +1,6 @@
-use mathlib.Core.Path.{sym, ◌∙◌}
+use mathlib.Core.Path.{sym, ap, ◌∙◌}
+use Prim.Native.Nat.{ℕ}
+use Rattle.queries.specs.declared.Asked.{Asked}
 use native.Mathlib.Omega.{arith}
 use borrow.Author.Tests.{lt-leb}
 use Rattle.definition.specs.Queries.{idle}
@@ -15,7 +17,7 @@ pub returns-then-clock-gt-CLOCK_MOST : goal.returns-then-clock-gt-CLOCK_MOST
 returns-then-clock-gt-CLOCK_MOST c =
     let a = c.args in
     let z = sym c.barred-refusal.ensures ∙ c.if-refusal-ne0.false in
-    out_of_range a.head.now a.subs.now a.rows.now z (idle a.clock a.secs) (lt-leb _ _ c.if-clock-gt-CLOCK_MOST.true)
+    ap {B = Asked} (λ (k : ℕ). record { refusal = k; answer = 0 }) c.from.ensures ∙ out_of_range a.head.now a.subs.now a.rows.now z (idle a.clock a.secs) (lt-leb _ _ c.if-clock-gt-CLOCK_MOST.true)
 
 pub returns : goal.returns
 returns c =

@@ -1,27 +1,16 @@
-use mathlib.Core.List.{map}
-use Prim.Native.Nat.{◌-◌}
-use lib.Seq.{slice}
+use Rattle.std.proofs.Common.{rules, tests, sym, ap, ◌∙◌, eqb, map}
+use Rattle.std.proofs.lemmas.Iterator.{YieldsList-from_slice}
+use Rattle.std.proofs.lemmas.Iterator.Search.{any_from_yields_List}
+use Rattle.std.specs.List.{slice_range}
 use Rattle.definition.specs.Base.{member}
 use Rattle.definition.specs.Words.{at}
-use Rattle.queries.proofs.Bytes.{met-here, met_next, met-end}
-use native.Mathlib.Omega.{arith}
-use borrow.Author.Rules.{rules}
+use Rattle.definition.specs.Layout.{Row}
+use Rattle.definition.proofs.Chains.{slice-range}
+use Rattle.queries.proofs.Bytes.{any-met}
 use Rattle.queries.proofs.met.Goals as goal
-
-pub returns-then-row-seq : goal.returns-then-row-seq
-returns-then-row-seq c =
-    let a = c.args in
-    let rows = a.rows.now in
-    met-here rows c.loop-i.i a.to c.requires.to_in_bounds a.seq (member a.seq (map (at 0) (slice a.from a.to rows))) c.loop-i.invariant.1 c.loop-i-test.true c.if-row-seq.true
-
-pub loop-i-preserved : goal.loop-i-preserved
-loop-i-preserved c =
-    let a = c.args in
-    let rows = a.rows.now in
-    (search rules, met_next rows c.loop-i.i a.to c.requires.to_in_bounds a.seq (member a.seq (map (at 0) (slice a.from a.to rows))) c.loop-i.invariant.1 c.loop-i-test.true c.if-row-seq.false)
 
 pub returns : goal.returns
 returns c =
     let a = c.args in
-    let rows = a.rows.now in
-    met-end rows c.loop-i.i a.to c.requires.to_in_bounds a.seq (member a.seq (map (at 0) (slice a.from a.to rows))) c.loop-i.invariant.1 (omega arith)
+    let l = slice_range a.rows.now a.from a.to in
+    any_from_yields_List (λ (w : Row). eqb a.seq (at 0 w)) _ _ c.any.result c.any.ensures.ran (YieldsList-from_slice l cc) (λ x b q k. search (rules, tests)) ∙ any-met a.seq l ∙ ap (λ t. member a.seq (map (at 0) t)) (sym (slice-range a.from a.to a.rows.now c.requires.from_le_to))

@@ -1,52 +1,55 @@
-use mathlib.Core.Path.{◌≡◌, ap, ◌∙◌}
-use mathlib.Core.List.{[]}
-use Prim.Native.Nat.{ℕ, ◌-◌, ◌%◌}
-use lib.ListN.{get_or, length-replicate, length-set}
-use lib.Seq.{slice}
+use Rattle.std.proofs.Common.{◌≡◌, ◌∙◌, ◌-◌, ◌+◌, ◌%◌, ◌≤◌, ℕ, sym, ap, arith, get_or, [], subst, map}
+use Rattle.std.proofs.Math.Seq.{slice}
+use lib.ListN.{length-replicate, length-set, set}
+use Rattle.definition.specs.Base.{whether◌then◌else◌, member}
 use Rattle.definition.specs.Words.{at}
-use Rattle.copies.proofs.Laws.{slots_at, slots_small, slots-none, slots-more}
+use Rattle.copies.specs.Copies.{Slot}
+use Rattle.copies.proofs.Laws.{Slots, slots_at, slots-none, slots-more, after}
 use Rattle.queries.specs.Bytes.{bytes_at}
 use Rattle.queries.proofs.Bytes.{bytes-none, bytes-more, added-small}
-use native.Mathlib.Omega.{arith}
-use borrow.Author.Rules.{rules}
 use Rattle.queries.proofs.once.Goals as goal
+use Rattle.queries.proofs.once.Goals.{After-added-sum}
 
 pub loop-i-init : goal.loop-i-init
-loop-i-init c = (search rules, bytes-none c.args.n c.args.rows.now, omega arith, length-replicate {A = ℕ} 1024 0, slots-none 1024 c.args.n c.args.rows.now)
+loop-i-init c = (bytes-none c.args.n c.args.rows.now, omega arith, length-replicate {A = ℕ} 1024 0, slots-none 1024 c.args.n c.args.rows.now)
 
-pub overflow_cast-slots : goal.overflow_cast-slots
-overflow_cast-slots c =
+-- what is added, by the rows after it
+met : (c : After-added-sum) → let a = c.args in let l = c.loop-i in let w = get_or a.rows.now (l.i - 1) [] in c.added-sum.result ≡ (whether member (at 0 w) (map (at 0) (slice l.i a.n a.rows.now)) then 0 else at 9 w)
+met c =
     let a = c.args in
-    let rows = a.rows.now in
-    omega (arith, slots_small 1024 c.loop-i.slots c.loop-i.i a.n rows c.loop-i.invariant.4 (at 0 (get_or rows (c.loop-i.i - 1) [])))
+    let l = c.loop-i in
+    let w = get_or a.rows.now (l.i - 1) [] in
+    c.added-sum.ensures ∙ ap (λ (j : ℕ). whether member (at 0 w) (map (at 0) (slice j a.n a.rows.now)) then 0 else at 9 w) (after a.rows.now l.i a.n c.requires.n_in_bounds c.loop-i-test.true l.auto.i)
+
+small : (c : After-added-sum) → c.added-sum.result ≤ 4294967295
+small c = added-small c.args.rows.now c.loop-i.i c.args.n c.requires.n_in_bounds c.loop-i-test.true c.loop-i.auto.i c.requires.small c.added-sum.result (met c)
 
 pub added-sum-requires : goal.added-sum-requires
 added-sum-requires c =
     let a = c.args in
-    let rows = a.rows.now in record { from_le_to = search rules; to_in_bounds = search rules; slot = slots_at 1024 c.loop-i.slots c.loop-i.i a.n rows c.loop-i.invariant.4 (at 0 (get_or rows (c.loop-i.i - 1) [])) }
+    let rows = a.rows.now in
+    let l = c.loop-i in
+    let x = at 0 (get_or rows (l.i - 1) []) in
+    let e = sym (after rows l.i a.n c.requires.n_in_bounds c.loop-i-test.true l.auto.i) in record {
+      from_le_to = omega (arith, c.loop-i-test.true, l.auto.i);
+      to_in_bounds = c.requires.n_in_bounds;
+      slot = subst (λ (j : ℕ). Slot x (get_or l.slots (x % 1024) 0) j a.n rows) e (slots_at 1024 l.slots l.i a.n rows l.invariant.3 x);
+    }
 
 pub overflow_add-sum : goal.overflow_add-sum
-overflow_add-sum c =
-    let a = c.args in
-    let rows = a.rows.now in
-    let i = c.loop-i.i in
-    let h = c.loop-i-test.true in
-    let v = c.loop-i.invariant in
-    let few = added-small rows i a.n c.requires.n_in_bounds h v.0 c.requires.small c.added-sum.result c.added-sum.ensures in
-    omega (arith, few, v.2)
+overflow_add-sum c = omega (arith, small c, c.loop-i.invariant.1)
 
 pub loop-i-preserved : goal.loop-i-preserved
 loop-i-preserved c =
     let a = c.args in
     let rows = a.rows.now in
-    let i = c.loop-i.i in
+    let l = c.loop-i in
     let h = c.loop-i-test.true in
-    let v = c.loop-i.invariant in
-    let few = added-small rows i a.n c.requires.n_in_bounds h v.0 c.requires.small c.added-sum.result c.added-sum.ensures in
-    (search rules, bytes-more rows i a.n c.requires.n_in_bounds h v.0 c.loop-i.sum c.added-sum.result v.1 c.added-sum.ensures, omega (arith, few, v.2), length-set c.loop-i.slots (at 0 (get_or rows (i - 1) []) % 1024) i ∙ v.3, slots-more rows i a.n c.requires.n_in_bounds h v.0 1024 (λ x. omega arith) c.loop-i.slots v.3 v.4)
+    let w = get_or rows (l.i - 1) [] in
+    let e = sym (after rows l.i a.n c.requires.n_in_bounds h l.auto.i) in
+    (bytes-more rows l.i a.n c.requires.n_in_bounds h l.auto.i l.sum c.added-sum.result l.invariant.0 (met c), omega (arith, small c, l.invariant.1, h, l.auto.i), length-set l.slots (at 0 w % 1024) (l.i - 1 + 1) ∙ l.invariant.2, subst (λ (j : ℕ). Slots 1024 (set l.slots (at 0 w % 1024) j) (l.i - 1) a.n rows) e (slots-more rows l.i a.n c.requires.n_in_bounds h l.auto.i 1024 (λ x. omega arith) l.slots l.invariant.2 l.invariant.3))
 
 pub returns : goal.returns
 returns c =
-    let a = c.args in
-    let e : c.loop-i.i ≡ 0 = omega arith in
-    c.loop-i.invariant.1 ∙ ap (λ (j : ℕ). bytes_at (slice j a.n a.rows.now)) e
+    let e : c.loop-i.i ≡ 0 = omega (arith, c.loop-i-test.false) in
+    c.loop-i.invariant.0 ∙ ap (λ (j : ℕ). bytes_at (slice j c.args.n c.args.rows.now)) e

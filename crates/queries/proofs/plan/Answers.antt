@@ -1,4 +1,4 @@
-use mathlib.Core.Path.{refl, sym, ap₂, ◌∙◌}
+use mathlib.Core.Path.{refl, sym, ap, ap₂, ◌∙◌}
 use Prim.Native.Nat.{ℕ, ◌+◌}
 use native.Mathlib.Omega.{arith}
 use Rattle.queries.specs.declared.PagePlan.{PagePlan}
@@ -8,7 +8,7 @@ use Rattle.queries.proofs.plan.Goals as goal
 pub returns-then-lines-lt-PAGE_MAX : goal.returns-then-lines-lt-PAGE_MAX
 returns-then-lines-lt-PAGE_MAX c =
     let a = c.args in
-    let both = short-plans a.head.now a.subs.now a.rows.now a.lines a.offset a.limit _ c.if-lines-lt-PAGE_MAX.true c.no_plan.ensures in record { value = both.0; page_planned = both.1 }
+    let both = short-plans a.head.now a.subs.now a.rows.now a.lines a.offset a.limit _ c.if-lines-lt-PAGE_MAX.true (c.no_plan.ensures ∙ ap {B = PagePlan} (λ (k : ℕ). record { refusal = k; total = 0; from = 0; count = 0 }) c.from.ensures) in record { value = both.0; page_planned = both.1 }
 
 pub returns-then-refusal-ne0 : goal.returns-then-refusal-ne0
 returns-then-refusal-ne0 c =

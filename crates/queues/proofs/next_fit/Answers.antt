@@ -1,33 +1,9 @@
-use mathlib.Core.Path.{refl, sym, ◌∙◌}
-use Prim.Native.Nat.{◌-◌}
-use native.Mathlib.Omega.{arith}
-use borrow.Author.Rules.{rules}
-use borrow.Author.Tests.{le-leb, lt-leb}
-use Rattle.consumers.proofs.Table.{all-next, all-not, all_none}
+use Rattle.std.proofs.Common.{rules, tests, ◌∙◌, take}
+use Rattle.std.proofs.lemmas.Iterator.{YieldsList-from_slice, YieldsList-from_take}
+use Rattle.std.proofs.lemmas.Iterator.Search.{all_from_yields_List}
+use Rattle.definition.proofs.Chains.{list_all-all}
 use Rattle.consumers.specs.Table.{next_fits}
 use Rattle.queues.proofs.next_fit.Goals as goal
 
-pub loop-i-init : goal.loop-i-init
-loop-i-init c =
-    (search rules, refl)
-
-pub returns-then-subs-i-gt-NEXT_MOST : goal.returns-then-subs-i-gt-NEXT_MOST
-returns-then-subs-i-gt-NEXT_MOST c =
-    let l = c.loop-i in
-    let a = c.args in
-    let pre = c.requires in
-    sym (l.invariant.1 ∙ all-not l.i a.n a.subs.now (omega arith) next_fits (lt-leb _ _ c.if-subs-i-gt-NEXT_MOST.true))
-
-pub loop-i-preserved : goal.loop-i-preserved
-loop-i-preserved c =
-    let l = c.loop-i in
-    let a = c.args in
-    let pre = c.requires in
-    (search rules, l.invariant.1 ∙ all-next l.i a.n a.subs.now (omega arith) next_fits (le-leb _ _ c.if-subs-i-gt-NEXT_MOST.false))
-
 pub returns : goal.returns
-returns c =
-    let l = c.loop-i in
-    let a = c.args in
-    let pre = c.requires in
-    sym (l.invariant.1 ∙ all_none l.i a.n a.subs.now (omega arith) next_fits)
+returns c = all_from_yields_List next_fits _ _ c.all.result c.all.ensures.ran (YieldsList-from_take c.args.n (YieldsList-from_slice c.args.subs.now cc) cc) (λ x b q k. search (rules, tests)) ∙ list_all-all next_fits (take c.args.n c.args.subs.now)

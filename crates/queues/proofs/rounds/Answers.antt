@@ -1,8 +1,8 @@
 use mathlib.Core.Path.{◌≡◌, refl, sym, ap₂, ◌∙◌}
 use mathlib.Core.Bool.{false}
-use Prim.Native.Nat.{ℕ, ◌+◌, ◌-◌, ◌%◌, ◌<◌}
+use Prim.Native.Nat.{ℕ, ◌+◌, ◌%◌, ◌<◌}
 use native.Mathlib.Omega.{arith}
-use borrow.Author.Tests.{not-true, eq-eqb, ne_eqb}
+use borrow.Author.Tests.{not-true}
 use Rattle.queues.proofs.Visiting.{visited-not}
 use Rattle.queues.proofs.Scanning.{seeking-start, seeking-on, place-within, going_start, going-empty, going-stop, going_less, going_on}
 use Rattle.queues.proofs.rounds.Goals as goal
@@ -27,17 +27,6 @@ overflow_add-d c =
 
 pub in_turn-i-requires : goal.in_turn-i-requires
 in_turn-i-requires c = omega arith
-
-pub overflow_add-k : goal.overflow_add-k
-overflow_add-k c =
-    let y = c.requires.0.consumers in
-    let h = c.loop-k-test.true in
-    omega arith
-
-pub loop-k-smaller-then-not-can_take : goal.loop-k-smaller-then-not-can_take
-loop-k-smaller-then-not-can_take c =
-    let h = c.loop-k-test.true in
-    omega arith
 
 pub loop-k-preserved-then-not-can_take : goal.loop-k-preserved-then-not-can_take
 loop-k-preserved-then-not-can_take c =
@@ -72,7 +61,7 @@ dispatch-smaller c =
     let less : l.k < o.d.consumers = omega (arith, c.loop-k-test.true) in
     let place : c.in_turn-i.result ≡ (o.d.turn + l.k) % o.d.consumers = c.in_turn-i.ensures ∙ ap₂ (λ (x n : ℕ). (x + l.k) % n) l.invariant.turn (sym same) in
     let v = c.visit-r in
-    let t = rw (ne_eqb v.result.took 0 c.if-r-ne0.true) at v.ensures in
+    let t = rw c.if-r.true at v.ensures in
     going_less a.by a.subs.now a.rows.now a.events.now a.before o.subs o.rows o.events o.d l.subs l.rows l.events l.d l.k o.invariant l.invariant less _ _ _ _ (rw place at t)
 
 pub dispatch-preserved : goal.dispatch-preserved
@@ -84,19 +73,8 @@ dispatch-preserved c =
     let less : l.k < o.d.consumers = omega (arith, c.loop-k-test.true) in
     let place : c.in_turn-i.result ≡ (o.d.turn + l.k) % o.d.consumers = c.in_turn-i.ensures ∙ ap₂ (λ (x n : ℕ). (x + l.k) % n) l.invariant.turn (sym same) in
     let v = c.visit-r in
-    let t = rw (ne_eqb v.result.took 0 c.if-r-ne0.true) at v.ensures in
+    let t = rw c.if-r.true at v.ensures in
     going_on a.by a.subs.now a.rows.now a.events.now a.before o.subs o.rows o.events o.d l.subs l.rows l.events l.d l.k o.invariant l.invariant less _ _ _ _ (rw place at t)
-
-pub overflow_add-k-in-loop-k : goal.overflow_add-k-in-loop-k
-overflow_add-k-in-loop-k c =
-    let y = c.requires.0.consumers in
-    let h = c.loop-k-test.true in
-    omega arith
-
-pub loop-k-smaller : goal.loop-k-smaller
-loop-k-smaller c =
-    let h = c.loop-k-test.true in
-    omega arith
 
 pub loop-k-preserved : goal.loop-k-preserved
 loop-k-preserved c =
@@ -107,7 +85,7 @@ loop-k-preserved c =
     let less : l.k < o.d.consumers = omega (arith, c.loop-k-test.true) in
     let place : c.in_turn-i.result ≡ (o.d.turn + l.k) % o.d.consumers = c.in_turn-i.ensures ∙ ap₂ (λ (x n : ℕ). (x + l.k) % n) l.invariant.turn (sym same) in
     let v = c.visit-r in
-    let t = rw (eq-eqb v.result.took 0 c.if-r-ne0.false) at v.ensures in
+    let t = rw c.if-r.false at v.ensures in
     seeking-on a.by o.subs o.rows o.events o.d l.subs l.rows l.events l.d l.k l.invariant less _ _ _ _ _ (rw place at t) refl
 
 pub returns-in-dispatch : goal.returns-in-dispatch

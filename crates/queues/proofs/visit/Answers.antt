@@ -38,7 +38,7 @@ after_look-seen-requires c =
     let ok = pre.0 in
     let f = c.first_waiting.ensures in
     let l = c.look-l.result in
-    let e : (c.first_waiting.result ≤ l.end) × (l.end ≤ a.d.used) = looks-end l.chosen a.by c.load-s.result c.first_waiting.result a.d.used a.rows.now c.look-l.new.rows l.at l.end l.cursor c.look-l.ensures in
+    let e : (c.first_waiting.result ≤ l.end) × (l.end ≤ a.d.used) = looks-end l.at a.by c.load-s.result c.first_waiting.result a.d.used a.rows.now c.look-l.new.rows l.end l.cursor c.look-l.ensures in
     let less : a.d.used - l.end ≤ a.d.waiting = omega arith in
     (e.1, less)
 
@@ -52,11 +52,11 @@ give-given-requires c =
     let closed = c.if-s.false in
     let credited = sym c.has_credit.ensures ∙ not-false _ c.if-not-has_credit.false-raw in
     let head = c.after_look-seen.ensures in
-    let m = rw c.if-l.true at l.ensures in
+    let m = rw c.in-Some.is at l.ensures in
     rw (s, head) (found-gives a.by a.i a.d a.subs.now a.rows.now a.events.now pre.0 pre.1 (rw s at closed) (rw s at credited) _ _ _ (rw (s, f) at m))
 
-pub returns-then-l : goal.returns-then-l
-returns-then-l c =
+pub returns-in-Some : goal.returns-in-Some
+returns-in-Some c =
     let a = c.args in
     let pre = c.requires in
     let s = c.load-s.ensures in
@@ -65,7 +65,7 @@ returns-then-l c =
     let closed = c.if-s.false in
     let credited = sym c.has_credit.ensures ∙ not-false _ c.if-not-has_credit.false-raw in
     let head = c.after_look-seen.ensures in
-    let m = rw c.if-l.true at l.ensures in
+    let m = rw c.in-Some.is at l.ensures in
     let g = c.give-given.ensures in
     visited-found a.by a.i a.d a.subs.now a.rows.now a.events.now pre.0 pre.1 (rw s at closed) (rw s at credited) _ _ _ (rw (s, f) at m) _ _ _ _ (rw (s, head) at g)
 
@@ -79,6 +79,6 @@ returns c =
     let closed = c.if-s.false in
     let credited = sym c.has_credit.ensures ∙ not-false _ c.if-not-has_credit.false-raw in
     let head = c.after_look-seen.ensures in
-    let m = rw c.if-l.false at l.ensures in
+    let m = rw c.in_default.is at l.ensures in
     let t = c.store.ensures in
     rw (head, rw s at t) (visited-missed a.by a.i a.d a.subs.now a.rows.now a.events.now pre.0 pre.1 (rw s at closed) (rw s at credited) _ _ _ (rw (s, f) at m))

@@ -1,9 +1,7 @@
 -- What was read so far stands behind the first bytes.
 use Rattle.reading.specs.Read.{ReadInto}
+use Rattle.reading.specs.declared.How.TheVariants.{Again}
 use Rattle.reading.proofs.read_on.Given as goal
 
-abbrev pub invariant-loop-turns : goal.invariant-loop-turns
-invariant-loop-turns g l = ReadInto l.fn.have l.fn.buf l.buf l.n 3
-
-abbrev pub decreases-loop-turns : goal.decreases-loop-turns
-decreases-loop-turns g l = l.turns
+abbrev pub invariant-loop : goal.invariant-loop
+invariant-loop g l = ReadInto l.fn.have l.fn.buf l.buf l.n Again

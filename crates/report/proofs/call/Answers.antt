@@ -9,12 +9,12 @@ returns-then-lists_short c =
     let a = c.args in
     short-noted a.c a.n (lent a.head.now a.subs.now a.rows.now) a.events.now a.held.now a.left.now (sym c.lists_short.ensures ∙ c.if-lists_short.true)
 
-pub returns-then-refusal-ne0 : goal.returns-then-refusal-ne0
-returns-then-refusal-ne0 c =
+pub returns-then-out-ne0 : goal.returns-then-out-ne0
+returns-then-out-ne0 c =
     let k = c.call-out in
     let a = c.args in
     let s = sym c.lists_short.ensures ∙ c.if-lists_short.false in
-    not_made a.c a.n (lent a.head.now a.subs.now a.rows.now) a.events.now a.held.now a.left.now s _ _ k.result.refusal k.result.answer k.result.events k.ensures c.if-refusal-ne0.true
+    not_made a.c a.n (lent a.head.now a.subs.now a.rows.now) a.events.now a.held.now a.left.now s _ _ k.result.refusal k.result.answer k.result.events k.ensures c.if-out-ne0.true
 
 pub returns-then-not-d : goal.returns-then-not-d
 returns-then-not-d c =
@@ -22,14 +22,14 @@ returns-then-not-d c =
     let k = c.call-out in
     let a = c.args in
     let s = sym c.lists_short.ensures ∙ c.if-lists_short.false in
-    topic-noted a.c a.n (lent a.head.now a.subs.now a.rows.now) a.events.now a.held.now a.left.now s _ _ k.result.refusal k.result.answer k.result.events k.ensures c.if-refusal-ne0.false d.result d.ensures (not-true _ c.if-not-d.true)
+    topic-noted a.c a.n (lent a.head.now a.subs.now a.rows.now) a.events.now a.held.now a.left.now s _ _ k.result.refusal k.result.answer k.result.events k.ensures c.if-out-ne0.false d.result d.ensures (not-true _ c.if-not-d.true)
 
 pub account-moved-requires : goal.account-moved-requires
 account-moved-requires c =
     let d = c.load-d in
     let k = c.call-out in
     let a = c.args in
-    let s = sym c.lists_short.ensures ∙ c.if-lists_short.false in record { held_numbers = made-numbers a.c a.n (lent a.head.now a.subs.now a.rows.now) a.events.now a.held.now a.left.now s _ _ k.result.refusal k.result.answer k.result.events k.ensures c.if-refusal-ne0.false d.result d.ensures (not-false _ c.if-not-d.false); left_value = s }
+    let s = sym c.lists_short.ensures ∙ c.if-lists_short.false in record { held_numbers = made-numbers a.c a.n (lent a.head.now a.subs.now a.rows.now) a.events.now a.held.now a.left.now s _ _ k.result.refusal k.result.answer k.result.events k.ensures c.if-out-ne0.false d.result d.ensures (not-false _ c.if-not-d.false); left_value = s }
 
 pub returns : goal.returns
 returns c =
@@ -37,4 +37,4 @@ returns c =
     let k = c.call-out in
     let a = c.args in
     let s = sym c.lists_short.ensures ∙ c.if-lists_short.false in
-    queue-noted a.c a.n (lent a.head.now a.subs.now a.rows.now) a.events.now a.held.now a.left.now s _ _ k.result.refusal k.result.answer k.result.events k.ensures c.if-refusal-ne0.false d.result d.ensures (not-false _ c.if-not-d.false) _ _ _ _ c.account-moved.ensures
+    queue-noted a.c a.n (lent a.head.now a.subs.now a.rows.now) a.events.now a.held.now a.left.now s _ _ k.result.refusal k.result.answer k.result.events k.ensures c.if-out-ne0.false d.result d.ensures (not-false _ c.if-not-d.false) _ _ _ _ c.account-moved.ensures

@@ -1,6 +1,5 @@
 use mathlib.Core.Path.{sym, ap, ◌∙◌}
 use native.Mathlib.Omega.{arith}
-use borrow.Author.Tests.{lt-ltb, le-ltb}
 use lib.ListN.{length, take}
 use lib.Seq.{sets}
 use Rattle.report.proofs.Going.{new_none, new-stays, new-goes}
@@ -11,14 +10,12 @@ returns-then-code-ne-ENQUEUE c =
     let a = c.args in
     let e = new_none a.code a.words (take a.m a.held.now) c.if-code-ne-ENQUEUE.true in record { value = omega (arith, ap length e); upper_bound = omega arith; left_after = sym (ap (sets a.left.now a.k) e) }
 
-pub returns-then-place-m : goal.returns-then-place-m
-returns-then-place-m c =
+pub returns-then-is_some : goal.returns-then-is_some
+returns-then-is_some c =
     let a = c.args in
-    let f = c.find-place in
-    let e = new-stays a.code a.words (take a.m a.held.now) c.if-code-ne-ENQUEUE.false (sym f.ensures ∙ lt-ltb f.result a.m c.if-place-m.true) in record { value = omega (arith, ap length e); upper_bound = omega arith; left_after = sym (ap (sets a.left.now a.k) e) }
+    let e = new-stays a.code a.words (take a.m a.held.now) c.if-code-ne-ENQUEUE.false (sym c.find.ensures.found ∙ sym c.is_some.ensures ∙ c.if-is_some.true) in record { value = omega (arith, ap length e); upper_bound = omega arith; left_after = sym (ap (sets a.left.now a.k) e) }
 
 pub returns : goal.returns
 returns c =
     let a = c.args in
-    let f = c.find-place in
-    let e = new-goes a.code a.words (take a.m a.held.now) c.if-code-ne-ENQUEUE.false (sym f.ensures ∙ le-ltb f.result a.m c.if-place-m.false) _ c.went.ensures in record { value = omega (arith, ap length e); upper_bound = omega arith; left_after = sym (ap (sets a.left.now a.k) e) }
+    let e = new-goes a.code a.words (take a.m a.held.now) c.if-code-ne-ENQUEUE.false (sym c.find.ensures.found ∙ sym c.is_some.ensures ∙ c.if-is_some.false) _ c.went.ensures in record { value = omega (arith, ap length e); upper_bound = omega arith; left_after = sym (ap (sets a.left.now a.k) e) }

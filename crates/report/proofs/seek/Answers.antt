@@ -1,5 +1,4 @@
 use mathlib.Core.Path.{refl}
-use Prim.Native.Nat.{◌-◌}
 use Rattle.report.proofs.Seeking.{seek_found, seek-next, seek-none}
 use native.Mathlib.Omega.{arith}
 use borrow.Author.Rules.{rules}
@@ -12,7 +11,7 @@ pub returns-then-blocks-i : goal.returns-then-blocks-i
 returns-then-blocks-i c =
     let l = c.loop-i in
     let a = c.args in
-    seek_found a.seq a.blocks.now l.i a.to c.requires.to_bound _ l.invariant.1 c.loop-i-test.true c.if-blocks-i.true
+    record { found = seek_found a.seq a.blocks.now l.i a.to c.requires.to_bound _ l.invariant.1 c.loop-i-test.true c.if-blocks-i.true; place = c.loop-i-test.true }
 
 pub loop-i-preserved : goal.loop-i-preserved
 loop-i-preserved c =
@@ -24,4 +23,4 @@ pub returns : goal.returns
 returns c =
     let l = c.loop-i in
     let a = c.args in
-    seek-none a.seq a.blocks.now l.i a.to c.requires.to_bound _ l.invariant.1 (omega arith)
+    record { found = seek-none a.seq a.blocks.now l.i a.to c.requires.to_bound _ l.invariant.1 (omega arith); place = tt }

@@ -1,4 +1,4 @@
-use Prim.Native.Nat.{ℕ, ◌+◌, ◌-◌}
+use Prim.Native.Nat.{ℕ, ◌+◌}
 use mathlib.Core.Path.{refl, subst⁻¹}
 use Rattle.definition.specs.Layout.{lent}
 use Rattle.reporting.proofs.Turns.{Said, none_yet, one_more, all-run}
@@ -15,9 +15,6 @@ report_call-t-requires c =
     let l = c.loop-k in
     let p = c.requires in
     (omega (arith, l.invariant.0.small, l.invariant.0.put.same, c.loop-k-test.true, p.0, p.1), omega (arith, l.invariant.0.same, p.2), omega (arith, l.invariant.1, p.3), l.invariant.0.few)
-
-pub overflow_add-k : goal.overflow_add-k
-overflow_add-k c = omega (arith, c.loop-k-test.true, c.requires.0)
 
 pub loop-k-preserved : goal.loop-k-preserved
 loop-k-preserved c =

@@ -1,4 +1,3 @@
-use Prim.Native.Nat.{◌-◌}
 use mathlib.Core.Path.{◌≡◌}
 use lib.ListN.{length}
 use Rattle.definition.specs.Layout.{lent}
@@ -7,6 +6,3 @@ use Rattle.reporting.proofs.report_calls.Given as goal
 
 abbrev pub invariant-loop-k : goal.invariant-loop-k
 invariant-loop-k l = Said l.block l.count l.from (lent l.initial.head l.initial.subs l.initial.rows) l.initial.events l.initial.held l.initial.kept l.initial.out (lent l.head l.subs l.rows) l.events l.held l.kept l.out l.index l.at l.k × (length l.left ≡ length l.initial.left)
-
-abbrev pub decreases-loop-k : goal.decreases-loop-k
-decreases-loop-k l = l.count - l.k

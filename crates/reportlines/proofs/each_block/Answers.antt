@@ -1,34 +1,25 @@
-use Prim.Native.Nat.{ℕ, ◌-◌}
-use mathlib.Core.Path.{◌≡◌, subst}
-use lib.ListN.{take}
-use Rattle.callfile.specs.Placed.{Puts}
-use Rattle.reportlines.specs.ReportLines.{blocks_text}
-use Rattle.reportlines.proofs.Blocks.{no_blocks, so-many, space, one_more, all_there}
-use native.Mathlib.Omega.{arith}
+use lib.ListN.{length}
+use Rattle.std.proofs.lemmas.List.{take_all}
+use Rattle.reportlines.proofs.Blocks.{no_blocks, so-many, space, one_more}
 use Rattle.reportlines.proofs.each_block.Goals as goal
 
-pub loop-i-init : goal.loop-i-init
-loop-i-init c = (no_blocks c.args.out.now c.args.from, omega arith)
-
-pub returns-then-blocks-i : goal.returns-then-blocks-i
-returns-then-blocks-i c =
-    let l = c.loop-i in
-    (all_there c.args.blocks.now c.args.from l.i c.args.n c.args.out.now l.out l.at l.invariant.0 c.requires l.invariant.1 c.if-blocks-i.true, so-many c.args.blocks.now c.args.from l.i c.args.n c.args.out.now l.out l.at l.invariant.0 c.requires l.invariant.1)
+pub loop-b-init : goal.loop-b-init
+loop-b-init c = no_blocks c.args.out.now c.args.from
 
 pub block_line-at-requires : goal.block_line-at-requires
 block_line-at-requires c =
-    let l = c.loop-i in
-    space c.args.blocks.now c.args.from l.i c.args.n c.args.out.now l.out l.at l.invariant.0 c.requires c.loop-i-test.true
+    let l = c.loop-b in
+    let a = c.args in
+    space a.blocks.now a.from l.b-index (length a.blocks.now) a.out.now l.out l.at l.invariant c.requires c.loop-b-test.true
 
-pub loop-i-preserved : goal.loop-i-preserved
-loop-i-preserved c =
-    let l = c.loop-i in
-    let h = c.loop-i-test.true in
-    (one_more c.args.blocks.now c.args.from l.i c.args.n c.args.out.now l.out l.at l.invariant.0 c.requires (omega (arith, c.if-blocks-i.false)) c.block_line-at.ensures.0, omega (arith, h))
+pub loop-b-preserved : goal.loop-b-preserved
+loop-b-preserved c =
+    let l = c.loop-b in
+    let a = c.args in
+    one_more a.blocks.now a.from l.b-index (length a.blocks.now) a.out.now l.out l.at l.invariant c.requires c.loop-b-test.true c.block_line-at.ensures.0
 
 pub returns : goal.returns
 returns c =
-    let l = c.loop-i in
+    let l = c.loop-b in
     let a = c.args in
-    let e : l.i ≡ a.n = omega (arith, l.invariant.1, c.loop-i-test.false) in
-    (subst (λ (k : ℕ). Puts (blocks_text (take k a.blocks.now)) a.from a.out.now l.at l.out) e l.invariant.0, so-many a.blocks.now a.from l.i a.n a.out.now l.out l.at l.invariant.0 c.requires l.invariant.1)
+    (rw (take_all l.b-index a.blocks.now c.loop-b-test.false) at l.invariant, so-many a.blocks.now a.from l.b-index (length a.blocks.now) a.out.now l.out l.at l.invariant c.requires l.auto.b-index-end)

@@ -1,5 +1,9 @@
-use mathlib.Core.Path.{sym, ◌∙◌}
+use mathlib.Core.Path.{sym, ◌∙◌, ◌≡◌, ap}
+use Prim.Native.Nat.{ℕ, ◌+◌, ◌*◌, ◌≤◌}
+use lib.ListN.{length, take}
 use borrow.Author.Tests.{leb-true, not-true, not-false}
+use native.Mathlib.Omega.{arith}
+use Rattle.std.proofs.lemmas.List.{length-take, take_min}
 use Rattle.callfile.proofs.Parts.{whole-line, no_room}
 use Rattle.reportlines.proofs.put_blocks.Goals as goal
 
@@ -7,9 +11,15 @@ pub returns-then-not-blocks_fit : goal.returns-then-not-blocks_fit
 returns-then-not-blocks_fit c = no_room _ _ _ (sym c.blocks_fit.ensures ∙ not-true _ c.if-not-blocks_fit.true-raw)
 
 pub each_block-requires : goal.each_block-requires
-each_block-requires c = leb-true _ _ (sym c.blocks_fit.ensures ∙ not-false _ c.if-not-blocks_fit.false-raw)
+each_block-requires c =
+    let a = c.args in
+    let h : a.from + (128 + 64 * a.n) ≤ length a.out.now = leb-true _ _ (sym c.blocks_fit.ensures ∙ not-false _ c.if-not-blocks_fit.false-raw) in
+    omega (arith, length-take c.min.result a.blocks.now)
 
 pub returns : goal.returns
 returns c =
+    let a = c.args in
     let t = sym c.blocks_fit.ensures ∙ not-false _ c.if-not-blocks_fit.false-raw in
-    whole-line t c.each_block.ensures
+    let e : take c.min.result a.blocks.now ≡ take a.n a.blocks.now = ap (λ (k : ℕ). take k a.blocks.now) c.min.ensures ∙ take_min a.n a.blocks.now in
+    let p = c.each_block.ensures in
+    whole-line t (rw e at p.0, omega (arith, p.1, length-take c.min.result a.blocks.now))

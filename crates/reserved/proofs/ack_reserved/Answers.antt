@@ -1,10 +1,8 @@
-use mathlib.Core.Path.{◌≡◌, sym, ap, ◌∙◌}
-use mathlib.Core.Bool.{Bool, true, false}
+use mathlib.Core.Path.{sym, ap, ◌∙◌}
 use borrow.Author.Tests.{not-true, not-false}
 use lib.ListN.{length}
-use Rattle.definition.specs.Words.{present}
 use Rattle.state.proofs.Fitting.{fits-facts}
-use Rattle.acks.specs.Acks.{ack_of}
+use Rattle.acks.specs.Acks.{maybe_number, ack_of}
 use Rattle.state.proofs.Leaves.{when-leaves}
 use Rattle.state.proofs.Answers.{leaves-no}
 use Rattle.reserved.proofs.Taking.{holds, acks-reserved, acks-nothing}
@@ -15,13 +13,12 @@ returns-then-not-fits c =
     let a = c.args in
     leaves-no _ _ _ a.d a.subs.now a.rows.now a.events.now (sym c.fits.ensures ∙ not-true _ c.if-not-fits.true-raw)
 
-pub returns-then-not-a : goal.returns-then-not-a
-returns-then-not-a c =
+pub returns-in_default : goal.returns-in_default
+returns-in_default c =
     let a = c.args in
     let y = sym c.fits.ensures ∙ not-false _ c.if-not-fits.false-raw in
     let f = fits-facts a.subs.now a.d (length a.rows.now) (length a.events.now) y in
-    let no : a.a.has_last ≡ false = not-true _ c.if-not-a.true in
-    when-leaves _ _ _ a.d _ a.subs.now a.rows.now a.events.now _ _ _ y (acks-nothing a.id (ack_of a.a) a.subs.now a.rows.now a.events.now a.d f (ack_of a.a).last (ap (λ (b : Bool). present b a.a.last) no))
+    when-leaves _ _ _ a.d _ a.subs.now a.rows.now a.events.now _ _ _ y (acks-nothing a.id (ack_of a.a) a.subs.now a.rows.now a.events.now a.d f (ack_of a.a).last (ap maybe_number c.in_default.is))
 
 pub take_out-requires : goal.take_out-requires
 take_out-requires c =
@@ -35,6 +32,5 @@ returns c =
     let a = c.args in
     let y = sym c.fits.ensures ∙ not-false _ c.if-not-fits.false-raw in
     let f = fits-facts a.subs.now a.d (length a.rows.now) (length a.events.now) y in
-    let yes : a.a.has_last ≡ true = not-false _ c.if-not-a.false in
     when-leaves _ _ _ a.d _ a.subs.now a.rows.now a.events.now _ _ _ y
-    (acks-reserved a.id (ack_of a.a) a.subs.now a.rows.now a.events.now a.d f _ _ _ c.of-rule.result _ a.a.last (ack_of a.a).last c.of-rule.ensures c.numbers-p.ensures (ap (λ (b : Bool). present b a.a.last) yes) (c.take_out.ensures a.subs.now f))
+    (acks-reserved a.id (ack_of a.a) a.subs.now a.rows.now a.events.now a.d f _ _ _ c.of-rule.result _ c.in-Some.last (ack_of a.a).last c.of-rule.ensures c.numbers-p.ensures (ap maybe_number c.in-Some.is) (c.take_out.ensures a.subs.now f))

@@ -2,12 +2,12 @@ use mathlib.Core.Path.{sym, ◌∙◌}
 use Rattle.returns.proofs.Answers.{present-yes, present-no}
 use Rattle.returns.proofs.is_present.Goals as goal
 
-pub returns-in-At : goal.returns-in-At
-returns-in-At c =
+pub returns-in-Some : goal.returns-in-Some
+returns-in-Some c =
     let a = c.args in
-    present-yes a.id a.d a.subs.now _ (sym c.position-found.ensures ∙ c.in-At.is)
+    present-yes a.id a.d a.subs.now _ (sym c.position-found.ensures ∙ c.in-Some.is)
 
-pub returns-in-Nothing : goal.returns-in-Nothing
-returns-in-Nothing c =
+pub returns-in-None : goal.returns-in-None
+returns-in-None c =
     let a = c.args in
-    present-no a.id a.d a.subs.now (sym c.position-found.ensures ∙ c.in-Nothing.is)
+    present-no a.id a.d a.subs.now (sym c.position-found.ensures ∙ c.in-None.is)

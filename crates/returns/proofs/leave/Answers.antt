@@ -27,23 +27,23 @@ pub leave_at-requires : goal.leave_at-requires
 leave_at-requires c =
     let a = c.args in
     let f = fits-facts a.subs.now a.d (length a.rows.now) (length a.events.now) (sym c.fits.ensures ∙ not-false _ c.if-not-fits.false-raw) in
-    let e = sym c.position-found.ensures ∙ c.in-At.is in
+    let e = sym c.position-found.ensures ∙ c.in-Some.is in
     let w = position-within a.id (take a.d.consumers a.subs.now) _ e in
     (fits-least a.subs.now a.d (length a.rows.now) (length a.events.now) f, omega (arith, w, length-take-le a.d.consumers a.subs.now (omega (arith, f.consumers, f.subs-long))), c.if-clock-gt-CLOCK_MOST.false)
 
-pub returns-in-At : goal.returns-in-At
-returns-in-At c =
+pub returns-in-Some : goal.returns-in-Some
+returns-in-Some c =
     let a = c.args in
     let t = bounds-fit a.clock a.subs.now a.d (length a.rows.now) (length a.events.now) (sym c.fits.ensures ∙ not-false _ c.if-not-fits.false-raw) c.if-clock-gt-CLOCK_MOST.false in
-    let e = sym c.position-found.ensures ∙ c.in-At.is in
+    let e = sym c.position-found.ensures ∙ c.in-Some.is in
     let z : to_z w64 (of_z w64 a.last) ≡ a.last = to_z-of_z w64 a.last c.ranges.last in
     let l = c.leave_at.ensures in
     when-leaves _ _ _ a.d _ a.subs.now a.rows.now a.events.now _ _ a.events.now t (rw z at (l.0 a.id a.events.now e), l.1)
 
-pub returns-in-Nothing : goal.returns-in-Nothing
-returns-in-Nothing c =
+pub returns-in-None : goal.returns-in-None
+returns-in-None c =
     let a = c.args in
     let y = sym c.fits.ensures ∙ not-false _ c.if-not-fits.false-raw in
     let f = fits-facts a.subs.now a.d (length a.rows.now) (length a.events.now) y in
-    let e = sym c.position-found.ensures ∙ c.in-Nothing.is in
+    let e = sym c.position-found.ensures ∙ c.in-None.is in
     when-leaves _ _ _ a.d a.d a.subs.now a.rows.now a.events.now a.subs.now a.rows.now a.events.now (bounds-fit a.clock a.subs.now a.d (length a.rows.now) (length a.events.now) y c.if-clock-gt-CLOCK_MOST.false) (leaves-absent a.id a.d a.subs.now a.clock a.last a.rows.now a.events.now f e, f.sent)

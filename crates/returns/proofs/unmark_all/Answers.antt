@@ -1,4 +1,5 @@
-use Prim.Native.Nat.{◌-◌}
+use mathlib.Core.Path.{◌≡◌}
+use Prim.Native.Nat.{◌+◌}
 use native.Mathlib.Omega.{arith}
 use Rattle.returns.proofs.Unmarking.{unmarking-start, unmarking-room, unmarking-turn, unmarking-leaves}
 use Rattle.returns.proofs.unmark_all.Goals as goal
@@ -27,22 +28,13 @@ overflow_add-base-in-loop-i c =
     let r = unmarking-room a.id a.d a.subs.now a.rows.now c.requires l.i l.base l.rows l.invariant c.loop-i-test.true c.load-s.result c.load-s.ensures in
     record { fits = omega (arith, r) }
 
-pub overflow_add-i : goal.overflow_add-i
-overflow_add-i c =
-    let f = c.requires in
-    let h = c.loop-i-test.true in
-    record { fits = omega (arith, h, f.consumers) }
-
-pub loop-i-smaller : goal.loop-i-smaller
-loop-i-smaller c =
-    let h = c.loop-i-test.true in
-    omega (arith, h)
-
 pub loop-i-preserved : goal.loop-i-preserved
 loop-i-preserved c =
     let l = c.loop-i in
     let a = c.args in
-    unmarking-turn a.id a.d a.subs.now a.rows.now c.requires l.i l.base l.rows l.invariant c.loop-i-test.true c.load-s.result c.load-s.ensures _ c.unmark_one.ensures
+    let s = c.load-s.result in
+    let e : l.base + (s.inflight + s.held) ≡ l.base + s.inflight + s.held = omega arith in
+    rw e (unmarking-turn a.id a.d a.subs.now a.rows.now c.requires l.i l.base l.rows l.invariant c.loop-i-test.true s c.load-s.ensures _ c.unmark_one.ensures)
 
 pub returns : goal.returns
 returns c =

@@ -1,9 +1,5 @@
-use Prim.Native.Nat.{◌-◌}
 use Rattle.returns.proofs.Unmarking.{Unmarking}
 use Rattle.returns.proofs.unmark_all.Given as goal
 
 abbrev pub invariant-loop-i : goal.invariant-loop-i
-invariant-loop-i l = Unmarking l.id l.n l.subs l.initial.rows l.i l.base l.rows
-
-abbrev pub decreases-loop-i : goal.decreases-loop-i
-decreases-loop-i l = l.n - l.i
+invariant-loop-i l = Unmarking l.id l.fn.d.consumers l.subs l.initial.rows l.i l.base l.rows

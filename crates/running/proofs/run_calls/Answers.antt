@@ -1,5 +1,5 @@
 use mathlib.Core.Path.{subst⁻¹}
-use Prim.Native.Nat.{ℕ, ◌+◌, ◌-◌}
+use Prim.Native.Nat.{ℕ, ◌+◌}
 use Rattle.running.proofs.Blocks.{Sofar, none_yet, one_more, all-run}
 use native.Mathlib.Omega.{arith}
 use Rattle.definition.specs.Layout.{lent}

@@ -1,4 +1,3 @@
-use Prim.Native.Nat.{◌-◌}
 use Rattle.running.proofs.Blocks.{Sofar}
 use Rattle.definition.specs.Layout.{lent}
 use Rattle.running.proofs.run_calls.Given as goal
@@ -6,7 +5,3 @@ use Rattle.running.proofs.run_calls.Given as goal
 abbrev pub invariant-loop-k : goal.invariant-loop-k
 invariant-loop-k l =
     Sofar l.block l.count l.from (lent l.initial.head l.initial.subs l.initial.rows) l.initial.events l.initial.out (lent l.head l.subs l.rows) l.events l.out l.index l.at l.k
-
-abbrev pub decreases-loop-k : goal.decreases-loop-k
-decreases-loop-k l =
-    l.count - l.k

@@ -1,9 +1,10 @@
-use Rattle.running.proofs.Steps.{passed-by, passed_over}
-use native.Mathlib.Omega.{arith}
+use Rattle.std.proofs.Common.{arith, ◌≡◌, ◌+◌, ◌-◌, false}
+use Rattle.running.specs.Files.{unread_as}
 use Rattle.running.proofs.unread.Goals as goal
 
-pub returns-then-len-from : goal.returns-then-len-from
-returns-then-len-from c = let a = c.args in passed-by a.at a.from a.len (omega arith)
-
 pub returns : goal.returns
-returns c = let a = c.args in passed_over a.at a.from a.len c.if-len-from.false
+unfolding unread_as
+returns c =
+    let a = c.args in
+    let e : c.max.result ≡ a.from + (a.len - a.from) = omega arith in
+    λ j. record { reading = record { have = a.at.have; number = a.at.number; index = a.at.index; goes_on = false }; next = e j; written = 0 }

@@ -1,7 +1,7 @@
 use mathlib.Core.Path.{◌≡◌, refl, sym, ap, ◌∙◌}
 use mathlib.Core.Bool.{true, false, false≢true}
 use mathlib.Core.List.{List, [], ◌++◌}
-use Prim.Native.Nat.{ℕ, ◌+◌, ◌-◌, ◌%◌, ◌≤◌}
+use Prim.Native.Nat.{ℕ, ◌+◌, ◌%◌, ◌≤◌}
 use lib.ListN.{take, drop, get_or, length-set}
 use lib.Seq.{slice}
 use Rattle.definition.specs.Base.{member}
@@ -38,8 +38,8 @@ not_below-at-requires c =
 pub returns-then-stands : goal.returns-then-stands
 returns-then-stands c = λ t. absurd (false≢true t)
 
-pub loop-i-preserved-then-low-seq : goal.loop-i-preserved-then-low-seq
-loop-i-preserved-then-low-seq c =
+pub loop-i-preserved : goal.loop-i-preserved
+loop-i-preserved c =
     let a = c.args in
     let rows = a.rows.now in
     let v = c.loop-i.invariant in
@@ -53,14 +53,14 @@ loop-i-preserved-then-low-seq c =
     let t = c.loop-i-test.true in
     (omega (arith, t), e.upper_bound, (λ y u. r.1 y u ∙ e.same_from y u), e.rows_value_2, length-set c.loop-i.slots (x % 256) true ∙ v.4, met-more a.slots.now c.loop-i.slots w rows a.from c.loop-i.i (omega (arith, t, c.requires.n_in_bounds)) (omega (arith, v.4, c.requires.do_bound)) v.5 c.if-slots-slot.false m)
 
-pub loop-i-preserved : goal.loop-i-preserved
-loop-i-preserved c =
+pub loop-i-preserved-then-seq-low : goal.loop-i-preserved-then-seq-low
+loop-i-preserved-then-seq-low c =
     let a = c.args in
     let rows = a.rows.now in
     let v = c.loop-i.invariant in
     let x : ℕ = at 0 (get_or rows (a.from + c.loop-i.i) []) in
     let w : List ℕ = seqs_at (slice a.first a.end rows) in
-    let m : member x w ≡ false = c.least_of-low.ensures x c.if-low-seq.false in
+    let m : member x w ≡ false = c.least_of-low.ensures x c.if-seq-low.true in
     (search rules, v.1, v.2, v.3, length-set c.loop-i.slots (x % 256) true ∙ v.4, met-more a.slots.now c.loop-i.slots w rows a.from c.loop-i.i (omega arith) (omega arith) v.5 c.if-slots-slot.false m)
 
 pub returns : goal.returns

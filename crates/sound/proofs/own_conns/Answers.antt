@@ -16,17 +16,17 @@ use Rattle.sound.proofs.own_conns.Goals as goal
 pub returns-then-not-on_queue : goal.returns-then-not-on_queue
 returns-then-not-on_queue c =
     let a = c.args in
-    let g = c.gather_conns in
-    let us = take a.n a.subs.now in
+    let g = c.gather in
+    let us = a.subs.now in
     ap (λ (n : ℕ). take n g.new.out) (sym (zero-add (a.others + a.rest))) ∙ g.ensures
     ∙ ap (λ (q : Bool). own_conns q a.others a.rest us a.rows.now) (sym (not-true a.on_queue c.if-not-on_queue.true-raw))
 
 pub returns : goal.returns
 returns c =
     let a = c.args in
-    let g = c.gather_conns-2 in
+    let g = c.gather-2 in
     let h = c.taken_conns in
-    let us = take a.n a.subs.now in
+    let us = a.subs.now in
     let rows = a.rows.now in
     let rest : List ℕ = conns_at (take a.rest (drop a.others rows)) in
     let out : List ℕ = conns (taken (subs_at queue us rows)) in

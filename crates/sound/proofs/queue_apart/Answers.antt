@@ -27,7 +27,7 @@ returns-then-not-distinct c =
     let rows = a.rows.now in
     let f : ℕ = a.others + a.reserved in
     let kept : List ℕ = seqs_at (reserved_at a.others a.reserved rows) in
-    let out : List ℕ = seqs (taken (subs_at queue (take a.n a.subs.now) rows)) in
+    let out : List ℕ = seqs (taken (subs_at queue a.subs.now rows)) in
     let e : take h.result h.new.out ≡ kept ++ out = gathered-two a.out.now g.new.out h.new.out kept out a.reserved h.result g.ensures h.ensures.out_after in
     sym (waiting-apart rows f a.waiting (kept ++ out) (omega arith) (sorted_rises (slice f (f + a.waiting) rows) c.requires.rows_value) ∙ ap (λ (t : Bool). t && apart (kept ++ out) (seqs_at (slice f (f + a.waiting) rows))) (sym (ap distinct e) ∙ sym d.ensures ∙ not-true d.result c.if-not-distinct.true-raw))
 
@@ -40,7 +40,7 @@ returns-then-waiting-eq0 c =
     let rows = a.rows.now in
     let f : ℕ = a.others + a.reserved in
     let kept : List ℕ = seqs_at (reserved_at a.others a.reserved rows) in
-    let out : List ℕ = seqs (taken (subs_at queue (take a.n a.subs.now) rows)) in
+    let out : List ℕ = seqs (taken (subs_at queue a.subs.now rows)) in
     let e : take h.result h.new.out ≡ kept ++ out = gathered-two a.out.now g.new.out h.new.out kept out a.reserved h.result g.ensures h.ensures.out_after in
     sym (ap (λ (n : ℕ). distinct (seqs_at (waiting_at a.others a.reserved n rows) ++ (kept ++ out))) c.if-waiting-eq0.true ∙ sym (ap distinct e) ∙ sym d.ensures ∙ not-false d.result c.if-not-distinct.false-raw)
 
@@ -49,7 +49,7 @@ none_waits-requires c =
     let a = c.args in
     let g = c.gather in
     let h = c.gather_taken-end in
-    let f : ℕ = a.others + a.reserved in record { n_in_bounds = omega (arith, g.auto.out, h.auto.out, h.ensures.upper_bound); from_le_to = search rules; to_in_bounds = search rules; rows_value = sorted_rises (slice f (f + a.waiting) a.rows.now) c.requires.rows_value }
+    let f : ℕ = a.others + a.reserved in record { from_le_to = search rules; to_in_bounds = search rules; rows_value = sorted_rises (slice f (f + a.waiting) a.rows.now) c.requires.rows_value }
 
 pub returns : goal.returns
 returns c =
@@ -60,6 +60,6 @@ returns c =
     let rows = a.rows.now in
     let f : ℕ = a.others + a.reserved in
     let kept : List ℕ = seqs_at (reserved_at a.others a.reserved rows) in
-    let out : List ℕ = seqs (taken (subs_at queue (take a.n a.subs.now) rows)) in
+    let out : List ℕ = seqs (taken (subs_at queue a.subs.now rows)) in
     let e : take h.result h.new.out ≡ kept ++ out = gathered-two a.out.now g.new.out h.new.out kept out a.reserved h.result g.ensures h.ensures.out_after in
     c.none_waits.ensures ∙ ap (all (λ x. not (member x (seqs_at (slice f (f + a.waiting) rows))))) e ∙ sym (waiting-apart rows f a.waiting (kept ++ out) (omega arith) (sorted_rises (slice f (f + a.waiting) rows) c.requires.rows_value) ∙ ap (λ (t : Bool). t && apart (kept ++ out) (seqs_at (slice f (f + a.waiting) rows))) (sym (ap distinct e) ∙ sym d.ensures ∙ not-false d.result c.if-not-distinct.false-raw))

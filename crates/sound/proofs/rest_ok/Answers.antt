@@ -4,7 +4,7 @@ use Prim.Native.Nat.{ℕ, ◌+◌, ◌≤◌}
 use borrow.Author.Tests.{not-true, not-false}
 use lib.Dec.{eqb}
 use lib.ListN.{length}
-use lib.Seq.{slice}
+use lib.Seq.{slice, length-take-le}
 use Rattle.definition.specs.Base.{every}
 use Rattle.definition.specs.Calls.{bound}
 use Rattle.definition.specs.Words.{at}
@@ -55,6 +55,9 @@ returns-then-not-look c =
     let t = c.test_all-look in
     rest-unfit b (omega (arith, (head-counts h c.requires.head_value.0).0)) c.requires.in_bounds_2 (sym t.ensures.ok_value ∙ not-true t.result.ok c.if-not-look.true)
 
+pub slice_bounds-subs-end : goal.slice_bounds-subs-end
+slice_bounds-subs-end c = sym (length-take-le (at 12 c.args.head.now) c.args.subs.now (omega (arith, (head-counts c.args.head.now c.requires.head_value.0).0, c.requires.do_bound)))
+
 pub numbers_ok-requires : goal.numbers_ok-requires
 numbers_ok-requires c =
     let b = given (goal.at.numbers_ok-requires c).Else-not-look in
@@ -64,7 +67,6 @@ numbers_ok-requires c =
     let e = k.3 in
     let p = every-all (tests b) k.2 in
     let q = eqb (at 0 h) 0 in record {
-      n_bound = k.0;
       others_value = e;
       waiting_in_bounds = omega (arith, e, k.1, c.requires.in_bounds_2);
       waiting_bound = omega (arith, e, k.1);
@@ -85,7 +87,7 @@ overflow_add-rest c = let k = known (goal.at.overflow_add-rest c).Else-not-look 
 
 pub shares_ok-requires : goal.shares_ok-requires
 shares_ok-requires c =
-    let k = known (goal.at.shares_ok-requires c).Else-not-look in record { n_bound = k.0; others_value = k.3; rest_in_bounds = omega (arith, k.3, k.1, c.requires.in_bounds_2); rest_bound = omega (arith, k.3, k.1) }
+    let k = known (goal.at.shares_ok-requires c).Else-not-look in record { others_value = k.3; rest_in_bounds = omega (arith, k.3, k.1, c.requires.in_bounds_2); rest_bound = omega (arith, k.3, k.1) }
 
 pub returns : goal.returns
 returns c =

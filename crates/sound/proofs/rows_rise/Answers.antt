@@ -1,4 +1,3 @@
-use Prim.Native.Nat.{◌-◌}
 use lib.Seq.{slice}
 use Rattle.definition.specs.Base.{rising}
 use Rattle.subrows.specs.Subrows.{seqs_at}

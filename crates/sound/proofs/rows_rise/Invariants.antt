@@ -1,5 +1,5 @@
 use mathlib.Core.Path.{◌≡◌}
-use Prim.Native.Nat.{◌-◌, ◌≤◌}
+use Prim.Native.Nat.{◌≤◌}
 use lib.Seq.{slice}
 use Rattle.definition.specs.Base.{rising}
 use Rattle.subrows.specs.Subrows.{seqs_at}
@@ -7,6 +7,3 @@ use Rattle.sound.proofs.rows_rise.Given as goal
 
 abbrev pub invariant-loop-i : goal.invariant-loop-i
 invariant-loop-i l = (l.i ≤ l.to) × (rising l.last (seqs_at (slice l.i l.to l.rows)) ≡ rising 0 (seqs_at (slice l.from l.to l.rows)))
-
-abbrev pub decreases-loop-i : goal.decreases-loop-i
-decreases-loop-i l = l.to - l.i

@@ -1,7 +1,7 @@
 use mathlib.Core.Path.{◌≡◌, refl, sym, ap, ◌∙◌}
-use mathlib.Core.Bool.{true, false, false≢true}
+use mathlib.Core.Bool.{false, false≢true}
 use mathlib.Core.List.{List, [], ◌++◌}
-use Prim.Native.Nat.{ℕ, ◌+◌, ◌-◌}
+use Prim.Native.Nat.{ℕ, ◌+◌}
 use borrow.Author.Tests.{not-false}
 use lib.ListN.{take, drop, get_or, length-replicate}
 use lib.Seq.{slice}
@@ -10,7 +10,7 @@ use Rattle.definition.specs.Calls.{seqs, taken}
 use Rattle.definition.specs.Layout.{subs_at}
 use Rattle.subrows.specs.Subrows.{seqs_at, reserved_at}
 use Rattle.sound.specs.Sound.{marked_apart}
-use Rattle.subrows.proofs.Subs.{rows-turn, sorted_rises}
+use Rattle.subrows.proofs.Subs.{rows-item, sorted_rises}
 use Rattle.sound.proofs.Gathered.{taken_more, taken-all, taken-small}
 use Rattle.sound.proofs.Glance.{marked-queue}
 use native.Mathlib.Omega.{arith}
@@ -26,20 +26,20 @@ marks-requires c =
 pub returns-then-not-marks : goal.returns-then-not-marks
 returns-then-not-marks c = λ t. absurd (false≢true t)
 
-pub loop-i-init : goal.loop-i-init
-loop-i-init c =
+pub loop-w-init : goal.loop-w-init
+loop-w-init c =
     let a = c.args in
     let g = c.marks in
-    (search rules, search rules, g.auto.slots ∙ length-replicate 256 false, (seqs_at (reserved_at a.others a.reserved a.rows.now), (refl, g.ensures (not-false g.result c.if-not-marks.false-raw) [] refl)))
+    (search rules, g.auto.slots ∙ length-replicate 256 false, (seqs_at (reserved_at a.others a.reserved a.rows.now), (refl, g.ensures (not-false g.result c.if-not-marks.false-raw) [] refl)))
 
-pub marks-requires-in-loop-i : goal.marks-requires-in-loop-i
-marks-requires-in-loop-i c =
+pub marks-requires-in-loop-w : goal.marks-requires-in-loop-w
+marks-requires-in-loop-w c =
     let a = c.args in
-    let subs = a.subs.now in
-    let h = c.loop-i-test.true in
+    let us = a.subs.now in
+    let h = c.loop-w-test.true in
     let f : ℕ = a.others + a.reserved in
     let up = sorted_rises (slice f (f + a.waiting) a.rows.now) c.requires.rows_value in
-    let v = c.loop-i.invariant in record { n_in_bounds = omega (arith, h, v.1, c.requires.others_value, c.requires.waiting_in_bounds, rows-turn subs c.loop-i.i a.n c.requires.n_bound h, c.taken_of-k.ensures, taken-small (get_or subs c.loop-i.i [])); do_bound = omega (arith, v.2); first_le_end = omega arith; end_in_bounds = omega (arith, c.requires.waiting_in_bounds); rows_value = up }
+    let v = c.loop-w.invariant in record { n_in_bounds = omega (arith, h, v.0, c.requires.others_value, c.requires.waiting_in_bounds, rows-item us c.loop-w.w-index h, c.taken_of-k.ensures, taken-small (get_or us c.loop-w.w-index [])); do_bound = omega (arith, v.1); first_le_end = omega arith; end_in_bounds = omega (arith, c.requires.waiting_in_bounds); rows_value = up }
 
 pub returns-then-not-marks-2 : goal.returns-then-not-marks-2
 returns-then-not-marks-2 c = λ t. absurd (false≢true t)
@@ -47,36 +47,35 @@ returns-then-not-marks-2 c = λ t. absurd (false≢true t)
 pub overflow_add-base : goal.overflow_add-base
 overflow_add-base c =
     let a = c.args in
-    let subs = a.subs.now in
-    let h = c.loop-i-test.true in
-    omega (arith, h, c.loop-i.invariant.1, c.requires.others_value, c.requires.waiting_bound, rows-turn subs c.loop-i.i a.n c.requires.n_bound h)
+    let us = a.subs.now in
+    let h = c.loop-w-test.true in
+    omega (arith, h, c.loop-w.invariant.0, c.requires.others_value, c.requires.waiting_bound, rows-item us c.loop-w.w-index h)
 
-pub overflow_add-base-in-loop-i : goal.overflow_add-base-in-loop-i
-overflow_add-base-in-loop-i c =
+pub overflow_add-base-in-loop-w : goal.overflow_add-base-in-loop-w
+overflow_add-base-in-loop-w c =
     let a = c.args in
-    let subs = a.subs.now in
-    let h = c.loop-i-test.true in
-    omega (arith, h, c.loop-i.invariant.1, c.requires.others_value, c.requires.waiting_bound, rows-turn subs c.loop-i.i a.n c.requires.n_bound h)
+    let us = a.subs.now in
+    let h = c.loop-w-test.true in
+    omega (arith, h, c.loop-w.invariant.0, c.requires.others_value, c.requires.waiting_bound, rows-item us c.loop-w.w-index h)
 
-pub loop-i-preserved : goal.loop-i-preserved
-loop-i-preserved c =
+pub loop-w-preserved : goal.loop-w-preserved
+loop-w-preserved c =
     let a = c.args in
-    let subs = a.subs.now in
-    let h = c.loop-i-test.true in
-    let v = c.loop-i.invariant in
-    let g = c.marks-in-loop-i in
+    let us = a.subs.now in
+    let h = c.loop-w-test.true in
+    let v = c.loop-w.invariant in
+    let g = c.marks-in-loop-w in
     let k = c.taken_of-k in
     let rows = a.rows.now in
-    let met = v.3.0 in
-    let total : List ℕ = seqs_at (reserved_at a.others a.reserved rows) ++ seqs (taken (subs_at queue (take a.n subs) rows)) in (
-      omega (arith, h),
-      omega (arith, v.1, rows-turn subs c.loop-i.i a.n c.requires.n_bound h),
-      g.auto.slots ∙ v.2,
+    let met = v.2.0 in
+    let total : List ℕ = seqs_at (reserved_at a.others a.reserved rows) ++ seqs (taken (subs_at queue us rows)) in (
+      omega (arith, v.0, rows-item us c.loop-w.w-index h),
+      g.auto.slots ∙ v.1,
       (
-        met ++ seqs_at (take k.result (drop c.loop-i.base rows)),
+        met ++ seqs_at (take k.result (drop c.loop-w.base rows)),
         (
-          taken_more subs c.loop-i.i a.n c.requires.n_bound rows c.loop-i.base met total v.3.1.0 k.result h k.ensures,
-          g.ensures (not-false g.result c.if-not-marks-2.false-raw) met v.3.1.1,
+          taken_more us c.loop-w.w-index rows c.loop-w.base met total v.2.1.0 k.result h k.ensures,
+          g.ensures (not-false g.result c.if-not-marks-2.false-raw) met v.2.1.1,
         ),
       ),
     )
@@ -84,12 +83,12 @@ loop-i-preserved c =
 pub returns : goal.returns
 returns c =
     let a = c.args in
-    let subs = a.subs.now in
+    let us = a.subs.now in
     let rows = a.rows.now in
     let f : ℕ = a.others + a.reserved in
     let up = sorted_rises (slice f (f + a.waiting) a.rows.now) c.requires.rows_value in
-    let v = c.loop-i.invariant in
-    let met = v.3.0 in
-    let total : List ℕ = seqs_at (reserved_at a.others a.reserved rows) ++ seqs (taken (subs_at queue (take a.n subs) rows)) in
-    let e : met ≡ total = taken-all subs c.loop-i.i a.n c.requires.n_bound rows c.loop-i.base met total v.3.1.0 (omega (arith, v.0, c.loop-i-test.false)) in
-    λ t. marked-queue c.loop-i.slots rows f a.waiting total (omega (arith, c.requires.waiting_in_bounds)) up (sym (ap (marked_apart c.loop-i.slots (seqs_at (slice f (f + a.waiting) rows))) e) ∙ v.3.1.1)
+    let v = c.loop-w.invariant in
+    let met = v.2.0 in
+    let total : List ℕ = seqs_at (reserved_at a.others a.reserved rows) ++ seqs (taken (subs_at queue us rows)) in
+    let e : met ≡ total = taken-all us c.loop-w.w-index rows c.loop-w.base met total v.2.1.0 c.loop-w-test.false in
+    λ t. marked-queue c.loop-w.slots rows f a.waiting total (omega (arith, c.requires.waiting_in_bounds)) up (sym (ap (marked_apart c.loop-w.slots (seqs_at (slice f (f + a.waiting) rows))) e) ∙ v.2.1.1)

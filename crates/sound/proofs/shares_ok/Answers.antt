@@ -1,5 +1,4 @@
 use mathlib.Core.Path.{sym, ap, ◌∙◌}
-use lib.ListN.{take}
 use Rattle.shares.specs.Shares.{within_each}
 use Rattle.sound.proofs.Connected.{shares-full}
 use Rattle.sound.proofs.shares_ok.Goals as goal
@@ -7,7 +6,7 @@ use Rattle.sound.proofs.shares_ok.Goals as goal
 pub returns-then-others-rest : goal.returns-then-others-rest
 returns-then-others-rest c =
     let a = c.args in
-    sym (shares-full a.rest (take a.n a.subs.now) a.rows.now a.share a.others a.on_queue c.requires.others_value c.if-others-rest.true)
+    sym (shares-full a.rest a.subs.now a.rows.now a.share a.others a.on_queue c.requires.others_value c.if-others-rest.true)
 
 pub returns : goal.returns
 returns c =

@@ -8,7 +8,7 @@ use Rattle.state.proofs.load.Goals as goal
 
 pub returns-then-head-lt-HEAD_WORDS : goal.returns-then-head-lt-HEAD_WORDS
 unfolding loaded
-returns-then-head-lt-HEAD_WORDS c = rw (lt-ltb _ _ c.if-head-lt-HEAD_WORDS.true) c.no_head.ensures
+returns-then-head-lt-HEAD_WORDS c = rw (lt-ltb _ _ c.if-head-lt-HEAD_WORDS.true)
 
 pub returns : goal.returns
 unfolding head_of loaded

@@ -1,3 +1,8 @@
+use mathlib.Core.Path.{refl, sym, ap, ◌∙◌}
+use native.Mathlib.Omega.{arith}
+use Rattle.model.specs.Refusal.{refusal_number}
+use Rattle.state.specs.Answers.{refusal_of}
+use Rattle.state.proofs.Told.{numbered}
 use Rattle.stationcalls.proofs.Uncoded.{discarding-silent, barred-left, barred-asks, bare-called}
 use Rattle.stationcalls.proofs.Steps.{asked-within}
 use Rattle.stationcalls.proofs.Shape.{as-refused}
@@ -8,11 +13,11 @@ use lib.ListN.{length}
 use mathlib.Core.List.{[]}
 use Rattle.stationcalls.proofs.add_discarded.Goals as goal
 
-pub returns-then-refusal-ne0 : goal.returns-then-refusal-ne0
-returns-then-refusal-ne0 c = as-refused (lent_all c.args.heads.now c.args.subs.now c.args.rows.now c.args.own.now) c.args.events.now c.args.number 1 [] (buffer_station_uncoded (lent_all c.args.heads.now c.args.subs.now c.args.rows.now c.args.own.now) (length c.args.events.now) c.args.number discarding) c.barred-refusal.result c.refused.result c.refused.ensures (barred-left c.args.heads.now c.args.subs.now c.args.rows.now c.args.own.now c.args.events.now c.args.number discarding c.barred-refusal.result c.barred-refusal.ensures c.if-refusal-ne0.true)
+pub returns-in-Err : goal.returns-in-Err
+returns-in-Err c = as-refused (lent_all c.args.heads.now c.args.subs.now c.args.rows.now c.args.own.now) c.args.events.now c.args.number 1 [] (buffer_station_uncoded (lent_all c.args.heads.now c.args.subs.now c.args.rows.now c.args.own.now) (length c.args.events.now) c.args.number discarding) (refusal_number c.in-Err.refusal) c.refused.result c.refused.ensures (barred-left c.args.heads.now c.args.subs.now c.args.rows.now c.args.own.now c.args.events.now c.args.number discarding (refusal_number c.in-Err.refusal) (sym (ap refusal_of c.in-Err.is) ∙ c.barred.ensures) (λ z. omega (arith, z, numbered c.in-Err.refusal)))
 
 pub add_discarded-requires : goal.add_discarded-requires
-add_discarded-requires c = (asked-within c.args.heads.now c.args.subs.now c.args.rows.now c.args.own.now c.args.number 1 (length c.args.events.now) (barred-asks c.args.heads.now c.args.subs.now c.args.rows.now c.args.own.now c.args.events.now c.args.number discarding c.barred-refusal.result c.barred-refusal.ensures c.if-refusal-ne0.false)).0
+add_discarded-requires c = (asked-within c.args.heads.now c.args.subs.now c.args.rows.now c.args.own.now c.args.number 1 (length c.args.events.now) (barred-asks c.args.heads.now c.args.subs.now c.args.rows.now c.args.own.now c.args.events.now c.args.number discarding 0 (sym (ap refusal_of c.in-Ok.is) ∙ c.barred.ensures) refl)).0
 
-pub returns : goal.returns
-returns c = bare-called c.args.heads.now c.args.subs.now c.args.rows.now c.args.own.now c.args.events.now c.args.number discarding (barred-asks c.args.heads.now c.args.subs.now c.args.rows.now c.args.own.now c.args.events.now c.args.number discarding c.barred-refusal.result c.barred-refusal.ensures c.if-refusal-ne0.false) discarding-silent c.add_discarded.new.heads c.add_discarded.new.subs c.add_discarded.new.rows c.add_discarded.new.events c.add_discarded.result (c.add_discarded.ensures c.args.own.now)
+pub returns-in-Ok : goal.returns-in-Ok
+returns-in-Ok c = bare-called c.args.heads.now c.args.subs.now c.args.rows.now c.args.own.now c.args.events.now c.args.number discarding (barred-asks c.args.heads.now c.args.subs.now c.args.rows.now c.args.own.now c.args.events.now c.args.number discarding 0 (sym (ap refusal_of c.in-Ok.is) ∙ c.barred.ensures) refl) discarding-silent c.add_discarded.new.heads c.add_discarded.new.subs c.add_discarded.new.rows c.add_discarded.new.events c.add_discarded.result (c.add_discarded.ensures c.args.own.now)

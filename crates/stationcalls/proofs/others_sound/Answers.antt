@@ -1,5 +1,4 @@
 use mathlib.Core.Path.{refl, sym, ◌∙◌}
-use Prim.Native.Nat.{◌-◌}
 use borrow.Author.Tests.{not-true, not-false}
 use Rattle.stationcalls.specs.Parts.{lent_all}
 use Rattle.stationcalls.specs.Own.{other_ok}

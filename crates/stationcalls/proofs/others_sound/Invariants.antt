@@ -1,5 +1,5 @@
 use mathlib.Core.Path.{◌≡◌}
-use Prim.Native.Nat.{◌-◌, ◌≤◌}
+use Prim.Native.Nat.{◌≤◌}
 use Rattle.stationcalls.specs.Parts.{lent_all}
 use Rattle.stationcalls.specs.Own.{other_ok}
 use Rattle.stationcalls.proofs.Eight.{from_on}
@@ -7,6 +7,3 @@ use Rattle.stationcalls.proofs.others_sound.Given as goal
 
 abbrev pub invariant-loop-k : goal.invariant-loop-k
 invariant-loop-k l = (l.k ≤ 8) × (from_on (other_ok (lent_all l.heads l.subs l.rows l.own) l.but) l.k ≡ from_on (other_ok (lent_all l.heads l.subs l.rows l.own) l.but) 0)
-
-abbrev pub decreases-loop-k : goal.decreases-loop-k
-decreases-loop-k l = 8 - l.k

@@ -6,11 +6,13 @@ use Rattle.words.proofs.Tests.{leb-less}
 use native.Mathlib.Omega.{arith}
 use Rattle.stationlines.proofs.rows_fit.Goals as goal
 
-pub returns-then-len-lt-LINE : goal.returns-then-len-lt-LINE
-returns-then-len-lt-LINE c = let a = c.args in sym (lt-leb (a.at + (128 + 128 * a.n)) a.len (omega (arith, c.if-len-lt-LINE.true)))
-
-pub returns : goal.returns
-returns c =
+pub returns-then-len-ge-LINE : goal.returns-then-len-ge-LINE
+returns-then-len-ge-LINE c =
     let a = c.args in
     let e : a.at + 128 * a.n + 128 ≡ a.at + (128 + 128 * a.n) = omega arith in
-    c.lines_fit.ensures ∙ leb-less (a.at + 128 * a.n) a.len 128 c.if-len-lt-LINE.false ∙ ap (λ (m : ℕ). leb m a.len) e
+    c.lines_fit.ensures ∙ leb-less (a.at + 128 * a.n) a.len 128 c.if-len-ge-LINE.true ∙ ap (λ (m : ℕ). leb m a.len) e
+
+pub returns-else-len-ge-LINE : goal.returns-else-len-ge-LINE
+returns-else-len-ge-LINE c =
+    let a = c.args in
+    lt-leb 128 a.len c.if-len-ge-LINE.false ∙ sym (lt-leb (a.at + (128 + 128 * a.n)) a.len (omega (arith, c.if-len-ge-LINE.false)))

@@ -13,6 +13,3 @@ decreases-loop-i l = l.to - l.i
 
 abbrev pub invariant-loop-i-2 : goal.invariant-loop-i-2
 invariant-loop-i-2 l = (l.i ≤ l.to) × (climbs l.last (slice l.i l.to l.rows) ≡ sorted_ok 0 (slice l.from l.to l.rows))
-
-abbrev pub decreases-loop-i-2 : goal.decreases-loop-i-2
-decreases-loop-i-2 l = l.to - l.i

@@ -1,12 +1,8 @@
 use mathlib.Core.Path.{◌≡◌}
-use Prim.Native.Nat.{◌+◌, ◌-◌, ◌≤◌}
-use lib.ListN.{take}
-use lib.Seq.{slice}
+use Prim.Native.Nat.{◌+◌, ◌≤◌}
+use lib.ListN.{drop}
 use Rattle.definition.specs.Layout.{sub_rows}
 use Rattle.subrows.proofs.sub_rows.Given as goal
 
-abbrev pub invariant-loop-i : goal.invariant-loop-i
-invariant-loop-i l = (l.i ≤ l.n) × (l.room ≤ 512) × (sub_rows (slice l.i l.n l.subs) + 512 ≡ sub_rows (take l.n l.subs) + l.room)
-
-abbrev pub decreases-loop-i : goal.decreases-loop-i
-decreases-loop-i l = l.n - l.i
+abbrev pub invariant-loop-w : goal.invariant-loop-w
+invariant-loop-w l = (l.room ≤ 512) × (sub_rows (drop l.w-index l.subs) + 512 ≡ sub_rows l.subs + l.room)

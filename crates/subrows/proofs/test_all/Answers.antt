@@ -51,7 +51,7 @@ returns-then-rows-used c =
 
 pub rows_ok-ok-requires : goal.rows_ok-ok-requires
 rows_ok-ok-requires c =
-    let e = exact (goal.at.rows_ok-ok-requires c).Else-used-gt-ROWS in record { n_in_bounds = omega arith; others_value = e; waiting_in_bounds = (omega arith, omega arith) }
+    let e = exact (goal.at.rows_ok-ok-requires c).Else-used-gt-ROWS in record { others_value = e; waiting_in_bounds = (omega arith, omega arith) }
 
 pub returns : goal.returns
 returns c =

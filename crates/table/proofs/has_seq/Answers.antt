@@ -1,54 +1,21 @@
-use mathlib.Core.Path.{◌≡◌, refl, sym, ap, ◌∙◌}
-use mathlib.Core.Bool.{Bool, true, false, ◌||◌}
-use Prim.Native.Nat.{◌+◌, ◌-◌}
-use borrow.Author.Tests.{eq-eqb, ne_eqb}
-use lib.Seq.{slice}
-use Rattle.table.specs.Table.{holds_seq}
-use Rattle.table.proofs.Bounds.{has_in, has-low, has-high}
-use Rattle.table.proofs.Loops.{holds-first, holds-four, holds-none}
-use native.Mathlib.Omega.{arith}
-use borrow.Author.Rules.{rules}
+use Rattle.std.proofs.Common.{rules, tests, sym, ap, ◌∙◌, length, eqb, get_or}
+use Rattle.std.proofs.lemmas.Iterator.{YieldsList-from_slice}
+use Rattle.std.proofs.lemmas.Iterator.Search.{any_from_yields_List}
+use Rattle.definition.proofs.Chains.{slice-range}
+use Rattle.table.specs.Table.{has_seq_in, holds_seq}
+use Rattle.table.proofs.Lists.{both_hold, outside}
+use Rattle.table.proofs.Chains.{no-part, any-holds}
 use Rattle.table.proofs.has_seq.Goals as goal
 
-pub returns-then-rows-to : goal.returns-then-rows-to
-returns-then-rows-to c = sym (has-high _ _ _ _ (search rules))
-
-pub returns-then-to-from : goal.returns-then-to-from
-returns-then-to-from c = sym (has-low _ _ _ _ (search rules))
-
-pub loop-i-init : goal.loop-i-init
-loop-i-init c = (search rules, search rules, has_in _ _ _ _ (search rules) (search rules))
-
-pub returns-then-seq-a : goal.returns-then-seq-a
-returns-then-seq-a c =
-    let l = c.loop-i in
-    let a = c.args in
-    sym (l.invariant.2 ∙ holds-four a.rows.now l.i a.to a.seq (search rules) (search rules) true c.if-seq-a.true)
-
-pub loop-i-preserved : goal.loop-i-preserved
-loop-i-preserved c =
-    let l = c.loop-i in
-    let a = c.args in
-    (search rules, search rules, l.invariant.2 ∙ holds-four a.rows.now l.i a.to a.seq (search rules) (search rules) false c.if-seq-a.false)
-
-pub loop-i-2-init : goal.loop-i-2-init
-loop-i-2-init c = let l = c.loop-i in (search rules, search rules, l.invariant.2)
-
-pub returns-then-seq-rows : goal.returns-then-seq-rows
-returns-then-seq-rows c =
-    let l = c.loop-i-2 in
-    let a = c.args in
-    sym (l.invariant.2 ∙ holds-first a.rows.now l.i a.to a.seq (search rules) (search rules) (l.i + 1) refl ∙ ap (λ (b : Bool). b || holds_seq a.seq (slice (l.i + 1) a.to a.rows.now)) (eq-eqb _ _ c.if-seq-rows.true))
-
-pub loop-i-2-preserved : goal.loop-i-2-preserved
-loop-i-2-preserved c =
-    let l = c.loop-i-2 in
-    let a = c.args in
-    (search rules, search rules, l.invariant.2 ∙ holds-first a.rows.now l.i a.to a.seq (search rules) (search rules) (l.i + 1) refl ∙ ap (λ (b : Bool). b || holds_seq a.seq (slice (l.i + 1) a.to a.rows.now)) (ne_eqb _ _ c.if-seq-rows.false))
+pub returns-in_default : goal.returns-in_default
+unfolding has_seq_in
+returns-in_default c = let a = c.args in
+    sym (outside a.from a.to a.to (length a.rows.now) _ _ (λ h b. absurd (no-part a.from a.to (length a.rows.now) c.in_default.ensures.lookup.0 h b)))
 
 pub returns : goal.returns
-returns c =
-    let l = c.loop-i-2 in
-    let a = c.args in
-    let e : l.i ≡ a.to = omega arith in
-    sym (l.invariant.2 ∙ rw e (holds-none _ a.to _))
+unfolding has_seq_in
+returns c = let a = c.args in
+    any_from_yields_List (λ r. eqb a.seq (get_or r 0 0)) _ _ c.any.result c.any.ensures.ran (YieldsList-from_slice c.in-Some.part.now cc) (λ x b q k. search (rules, tests))
+    ∙ any-holds a.seq c.in-Some.part.now
+    ∙ ap (holds_seq a.seq) (c.in-Some.ensures.lookup.0.2 ∙ sym (slice-range a.from a.to a.rows.now c.in-Some.ensures.lookup.0.0))
+    ∙ sym (both_hold a.from a.to a.to (length a.rows.now) _ _ c.in-Some.ensures.lookup.0.0 c.in-Some.ensures.lookup.0.1)

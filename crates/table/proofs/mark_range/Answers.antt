@@ -1,65 +1,65 @@
-use mathlib.Core.Path.{◌≡◌, refl, sym, ap, ◌∙◌}
-use Prim.Native.Nat.{ℕ, ◌-◌}
-use mathlib.Core.Bool.{Bool, true, false, not, ◌&&◌, not-not}
-use mathlib.Core.List.{[]}
-use lib.Dec.{eqb}
-use lib.ListN.{get_or, length-set}
-use lib.Seq.{slice}
+use Rattle.std.proofs.Common.{arith, refl, ◌≡◌, sym, ap, ◌∙◌, length, take, drop, get_or, [], ◌-◌, ◌&&◌, not, Bool, true, false, ℕ, eqb}
+use mathlib.Core.Bool.{not-not}
+use borrow.Author.Tests.{eq-eqb, ne_eqb}
 use Rattle.definition.specs.Layout.{Row}
 use Rattle.definition.specs.Base.{tally}
 use Rattle.definition.proofs.Tests.{if-true, if-false}
-use Rattle.table.specs.Table.{dseq_between, is_freed, mark_row, freed_row, mapped}
-use Rattle.table.proofs.Lists.{and-on, and-off}
-use Rattle.table.proofs.Bounds.{count-in, count_low, count-high, map-in, map-low, map-high}
-use Rattle.table.proofs.Segments.{tally-none, count_turn, count-miss, mapped-none, mapped_at, mapped-store, mapped-same}
-use native.Mathlib.Omega.{arith}
-use borrow.Author.Rules.{rules}
+use Rattle.table.specs.Table.{map_rows, count_rows, mark_row, freed_row, dseq_between, is_freed}
+use Rattle.table.proofs.Lists.{both_hold, outside, and-on, and-off, slice-take}
+use lib.Seq.{take-length}
+use Rattle.table.proofs.Segments.{tally-none, count_turn, count-miss, mapped-none, mapped_at, mapped-store, mapped-lent}
 use Rattle.table.proofs.mark_range.Goals as goal
+use Rattle.table.proofs.mark_range.Goals.{then-has, then-row-eq0, else-row-eq0, else-has}
 
 abbrev unfreed : ℕ → ℕ → Row → Bool
 unfreed first last w = dseq_between first last w && not (is_freed w)
 
 pub returns-then-rows-to : goal.returns-then-rows-to
-returns-then-rows-to c = record { value = sym (count-high _ _ _ _ (search rules)); rows_after = sym (map-high _ _ _ _ (search rules)) }
+unfolding map_rows count_rows
+returns-then-rows-to c = let a = c.args in record {
+  value = sym (outside a.from a.to a.to (length a.rows.now) _ _ (λ h b. absurd (grind arith)));
+  rows_after = sym (outside a.from a.to a.to (length a.rows.now) _ _ (λ h b. absurd (grind arith)));
+}
 
-pub returns-then-to-from : goal.returns-then-to-from
-returns-then-to-from c = record { value = sym (count_low _ _ _ _ (search rules)); rows_after = sym (map-low _ _ _ _ (search rules)) }
+pub loop-row-init : goal.loop-row-init
+loop-row-init c = let a = c.args in
+    (omega arith, tally-none (unfreed a.span.first a.span.last) 0 (take (a.to - a.from) (drop a.from a.rows.now)), mapped-none (mark_row a.span.first a.span.last a.tx) 0 _)
 
-pub loop-i-init : goal.loop-i-init
-loop-i-init c = let a = c.args in
-    (search rules, search rules, refl, search rules, tally-none (unfreed a.first a.last) a.from a.rows.now, mapped-none _ _ _)
-
-pub loop-i-preserved-then-hit : goal.loop-i-preserved-then-hit
-loop-i-preserved-then-hit c = let l = c.loop-i in
+pub loop-row-preserved : goal.loop-row-preserved
+loop-row-preserved c =
     let a = c.args in
-    let f : Row → Row = mark_row a.first a.last a.tx in
-    let x : Row = get_or l.rows l.i [] in
-    let hit : dseq_between a.first a.last x ≡ true = sym c.hit.ensures ∙ c.if-hit.true in
-    let at : x ≡ get_or a.rows.now l.i [] = mapped_at f a.from l.i _ l.rows (search rules) (search rules) l.invariant.5 in (
-      search rules,
-      search rules,
-      simp length-set (search rules),
-      search rules,
-      count_turn (unfreed a.first a.last) a.from l.i a.rows.now x _ l.fresh _ (search rules) (search rules) at (and-on _ _ hit ∙ not-not (eqb (get_or x 7 0) 0)) c.counted-fresh.ensures.0 l.invariant.4,
-      mapped-store f a.from l.i _ l.rows (search rules) (search rules) l.invariant.5 _ (c.freed_row-marked.ensures ∙ sym (if-true (freed_row a.tx x) x hit)),
-    )
-
-pub loop-i-preserved : goal.loop-i-preserved
-loop-i-preserved c = let l = c.loop-i in
-    let a = c.args in
-    let f : Row → Row = mark_row a.first a.last a.tx in
-    let x : Row = get_or l.rows l.i [] in
-    let miss : dseq_between a.first a.last x ≡ false = sym c.hit.ensures ∙ c.if-hit.false in
-    let at : x ≡ get_or a.rows.now l.i [] = mapped_at f a.from l.i _ l.rows (search rules) (search rules) l.invariant.5 in (
-      search rules,
-      search rules,
-      search rules,
-      search rules,
-      count-miss (unfreed a.first a.last) a.from l.i a.rows.now x l.fresh (search rules) (search rules) at (and-off _ (not (is_freed x)) miss) l.invariant.4,
-      mapped-same f a.from l.i _ l.rows (search rules) (search rules) l.invariant.5 (if-false (freed_row a.tx x) x miss),
-    )
+    let l = c.loop-row in
+    let f = mark_row a.span.first a.span.last a.tx in
+    let p = unfreed a.span.first a.span.last in
+    let rs = take (a.to - a.from) (drop a.from a.rows.now) in
+    let x = get_or l.row-items l.row-index [] in
+    let at : x ≡ get_or rs l.row-index [] = mapped_at f 0 l.row-index rs l.row-items (omega arith) c.loop-row-test.true l.invariant.2 in
+    elim c.if-has.branch [
+      | then-has w ↦
+          let hit : dseq_between a.span.first a.span.last x ≡ true = sym c.has.ensures ∙ w.if-has.true in
+          let free : p x ≡ eqb (get_or x 7 0) 0 = and-on _ _ hit ∙ not-not (eqb (get_or x 7 0) 0) in
+          let rows = w.row-items-is ∙ mapped-store f 0 l.row-index rs l.row-items (omega arith) c.loop-row-test.true l.invariant.2 _ (w.freed_row.ensures ∙ sym (if-true (freed_row a.tx x) x hit)) in
+          elim w.if-row-eq0.branch [
+            | then-row-eq0 v ↦ (omega arith, w.fresh-is ∙ v.fresh-is ∙ count_turn p 0 l.row-index rs x true l.fresh 1 (omega arith) c.loop-row-test.true at (free ∙ eq-eqb _ _ v.if-row-eq0.true) refl l.invariant.1, rows)
+            | else-row-eq0 v ↦ (omega arith, w.fresh-is ∙ v.fresh-is ∙ count-miss p 0 l.row-index rs x l.fresh (omega arith) c.loop-row-test.true at (free ∙ ne_eqb _ _ v.if-row-eq0.false) l.invariant.1, rows)
+          ]
+      | else-has w ↦
+          let miss : dseq_between a.span.first a.span.last x ≡ false = sym c.has.ensures ∙ w.if-has.false in (
+            omega arith,
+            w.fresh-is ∙ count-miss p 0 l.row-index rs x l.fresh (omega arith) c.loop-row-test.true at (and-off _ (not (is_freed x)) miss) l.invariant.1,
+            w.row-items-is ∙ mapped-store f 0 l.row-index rs l.row-items (omega arith) c.loop-row-test.true l.invariant.2 x (sym (if-false (freed_row a.tx x) x miss)),
+          )
+    ]
 
 pub returns : goal.returns
-returns c = let l = c.loop-i in
-    let a = c.args in
-    let e : l.i ≡ a.to = omega arith in record { value = l.invariant.4 ∙ ap (λ (m : ℕ). tally (unfreed a.first a.last) (slice a.from m a.rows.now)) e ∙ sym (count-in _ _ _ _ (search rules) (search rules)); rows_after = l.invariant.5 ∙ ap (λ (m : ℕ). mapped (mark_row a.first a.last a.tx) a.from m a.rows.now) e ∙ sym (map-in _ _ _ _ (search rules) (search rules)) }
+unfolding map_rows count_rows
+returns c = let a = c.args in
+    let l = c.loop-row in
+    let rs = take (a.to - a.from) (drop a.from a.rows.now) in
+    let e : l.row-index ≡ length rs = omega arith in record {
+      value = l.invariant.1
+          ∙ ap (tally (unfreed a.span.first a.span.last)) (ap (λ (k : ℕ). take k rs) e ∙ take-length rs ∙ sym (slice-take a.from a.to a.rows.now (omega arith)))
+          ∙ sym (both_hold a.from a.to a.to (length a.rows.now) _ _ (omega arith) (omega arith));
+      rows_after = mapped-lent (mark_row a.span.first a.span.last a.tx) a.from a.to l.row-index a.rows.now _ (omega arith) e l.invariant.2
+          ∙ sym (both_hold a.from a.to a.to (length a.rows.now) _ _ (omega arith) (omega arith));
+    }

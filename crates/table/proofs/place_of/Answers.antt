@@ -1,27 +1,36 @@
-use mathlib.Core.Path.{sym, ◌∙◌}
-use Prim.Native.Nat.{◌-◌}
-use Rattle.table.proofs.Bounds.{place_in, place-low, place-high}
-use Rattle.table.proofs.Loops.{place-four}
-use borrow.Author.Rules.{rules}
+use Rattle.std.proofs.Common.{arith, rules, tests, ◌≡◌, sym, ap, ◌∙◌, ◌+◌, ℕ, length}
+use Rattle.std.proofs.lemmas.Iterator.{YieldsList-from_slice}
+use Rattle.std.proofs.lemmas.Iterator.Search.{position_from_yields_List}
+use Rattle.std.specs.List.{position_or_len}
+use Rattle.definition.proofs.Chains.{slice-range}
+use Rattle.table.specs.Table.{place_of, place_from}
+use Rattle.table.proofs.Lists.{both_hold, outside}
+use Rattle.table.proofs.Chains.{no-part, reaches, place-first, place-most, at-some, at-none}
 use Rattle.table.proofs.place_of.Goals as goal
 
-pub returns-then-rows-to : goal.returns-then-rows-to
-returns-then-rows-to c = sym (place-high _ _ _ _ (search rules))
+pub returns-in_default : goal.returns-in_default
+unfolding place_of
+returns-in_default c = let a = c.args in
+    sym (outside a.from a.to a.to (length a.rows.now) _ _ (λ h b. absurd (no-part a.from a.to (length a.rows.now) c.in_default.ensures.lookup.0 h b)))
 
-pub returns-then-to-from : goal.returns-then-to-from
-returns-then-to-from c = sym (place-low _ _ _ _ (search rules))
+pub returns-in-Some-position : goal.returns-in-Some-position
+unfolding place_of
+returns-in-Some-position c = let a = c.args in
+    let xs = c.in-Some.part.now in
+    let g = c.in-Some.ensures.lookup.0 in
+    ap (λ (k : ℕ). a.from + k) (sym (at-some (position_or_len (reaches a.seq) xs) (length xs) c.in-Some-position.i c.position.result (position_from_yields_List (reaches a.seq) _ _ c.position.result c.position.ensures.ran (YieldsList-from_slice xs cc) (λ x b q k. search (rules, tests))) c.in-Some-position.is))
+    ∙ place-first a.seq a.from xs
+    ∙ ap (place_from a.from a.seq) (g.2 ∙ sym (slice-range a.from a.to a.rows.now g.0))
+    ∙ sym (both_hold a.from a.to a.to (length a.rows.now) _ _ g.0 g.1)
 
-pub loop-i-init : goal.loop-i-init
-loop-i-init c = (search rules, search rules, place_in _ _ _ _ (search rules) (search rules))
-
-pub returns-then-seq-a : goal.returns-then-seq-a
-returns-then-seq-a c = c.first_from.ensures ∙ sym c.loop-i.invariant.2
-
-pub loop-i-preserved : goal.loop-i-preserved
-loop-i-preserved c =
-    let l = c.loop-i in
-    let a = c.args in
-    (search rules, search rules, l.invariant.2 ∙ place-four a.rows.now l.i a.to a.seq (search rules) (search rules) c.if-seq-a.false)
-
-pub returns : goal.returns
-returns c = c.first_from-2.ensures ∙ sym c.loop-i.invariant.2
+pub returns-in-None : goal.returns-in-None
+unfolding place_of
+returns-in-None c = let a = c.args in
+    let xs = c.in-Some.part.now in
+    let g = c.in-Some.ensures.lookup.0 in
+    let e : position_or_len (reaches a.seq) xs ≡ length xs = at-none (position_or_len (reaches a.seq) xs) (length xs) c.position.result (position_from_yields_List (reaches a.seq) _ _ c.position.result c.position.ensures.ran (YieldsList-from_slice xs cc) (λ x b q k. search (rules, tests))) c.in-None.is (place-most (reaches a.seq) xs) in
+    let u : a.to ≡ a.from + position_or_len (reaches a.seq) xs = omega (arith, g.3) in
+    u
+    ∙ place-first a.seq a.from xs
+    ∙ ap (place_from a.from a.seq) (g.2 ∙ sym (slice-range a.from a.to a.rows.now g.0))
+    ∙ sym (both_hold a.from a.to a.to (length a.rows.now) _ _ g.0 g.1)

@@ -1,50 +1,32 @@
-use mathlib.Core.Path.{◌≡◌, refl, sym, ap, ◌∙◌}
-use Prim.Native.Nat.{ℕ, ◌-◌}
-use mathlib.Core.Bool.{true, false}
-use mathlib.Core.List.{[]}
-use lib.ListN.{get_or, length-set}
-use Rattle.definition.specs.Layout.{Row}
+use Rattle.std.proofs.Common.{arith, sym, ◌∙◌, length, get_or, []}
 use Rattle.definition.proofs.Tests.{if-true, if-false}
-use Rattle.table.specs.Table.{dseq_between, redeliver_row, raised_row, mapped}
-use Rattle.table.proofs.Bounds.{map-in, map-low, map-high}
-use Rattle.table.proofs.Segments.{mapped-none, mapped-store, mapped-same}
-use native.Mathlib.Omega.{arith}
-use borrow.Author.Rules.{rules}
+use Rattle.table.specs.Table.{map_rows, redeliver_row, raised_row}
+use Rattle.table.proofs.Lists.{both_hold, outside}
+use Rattle.table.proofs.Segments.{mapped-none, mapped-store, mapped-lent}
 use Rattle.table.proofs.redeliver_range.Goals as goal
+use Rattle.table.proofs.redeliver_range.Goals.{then-has, else-has}
 
 pub returns-then-rows-to : goal.returns-then-rows-to
-returns-then-rows-to c = sym (map-high _ _ _ _ (search rules))
+unfolding map_rows
+returns-then-rows-to c = let a = c.args in
+    sym (outside a.from a.to a.to (length a.rows.now) _ _ (λ h b. absurd (grind arith)))
 
-pub returns-then-to-from : goal.returns-then-to-from
-returns-then-to-from c = sym (map-low _ _ _ _ (search rules))
+pub loop-row-init : goal.loop-row-init
+loop-row-init c = mapped-none (redeliver_row c.args.span.first c.args.span.last) 0 _
 
-pub loop-i-init : goal.loop-i-init
-loop-i-init c = (search rules, search rules, refl, mapped-none _ _ _)
-
-pub loop-i-preserved-then-hit : goal.loop-i-preserved-then-hit
-loop-i-preserved-then-hit c = let l = c.loop-i in
+pub loop-row-preserved : goal.loop-row-preserved
+loop-row-preserved c =
     let a = c.args in
-    let x : Row = get_or l.rows l.i [] in
-    let hit : dseq_between a.first a.last x ≡ true = sym c.hit.ensures ∙ c.if-hit.true in (
-      search rules,
-      search rules,
-      simp length-set (search rules),
-      mapped-store (redeliver_row a.first a.last) a.from l.i _ l.rows (search rules) (search rules) l.invariant.3 _ (c.raised_row-raised.ensures ∙ sym (if-true (raised_row x) x hit)),
-    )
-
-pub loop-i-preserved : goal.loop-i-preserved
-loop-i-preserved c = let l = c.loop-i in
-    let a = c.args in
-    let x : Row = get_or l.rows l.i [] in
-    let miss : dseq_between a.first a.last x ≡ false = sym c.hit.ensures ∙ c.if-hit.false in (
-      search rules,
-      search rules,
-      search rules,
-      mapped-same (redeliver_row a.first a.last) a.from l.i _ l.rows (search rules) (search rules) l.invariant.3 (if-false (raised_row x) x miss),
-    )
+    let l = c.loop-row in
+    let f = redeliver_row a.span.first a.span.last in
+    let x = get_or l.row-items l.row-index [] in
+    elim c.if-has.branch [
+      | then-has w ↦ w.row-items-is ∙ mapped-store f 0 l.row-index _ l.row-items (omega arith) c.loop-row-test.true l.invariant _ (w.raised_row.ensures ∙ sym (if-true (raised_row x) x (sym c.has.ensures ∙ w.if-has.true)))
+      | else-has w ↦ w.row-items-is ∙ mapped-store f 0 l.row-index _ l.row-items (omega arith) c.loop-row-test.true l.invariant x (sym (if-false (raised_row x) x (sym c.has.ensures ∙ w.if-has.false)))
+    ]
 
 pub returns : goal.returns
-returns c = let l = c.loop-i in
-    let a = c.args in
-    let e : l.i ≡ a.to = omega arith in
-    l.invariant.3 ∙ ap (λ (m : ℕ). mapped (redeliver_row a.first a.last) a.from m a.rows.now) e ∙ sym (map-in _ _ _ _ (search rules) (search rules))
+unfolding map_rows
+returns c = let a = c.args in
+    mapped-lent (redeliver_row c.args.span.first c.args.span.last) a.from a.to c.loop-row.row-index a.rows.now _ (omega arith) (omega arith) c.loop-row.invariant
+    ∙ sym (both_hold a.from a.to a.to (length a.rows.now) _ _ (omega arith) (omega arith))

@@ -1,38 +1,44 @@
-use mathlib.Core.Path.{◌≡◌, sym, ◌∙◌}
-use mathlib.Core.Bool.{Bool, ◌&&◌}
-use mathlib.Core.List.{List}
-use Prim.Native.Nat.{ℕ}
+use Rattle.std.proofs.Common.{rules, tests, ◌≡◌, ◌≤◌, sym, ap, ap₂, ◌∙◌, length, false, ◌&&◌, ℕ}
+use Rattle.std.proofs.lemmas.Iterator.{YieldsList-from_slice}
+use Rattle.std.proofs.lemmas.Iterator.Consumers.{YieldsList-from_filter, count_from_yields_List, YieldsList-at}
+use Rattle.definition.proofs.Chains.{slice-range, length-filter-tally}
+use Rattle.definition.proofs.Tests.{if-false}
+use Rattle.std.specs.List.{slice_range}
+use Rattle.definition.specs.Base.{tally}
 use Rattle.definition.specs.Layout.{Row}
 use Rattle.table.specs.declared.Removed.{Removed}
-use Rattle.table.specs.Table.{dseq_between, is_freed}
-use Rattle.table.proofs.Bounds.{remove-low, remove-past, remove-high, gone-in, gone-low, gone-past, gone-high}
-use Rattle.table.proofs.Segments.{tally-most, taken_out}
-use native.Mathlib.Omega.{arith}
-use borrow.Author.Rules.{rules}
+use Rattle.table.specs.Table.{segment_of, remove_rows, removed_rows, dseq_between, is_freed}
+use Rattle.table.proofs.Bounds.{gone-in}
 use Rattle.table.proofs.remove_range.Goals as goal
 
-both : (m n k l : ℕ) → m ≡ k → n ≡ l → ◌≡◌ {A = Removed} (record { rows = m; freed = n }) (record { rows = k; freed = l })
-both m n k l e f = λ i. record { rows = e i; freed = f i }
+abbrev removed : ℕ → ℕ → Removed
+removed x y = record { rows = x; freed = y }
 
-pub returns-then-rows-n : goal.returns-then-rows-n
-returns-then-rows-n c = record { value = both _ _ _ _ (sym (gone-high _ _ _ _ _ (search rules))) (sym (gone-high _ _ _ _ _ (search rules))); rows_after = sym (remove-high _ _ _ _ _ (search rules)) }
+pub returns-then-not-is_segment-clause-value : goal.returns-then-not-is_segment-clause-value
+unfolding removed_rows
+returns-then-not-is_segment-clause-value c = let a = c.args in
+    let e : segment_of a.from a.to a.n (length a.rows.now) ≡ false = sym c.is_segment.ensures ∙ c.if-not-is_segment.true in
+    ap₂ removed (sym (if-false _ _ e)) (sym (if-false _ _ e))
 
-pub returns-then-n-to : goal.returns-then-n-to
-returns-then-n-to c = record { value = both _ _ _ _ (sym (gone-past _ _ _ _ _ (search rules))) (sym (gone-past _ _ _ _ _ (search rules))); rows_after = sym (remove-past _ _ _ _ _ (search rules)) }
+pub returns-then-not-is_segment-clause-rows_after : goal.returns-then-not-is_segment-clause-rows_after
+unfolding remove_rows
+returns-then-not-is_segment-clause-rows_after c = let a = c.args in
+    let e : segment_of a.from a.to a.n (length a.rows.now) ≡ false = sym c.is_segment.ensures ∙ c.if-not-is_segment.true in
+    sym (if-false _ _ e)
 
-pub returns-then-to-from : goal.returns-then-to-from
-returns-then-to-from c = record { value = both _ _ _ _ (sym (gone-low _ _ _ _ _ (search rules))) (sym (gone-low _ _ _ _ _ (search rules))); rows_after = sym (remove-low _ _ _ _ _ (search rules)) }
+pub returns-clause-value : goal.returns-clause-value
+returns-clause-value c = let a = c.args in
+    let h : a.from ≤ a.to = search rules in
+    let k : a.to ≤ a.n = search rules in
+    let b : a.n ≤ length a.rows.now = search rules in
+    let p = λ (r : Row). dseq_between a.span.first a.span.last r && is_freed r in
+    let xs = slice_range a.rows.now a.from a.to in
+    ap₂ removed
+    (c.remove_where-gone.ensures.taken (dseq_between a.span.first a.span.last) (λ r b q. search (rules, tests))).0
+    (count_from_yields_List c.filter.result _ c.count-freed.ensures.ran (YieldsList-from_filter _ p (YieldsList-at c.filter.ensures.source (YieldsList-from_slice xs cc)) c.filter.ensures.closure (λ x b q k. search (rules, tests)))
+    ∙ length-filter-tally p xs
+    ∙ ap (tally p) (sym (slice-range a.from a.to a.rows.now h))
+    ∙ sym (gone-in p a.from a.to a.n a.rows.now h k b))
 
-pub overflow_sub-to : goal.overflow_sub-to
-overflow_sub-to c = let a = c.args in
-    omega (arith, tally-most (dseq_between a.first a.last) a.from a.to a.rows.now (omega arith) (omega arith), c.compact_range-out.ensures.rows_value)
-
-pub returns : goal.returns
-returns c = let a = c.args in
-    let s = c.compact_range-out.ensures in
-    let p : Row → Bool = dseq_between a.first a.last in
-    let rs : List Row = a.rows.now in record {
-      value = both _ _ _ _ (s.rows_value ∙ sym (gone-in p a.from a.to a.n rs (omega arith) (omega arith) (omega arith)))
-          (s.freed_value ∙ sym (gone-in (λ r. p r && is_freed r) a.from a.to a.n rs (omega arith) (omega arith) (omega arith)));
-      rows_after = taken_out p a.from a.to a.n _ rs _ _ (omega arith) (omega arith) (omega arith) s.rows_value s.rows_after c.close_gap.ensures;
-    }
+pub returns-clause-rows_after : goal.returns-clause-rows_after
+returns-clause-rows_after c = (c.remove_where-gone.ensures.taken (dseq_between c.args.span.first c.args.span.last) (λ r b q. search (rules, tests))).1

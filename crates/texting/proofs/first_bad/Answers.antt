@@ -1,7 +1,6 @@
-use Prim.Native.Nat.{ℕ, ◌+◌, ◌-◌}
+use Prim.Native.Nat.{ℕ, ◌+◌}
 use mathlib.Core.Path.{refl, ap, sym, ◌∙◌}
 use lib.ListN.{drop}
-use Rattle.calltext.specs.declared.Parsed.{Parsed}
 use Rattle.texting.specs.Lines.{lines_of}
 use Rattle.texting.specs.Parts.{first_bad}
 use Rattle.texting.proofs.Taking.{taken, lines_end, bad-none, bad-found, bad-passed}
@@ -39,12 +38,12 @@ overflow_add-next c =
     let w = taken a.text.now c.loop-at.at s.result c.loop-at-test.true s.ensures in
     omega (arith, w.within)
 
-pub returns-then-kind-gt-EMPTY : goal.returns-then-kind-gt-EMPTY
-returns-then-kind-gt-EMPTY c =
+pub returns-in-Err : goal.returns-in-Err
+returns-in-Err c =
     let a = c.args in
     let s = c.scan-e in
     let w = taken a.text.now c.loop-at.at s.result c.loop-at-test.true s.ensures in
-    bad-found c.loop-at.n c.loop-at.at a.text.now w (ap (λ (p : Parsed). p.kind) c.parse-p.ensures) (omega arith) ∙ c.loop-at.invariant
+    bad-found c.loop-at.n c.loop-at.at a.text.now w c.in-Err.fault (sym c.parse-p.ensures ∙ c.in-Err.is) ∙ c.loop-at.invariant
 
 pub loop-at-smaller : goal.loop-at-smaller
 loop-at-smaller c =
@@ -58,7 +57,7 @@ loop-at-preserved c =
     let a = c.args in
     let s = c.scan-e in
     let w = taken a.text.now c.loop-at.at s.result c.loop-at-test.true s.ensures in
-    ap (λ (m : ℕ). first_bad m (s.result + 1) (lines_of (drop (s.result + 1) a.text.now))) c.more_of-n.ensures ∙ bad-passed c.loop-at.n c.loop-at.at a.text.now w (ap (λ (p : Parsed). p.kind) c.parse-p.ensures) (omega arith) ∙ c.loop-at.invariant
+    ap (λ (m : ℕ). first_bad m (s.result + 1) (lines_of (drop (s.result + 1) a.text.now))) c.more_of-n.ensures ∙ bad-passed c.loop-at.n c.loop-at.at a.text.now w c.in_default.field-0 (sym c.parse-p.ensures ∙ c.in_default.is) ∙ c.loop-at.invariant
 
 pub returns : goal.returns
 returns c = let a = c.args in sym (bad-none c.loop-at.n c.loop-at.at) ∙ ap (first_bad c.loop-at.n c.loop-at.at) (sym (lines_end a.text.now c.loop-at.at c.loop-at-test.false)) ∙ c.loop-at.invariant

@@ -1,4 +1,3 @@
-use Prim.Native.Nat.{◌-◌}
 use mathlib.Core.Path.{◌≡◌}
 use Rattle.callfile.specs.Blocks.{call_at}
 use Rattle.callfile.proofs.Parts.{then, nothing, line-puts}
@@ -14,7 +13,7 @@ loop-k-preserved c =
     let a = c.args in
     let v = c.loop-k.invariant in
     let d = call_at c.loop-k.k a.block.now in
-    let p = line-puts (omega (arith, v.2.same)) (text-length d) (rw c.call_at-c.ensures at c.put_text-at.ensures) in
+    let p = line-puts (omega (arith, v.2.same)) (text-length d) (rw c.call_at.ensures at c.put_text-at.ensures) in
     (omega arith, omega (arith, p.next, text-length d), rw (one-text c.loop-k.k a.block.now) (then v.2 p))
 
 pub returns : goal.returns

@@ -1,10 +1,7 @@
-use Prim.Native.Nat.{◌-◌, ◌*◌, ◌≤◌}
+use Prim.Native.Nat.{◌*◌, ◌≤◌}
 use Rattle.callfile.specs.Placed.{Puts}
 use Rattle.texting.specs.Shown.{call_texts}
 use Rattle.texting.proofs.put_calls.Given as goal
 
 abbrev pub invariant-loop-k : goal.invariant-loop-k
 invariant-loop-k l = (l.k ≤ l.count) × (l.at ≤ 512 * l.k) × Puts (call_texts l.k l.block) 0 l.initial.out l.at l.out
-
-abbrev pub decreases-loop-k : goal.decreases-loop-k
-decreases-loop-k l = l.count - l.k

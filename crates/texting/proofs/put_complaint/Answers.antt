@@ -1,30 +1,29 @@
 use Rattle.callfile.proofs.Parts.{line-puts}
-use Rattle.texting.proofs.Showing.{says-unknown, says-number, says-many, says-destination, says-name}
+use Rattle.texting.proofs.Showing.{says_unknown, says_number, says_many, says_destination, says_name}
 use native.Mathlib.Omega.{arith}
 use Rattle.texting.proofs.put_complaint.Goals as goal
 
-pub returns-in-2 : goal.returns-in-2
-returns-in-2 c =
+pub returns-in-UnknownCall : goal.returns-in-UnknownCall
+returns-in-UnknownCall c =
     let p = line-puts (omega arith) (omega arith) c.put_all.ensures in
-    (rw (says-unknown c.args.kind c.in-2.is) at p, omega (arith, p.next))
+    (rw (says_unknown c.in-UnknownCall.is) at p, omega (arith, p.next))
 
-pub returns-in-3 : goal.returns-in-3
-returns-in-3 c =
-    let p = line-puts (omega arith) (omega arith) c.put_all-in-3.ensures in
-    (rw (says-number c.args.kind c.in-3.is) at p, omega (arith, p.next))
+pub returns-in-NotANumber : goal.returns-in-NotANumber
+returns-in-NotANumber c =
+    let p = line-puts (omega arith) (omega arith) c.put_all-in-NotANumber.ensures in
+    (rw (says_number c.in-NotANumber.is) at p, omega (arith, p.next))
 
-pub returns-in-4 : goal.returns-in-4
-returns-in-4 c =
-    let p = line-puts (omega arith) (omega arith) c.put_all-in-4.ensures in
-    (rw (says-many c.args.kind c.in-4.is) at p, omega (arith, p.next))
+pub returns-in-TooManyArguments : goal.returns-in-TooManyArguments
+returns-in-TooManyArguments c =
+    let p = line-puts (omega arith) (omega arith) c.put_all-in-TooManyArguments.ensures in
+    (rw (says_many c.in-TooManyArguments.is) at p, omega (arith, p.next))
 
-pub returns-in-5 : goal.returns-in-5
-returns-in-5 c =
-    let p = line-puts (omega arith) (omega arith) c.put_all-in-5.ensures in
-    (rw (says-destination c.args.kind c.in-5.is) at p, omega (arith, p.next))
+pub returns-in-NotADestination : goal.returns-in-NotADestination
+returns-in-NotADestination c =
+    let p = line-puts (omega arith) (omega arith) c.put_all-in-NotADestination.ensures in
+    (rw (says_destination c.in-NotADestination.is) at p, omega (arith, p.next))
 
-pub returns-in_default : goal.returns-in_default
-returns-in_default c =
-    let n = c.in_default.in_default-own.rest in
-    let p = line-puts (omega arith) (omega arith) c.put_all-in_default.ensures in
-    (rw (says-name c.args.kind n.0.0.0.1 n.0.0.1 n.0.1 n.1) at p, omega (arith, p.next))
+pub returns-in-NoName : goal.returns-in-NoName
+returns-in-NoName c =
+    let p = line-puts (omega arith) (omega arith) c.put_all-in-NoName.ensures in
+    (rw (says_name c.in-NoName.is) at p, omega (arith, p.next))

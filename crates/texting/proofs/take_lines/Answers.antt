@@ -1,4 +1,3 @@
-use Prim.Native.Nat.{◌-◌}
 use mathlib.Core.Path.{refl, ap, sym, ◌∙◌}
 use Rattle.texting.specs.Parts.{fill_from}
 use Rattle.texting.proofs.Taking.{taken, lines_end, fill_none, fill-stopped, fill-passed, fills}

@@ -1,23 +1,19 @@
-use Prim.Native.Nat.{◌^◌}
-use mathlib.Core.Path.{ap}
-use borrow.Author.Tests.{eq-eqb, ne_eqb, le-leb, lt-leb}
-use Rattle.textwords.specs.declared.Number.TheVariants.{Of}
+use Rattle.std.proofs.Common.{Some, ap, arith, ◌^◌}
+use borrow.Author.Tests.{ne_eqb, le-leb, lt-leb}
+use lib.Dec.{eqb}
+use borrow.Author.Tests.{eqb-true, eqb-false}
+use Rattle.words.proofs.Tests.{by-test}
 use Rattle.textwords.specs.Numbers.{negated}
-use native.Mathlib.Omega.{arith}
 use Rattle.textwords.proofs.negative.Goals as goal
-
-pub returns-in_default : goal.returns-in_default
-unfolding negated
-returns-in_default c = rw c.in_default.is
-
-pub returns-then-n-eq0 : goal.returns-then-n-eq0
-unfolding negated
-returns-then-n-eq0 c = rw (c.in-Of.is, eq-eqb c.in-Of.n 0 c.if-n-eq0.true)
 
 pub returns-then-n-gt-NEGATIVE : goal.returns-then-n-gt-NEGATIVE
 unfolding negated
-returns-then-n-gt-NEGATIVE c = rw (c.in-Of.is, ne_eqb c.in-Of.n 0 c.if-n-eq0.false, lt-leb c.in-Of.n (2 ^ 63) c.if-n-gt-NEGATIVE.true)
+returns-then-n-gt-NEGATIVE c = rw (ne_eqb c.args.n 0 (λ e. omega arith), lt-leb c.args.n (2 ^ 63) c.if-n-gt-NEGATIVE.true)
 
 pub returns : goal.returns
 unfolding negated
-returns c = rw (c.in-Of.is, ne_eqb c.in-Of.n 0 c.if-n-eq0.false, le-leb c.in-Of.n (2 ^ 63) c.if-n-gt-NEGATIVE.false) (ap Of (omega arith))
+returns c =
+    let n = c.args.n in
+    by-test (eqb n 0)
+    (λ t. let z = eqb-true n 0 t in rw t (ap Some (omega (arith, c.wrapping_neg.ensures))))
+    (λ t. let z = eqb-false n 0 t in rw (t, le-leb n (2 ^ 63) c.if-n-gt-NEGATIVE.false) (ap Some (omega (arith, c.wrapping_neg.ensures))))

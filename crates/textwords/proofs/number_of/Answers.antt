@@ -1,17 +1,16 @@
-use mathlib.Core.Path.{sym, ap, ◌∙◌}
+use Rattle.std.proofs.Common.{ap, sym, ◌∙◌}
 use Rattle.textwords.specs.Numbers.{negated}
-use Rattle.textwords.proofs.Values.{number-none, number-plain, number-sign, number-minus}
-use native.Mathlib.Omega.{arith}
+use Rattle.textwords.proofs.Values.{number-negative, number-unsigned}
 use Rattle.textwords.proofs.number_of.Goals as goal
 
-pub returns-then-s-eq0 : goal.returns-then-s-eq0
-returns-then-s-eq0 c = sym (number-none c.args.s.now c.if-s-eq0.true)
+pub returns-in_err-unsigned-in-Some : goal.returns-in_err-unsigned-in-Some
+unfolding negated
+returns-in_err-unsigned-in-Some c =
+    c.from_residual.ensures ∙ sym (number-negative c.args.s.now c.in-Some.rest.now c.in-Some.ensures.cases.0 c.in-Some.ensures.cases.1 ∙ ap negated (sym c.unsigned.ensures ∙ c.in_err-unsigned-in-Some.was))
 
-pub returns-then-s-ne-MINUS : goal.returns-then-s-ne-MINUS
-returns-then-s-ne-MINUS c = c.digits.ensures ∙ sym (number-plain c.args.s.now (omega arith) c.if-s-ne-MINUS.true)
+pub returns-in_ok-unsigned-in-Some : goal.returns-in_ok-unsigned-in-Some
+returns-in_ok-unsigned-in-Some c =
+    c.negative.ensures ∙ sym (number-negative c.args.s.now c.in-Some.rest.now c.in-Some.ensures.cases.0 c.in-Some.ensures.cases.1 ∙ ap negated (sym c.unsigned.ensures ∙ c.in_ok-unsigned-in-Some.was))
 
-pub returns-then-s-eq1 : goal.returns-then-s-eq1
-returns-then-s-eq1 c = sym (number-sign c.args.s.now c.if-s-eq1.true c.if-s-ne-MINUS.false)
-
-pub returns : goal.returns
-returns c = c.negative.ensures ∙ ap negated c.digits-2.ensures ∙ sym (number-minus c.args.s.now (omega arith) c.if-s-ne-MINUS.false)
+pub returns-in-None : goal.returns-in-None
+returns-in-None c = c.unsigned-in-None.ensures ∙ sym (number-unsigned c.args.s.now c.in-None.ensures.cases)

@@ -14,41 +14,16 @@ serve_topic-r-requires c =
     let pre = c.requires in
     round-fine a.by a.subs.now a.rows.now a.events.now a.before pre.0 l.subs l.rows l.events l.d l.base l.i l.invariant c.loop-i-test.true _ c.load-s.ensures pre.2
 
-pub overflow_add-base : goal.overflow_add-base
-overflow_add-base c =
-    let k = c.serve_topic-r.ensures.consumer_kept in
-    let f = c.requires.0 in
-    let r = c.loop-i.invariant.ready in
-    omega arith
-
-pub overflow_add-base-then-can_serve : goal.overflow_add-base-then-can_serve
-overflow_add-base-then-can_serve c =
-    let k = c.serve_topic-r.ensures.consumer_kept in
-    let f = c.requires.0 in
-    let r = c.loop-i.invariant.ready in
-    omega arith
-
-pub overflow_add-i : goal.overflow_add-i
-overflow_add-i c =
-    let f = c.requires.0 in
-    let h = c.loop-i-test.true in
-    omega arith
-
-pub loop-i-smaller-then-can_serve : goal.loop-i-smaller-then-can_serve
-loop-i-smaller-then-can_serve c =
-    let h = c.loop-i-test.true in
-    omega arith
-
-pub loop-i-preserved-then-can_serve : goal.loop-i-preserved-then-can_serve
-loop-i-preserved-then-can_serve c =
+pub loop-i-preserved : goal.loop-i-preserved
+loop-i-preserved c =
     let l = c.loop-i in
     let a = c.args in
     let pre = c.requires in
     let v = c.serve_topic-r in
     round-turn a.by a.subs.now a.rows.now a.events.now a.before pre.0 l.subs l.rows l.events l.d l.base l.i l.invariant c.loop-i-test.true _ _ _ _ _ _ c.load-s.ensures c.store.ensures v.auto.rows v.auto.events v.ensures.events_after v.ensures.events_unchanged v.ensures.consumer_kept v.ensures.rows_unchanged v.ensures.own_strict
 
-pub overflow_add-base-else-can_serve : goal.overflow_add-base-else-can_serve
-overflow_add-base-else-can_serve c =
+pub overflow_add-base : goal.overflow_add-base
+overflow_add-base c =
     let l = c.loop-i in
     let a = c.args in
     let pre = c.requires in
@@ -57,8 +32,8 @@ overflow_add-base-else-can_serve c =
     let u = f.used in
     omega arith
 
-pub overflow_add-base-else-can_serve-2 : goal.overflow_add-base-else-can_serve-2
-overflow_add-base-else-can_serve-2 c =
+pub overflow_add-base-then-not-can_serve : goal.overflow_add-base-then-not-can_serve
+overflow_add-base-then-not-can_serve c =
     let l = c.loop-i in
     let a = c.args in
     let pre = c.requires in
@@ -67,23 +42,12 @@ overflow_add-base-else-can_serve-2 c =
     let u = f.used in
     omega arith
 
-pub overflow_add-i-else-can_serve : goal.overflow_add-i-else-can_serve
-overflow_add-i-else-can_serve c =
-    let f = c.requires.0 in
-    let h = c.loop-i-test.true in
-    omega arith
-
-pub loop-i-smaller : goal.loop-i-smaller
-loop-i-smaller c =
-    let h = c.loop-i-test.true in
-    omega arith
-
-pub loop-i-preserved : goal.loop-i-preserved
-loop-i-preserved c =
+pub loop-i-preserved-then-not-can_serve : goal.loop-i-preserved-then-not-can_serve
+loop-i-preserved-then-not-can_serve c =
     let l = c.loop-i in
     let a = c.args in
     let pre = c.requires in
-    round-pass a.by a.subs.now a.rows.now a.events.now a.before pre.0 l.subs l.rows l.events l.d l.base l.i l.invariant c.loop-i-test.true _ c.load-s.ensures (sym c.can_serve.ensures ∙ c.if-can_serve.false) pre.2
+    round-pass a.by a.subs.now a.rows.now a.events.now a.before pre.0 l.subs l.rows l.events l.d l.base l.i l.invariant c.loop-i-test.true _ c.load-s.ensures (sym c.can_serve.ensures ∙ c.if-not-can_serve.true) pre.2
 
 pub returns : goal.returns
 returns c =

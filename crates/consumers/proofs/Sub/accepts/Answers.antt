@@ -1,11 +1,11 @@
-use mathlib.Core.Path.{sym}
+use Rattle.std.proofs.Common.{sym}
 use Rattle.consumers.specs.Consumers.{accepts_of}
 use Rattle.consumers.proofs.Sub.accepts.Goals as goal
 
-pub returns-then-is_local : goal.returns-then-is_local
+pub returns-then-not-is_local : goal.returns-then-not-is_local
 unfolding accepts_of
-returns-then-is_local c = rw (sym c.is_local.ensures, c.if-is_local.true)
+returns-then-not-is_local c = rw (sym c.is_local.ensures, c.if-not-is_local.true, c.selects.ensures)
 
-pub returns : goal.returns
+pub returns-else-not-is_local : goal.returns-else-not-is_local
 unfolding accepts_of
-returns c = rw (sym c.is_local.ensures, c.if-is_local.false, c.selects.ensures)
+returns-else-not-is_local c = rw (sym c.is_local.ensures, c.if-not-is_local.false)

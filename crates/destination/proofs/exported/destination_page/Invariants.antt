@@ -6,6 +6,3 @@ use Rattle.destination.proofs.exported.destination_page.Given as goal
 
 abbrev pub invariant-loop-i : goal.invariant-loop-i
 invariant-loop-i l = (l.i ≤ l.p.count) × (l.lines ≡ filled (page_line_at l.rows l.p.from) l.initial.lines l.i)
-
-abbrev pub decreases-loop-i : goal.decreases-loop-i
-decreases-loop-i l = l.p.count - l.i

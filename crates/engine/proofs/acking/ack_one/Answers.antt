@@ -6,7 +6,7 @@ use Rattle.model.specs.declared.AckRule.{AckRule}
 use Rattle.definition.specs.Types.{Sub}
 use Rattle.definition.specs.Consumer.{ack_sub}
 use Rattle.state.specs.State.{kind_by}
-use Rattle.acks.specs.declared.Span.{Span}
+use Rattle.table.specs.declared.Span.{Span}
 use Rattle.acks.specs.Acks.{ack_of}
 use Rattle.acks.specs.Rules.{in_span, acts}
 use Rattle.acks.specs.Parts.{own_view}

@@ -27,4 +27,4 @@ pub returns : goal.returns
 returns c =
     let a = c.args in
     acted-remove (kind_by a.d.queue) a.base a.s a.d a.rows.now c.requires.0 a.p a.counts a.cause c.count-r.result _ _ _ _ _ a.events.now _
-    c.count-r.ensures c.remove_range-out.ensures.rows_after (ap (λ (x : Removed). x.rows) c.remove_range-out.ensures.value) (ap (λ (x : Removed). x.freed) c.remove_range-out.ensures.value) c.less.ensures refl
+    c.count-r.ensures c.remove_range-out.ensures.rows_after (ap (λ (x : Removed). x.rows) c.remove_range-out.ensures.value) (ap (λ (x : Removed). x.freed) c.remove_range-out.ensures.value) c.saturating_sub.ensures refl

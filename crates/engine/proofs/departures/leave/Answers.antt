@@ -22,7 +22,7 @@ returns-then-not-is_present c =
     let a = c.args in
     let p = c.requires in
     let h = not-true _ c.if-not-is_present.true-raw in
-    performs-done (leaving a.id a.last a.clock) a.d a.subs.now a.rows.now a.events.now a.subs.now a.rows.now a.events.now (own-leave a.clock a.id a.last) 0 (silent (λ t. t)) c.done.result a.d c.done.ensures
+    performs-done (leaving a.id a.last a.clock) a.d a.subs.now a.rows.now a.events.now a.subs.now a.rows.now a.events.now (own-leave a.clock a.id a.last) 0 (silent (λ t. t)) _ a.d refl
     (λ ps us. leave-absent a.clock a.id a.last (head_view a.d a.subs.now a.rows.now ps us) (sym (c.is_present.ensures a.rows.now ps us) ∙ h))
     (rest-sends a.d a.subs.now a.rows.now a.events.now p.0 (silent (λ t. t)) (λ ps us. refl))
 
@@ -32,12 +32,12 @@ returns c =
     let p = c.requires in
     let h = not-false _ c.if-not-is_present.false-raw in
     let k = c.leave-left in
-    let s = c.dispatch-sent in
+    let s = c.dispatch-head in
     let f = silent (departed a.clock a.id a.last) in
     let z : to_z w64 (of_z w64 a.last) ≡ a.last = to_z-of_z w64 a.last c.ranges.last in
     let t = bounds-fit a.clock a.subs.now a.d (length a.rows.now) (length a.events.now) (ready-test a.d a.subs.now a.rows.now a.events.now p.0) p.1 in
     let l = leaves-when _ _ f a.d k.result a.subs.now a.rows.now a.events.now k.new.subs k.new.rows a.events.now t (rw z at k.ensures) in
-    performs-done (leaving a.id a.last a.clock) a.d a.subs.now a.rows.now a.events.now s.new.subs s.new.rows s.new.events (own-leave a.clock a.id a.last) 1 (sent_on a.clock f) c.done-2.result s.result c.done-2.ensures
+    performs-done (leaving a.id a.last a.clock) a.d a.subs.now a.rows.now a.events.now s.new.subs s.new.rows s.new.events (own-leave a.clock a.id a.last) 1 (sent_on a.clock f) _ s.result refl
     (λ ps us. leave-present a.clock a.id a.last (head_view a.d a.subs.now a.rows.now ps us) (sym (c.is_present.ensures a.rows.now ps us) ∙ h))
     (then-on a.d a.subs.now a.rows.now a.events.now p.0 a.clock p.1 f 512 (omega arith) (left-keeps a.clock a.id a.last)
     k.result k.new.subs k.new.rows a.events.now l.0 l.1

@@ -1,4 +1,4 @@
-use mathlib.Core.Path.{◌≡◌, sym, ◌∙◌}
+use mathlib.Core.Path.{◌≡◌, refl, sym, ◌∙◌}
 use mathlib.Core.Bool.{false}
 use mathlib.Core.List.{List}
 use native.Mathlib.Omega.{arith}
@@ -28,7 +28,7 @@ returns-then-not-any c =
     let y = ready-test a.d a.subs.now a.rows.now a.events.now p.0 in
     let l = leaves-when _ _ f a.d k.result a.subs.now a.rows.now a.events.now k.new.subs k.new.rows a.events.now (bounds-fit a.clock a.subs.now a.d (length a.rows.now) (length a.events.now) y p.1) k.ensures in
     let h = sym c.has_reserved-any.ensures ∙ not-true _ c.if-not-any.true-raw in
-    performs-done (releasing a.id a.clock) a.d a.subs.now a.rows.now a.events.now k.new.subs k.new.rows a.events.now (own-release a.clock a.id) 0 f c.done.result k.result c.done.ensures
+    performs-done (releasing a.id a.clock) a.d a.subs.now a.rows.now a.events.now k.new.subs k.new.rows a.events.now (own-release a.clock a.id) 0 f _ k.result refl
     (λ ps us. release-none a.clock a.id (head_view a.d a.subs.now a.rows.now ps us) (not-false (empty (reserved_of a.id (head_view a.d a.subs.now a.rows.now ps us))) (sym (has-reserved-view a.subs.now a.rows.now a.d (length a.events.now) a.id ps us (ready-fits a.d a.subs.now a.rows.now a.events.now p.0)) ∙ h)))
     (l.0, omega (arith, l.1))
 
@@ -40,12 +40,12 @@ returns c =
     let f = silent (freed a.clock a.id) in
     let y = ready-test a.d a.subs.now a.rows.now a.events.now p.0 in
     let l = leaves-when _ _ f a.d k.result a.subs.now a.rows.now a.events.now k.new.subs k.new.rows a.events.now (bounds-fit a.clock a.subs.now a.d (length a.rows.now) (length a.events.now) y p.1) k.ensures in
-    let s = c.dispatch-sent in
+    let s = c.dispatch-head in
     let h = sym c.has_reserved-any.ensures ∙ not-false _ c.if-not-any.false-raw in
     let some : (ps : List Id) (us : List Audit) → empty (reserved_of a.id (head_view a.d a.subs.now a.rows.now ps us)) ≡ false = λ ps us. not-true (empty (reserved_of a.id (head_view a.d a.subs.now a.rows.now ps us))) (sym (has-reserved-view a.subs.now a.rows.now a.d (length a.events.now) a.id ps us (ready-fits a.d a.subs.now a.rows.now a.events.now p.0)) ∙ h) in
     let q = then-dispatch a.d a.subs.now a.rows.now a.events.now p.0 a.clock p.1 f k.result k.new.subs k.new.rows a.events.now l.0 l.1
     512 (omega arith) (freed-keeps a.clock a.id (seen a.d a.subs.now a.rows.now a.events.now p.0) (some p.0.producers p.0.audits))
     s.result s.new.subs s.new.rows s.new.events s.ensures in
-    performs-done (releasing a.id a.clock) a.d a.subs.now a.rows.now a.events.now s.new.subs s.new.rows s.new.events (own-release a.clock a.id) 0 (both f (dispatch a.clock)) c.done-2.result s.result c.done-2.ensures
+    performs-done (releasing a.id a.clock) a.d a.subs.now a.rows.now a.events.now s.new.subs s.new.rows s.new.events (own-release a.clock a.id) 0 (both f (dispatch a.clock)) _ s.result refl
     (λ ps us. release-sends a.clock a.id (head_view a.d a.subs.now a.rows.now ps us) (some ps us))
     (q.0, omega (arith, q.1))

@@ -1,4 +1,4 @@
-use mathlib.Core.Path.{ap}
+use mathlib.Core.Path.{refl, ap}
 use native.Mathlib.Omega.{arith}
 use Rattle.definition.specs.Destination.{unmarked}
 use Rattle.definition.specs.Calls.{unmarking}
@@ -21,7 +21,7 @@ returns c =
     let i = c.of_words-id in
     let f = silent (unmarked i.result) in
     let l = leaves-when _ _ f a.d a.d a.subs.now a.rows.now a.events.now a.subs.now k.new.rows a.events.now (ready-test a.d a.subs.now a.rows.now a.events.now p.0) k.ensures in
-    performs-as (unmarking (id_in w)) a.d c.done.result a.subs.now a.rows.now a.events.now a.subs.now k.new.rows a.events.now (decode 8 w) (unmarking i.result) (ap unmarking i.ensures) (unmark-decoded w p.1).call
-    (performs-done (unmarking i.result) a.d a.subs.now a.rows.now a.events.now a.subs.now k.new.rows a.events.now (own-unmark i.result) 0 f c.done.result a.d c.done.ensures
+    performs-as (unmarking (id_in w)) a.d _ a.subs.now a.rows.now a.events.now a.subs.now k.new.rows a.events.now (decode 8 w) (unmarking i.result) (ap unmarking i.ensures) (unmark-decoded w p.1).call
+    (performs-done (unmarking i.result) a.d a.subs.now a.rows.now a.events.now a.subs.now k.new.rows a.events.now (own-unmark i.result) 0 f _ a.d refl
     (λ ps us. unmark-is i.result (head_view a.d a.subs.now a.rows.now ps us))
     (l.0, omega (arith, p.0.none-sent)))

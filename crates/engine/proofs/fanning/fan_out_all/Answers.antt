@@ -1,5 +1,4 @@
 use mathlib.Core.Path.{sym, ap, ◌∙◌, subst}
-use Prim.Native.Nat.{◌-◌}
 use Rattle.stats.specs.Counted.{with_discarded_by}
 use Rattle.state.specs.declared.Head.{Head}
 use Rattle.state.specs.State.{with_counters}
@@ -50,12 +49,6 @@ overflow_add-base-in-loop-i c =
     let pre = c.requires in
     let f = round-few a.by a.e a.subs.now a.rows.now a.before pre.0 pre.1 pre.2 l.subs l.rows l.used l.expired l.over l.base l.i l.invariant c.loop-i-test.true _ _ c.load-s.ensures c.fan_out-r.ensures.value in
     omega (arith, f.0)
-
-pub overflow_add-i : goal.overflow_add-i
-overflow_add-i c = omega (arith, c.loop-i-test.true, c.requires.0.consumers)
-
-pub loop-i-smaller : goal.loop-i-smaller
-loop-i-smaller c = omega (arith, c.loop-i-test.true)
 
 pub loop-i-preserved : goal.loop-i-preserved
 loop-i-preserved c =

@@ -2,6 +2,7 @@ use mathlib.Core.Path.{ap, ◌∙◌}
 use Rattle.definition.specs.Destination.{Spec}
 use Rattle.definition.specs.Calls.{joining, arguments_ok}
 use Rattle.definition.specs.Words.{at, decode}
+use Rattle.state.specs.Answers.{told}
 use Rattle.engine.proofs.Performed.{performs-as}
 use Rattle.joins.specs.Joins as Joins
 use Rattle.definition.specs.Words as Words
@@ -19,5 +20,5 @@ returns c =
     let a = c.args in
     let p = c.requires in
     let k = c.join in
-    performs-as (joining (Words.spec_in a.w) (at 6 a.w)) a.d k.result a.subs.now a.rows.now a.events.now k.new.subs k.new.rows k.new.events (decode 2 a.w) (joining (Joins.spec_of c.spec_of-spec.result) (at 6 a.w))
+    performs-as (joining (Words.spec_in a.w) (at 6 a.w)) a.d (told a.d k.result) a.subs.now a.rows.now a.events.now k.new.subs k.new.rows k.new.events (decode 2 a.w) (joining (Joins.spec_of c.spec_of-spec.result) (at 6 a.w))
     (ap (λ (x : Spec). joining x (at 6 a.w)) c.spec_of-spec.ensures) (join-decoded a.w p.1).call k.ensures

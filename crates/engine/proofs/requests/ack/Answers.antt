@@ -14,18 +14,18 @@ pub ack_present-requires : goal.ack_present-requires
 ack_present-requires c =
     let a = c.args in
     let p = c.requires in
-    (p.0, p.1, place-within a.subs.now a.rows.now a.events.now a.d (ready-fits a.d a.subs.now a.rows.now a.events.now p.0) a.id _ (sym c.position.ensures ∙ c.in-At.is))
+    (p.0, p.1, place-within a.subs.now a.rows.now a.events.now a.d (ready-fits a.d a.subs.now a.rows.now a.events.now p.0) a.id _ (sym c.position.ensures ∙ c.in-Some.is))
 
 pub ack_absent-requires : goal.ack_absent-requires
 ack_absent-requires c =
     let a = c.args in
     let p = c.requires in
-    (p.0, p.1, λ ps us. sym (present-no a.id a.d a.subs.now (sym c.position.ensures ∙ c.in-Nothing.is) a.rows.now ps us))
+    (p.0, p.1, λ ps us. sym (present-no a.id a.d a.subs.now (sym c.position.ensures ∙ c.in-None.is) a.rows.now ps us))
 
-pub returns-in-At : goal.returns-in-At
-returns-in-At c =
+pub returns-in-Some : goal.returns-in-Some
+returns-in-Some c =
     let a = c.args in
-    let e = sym c.position.ensures ∙ c.in-At.is in
+    let e = sym c.position.ensures ∙ c.in-Some.is in
     let k = c.ack_present in
     sends-as a.d k.result a.subs.now a.rows.now a.events.now k.new.subs k.new.rows k.new.events (sent_on a.clock (acked a.id (ack_of a.a))) (ack a.clock a.id (ack_of a.a))
     (λ ps us. sym (Asks.ack-present a.clock a.id (ack_of a.a) (head_view a.d a.subs.now a.rows.now ps us) (sym (present-yes a.id a.d a.subs.now _ e a.rows.now ps us))))

@@ -1,6 +1,5 @@
 use mathlib.Core.Path.{◌≡◌, refl, sym, ap, ◌∙◌}
-use mathlib.Core.Bool.{false}
-use Prim.Native.Nat.{ℕ, ◌+◌, ◌-◌, ◌≤◌}
+use Prim.Native.Nat.{ℕ, ◌+◌, ◌≤◌}
 use native.Mathlib.Omega.{arith}
 use lib.ListN.{take}
 use lib.Seq.{slice, take_all, length-take-le}
@@ -59,9 +58,6 @@ returns-then-has_number c =
     let from : ℕ = l.base + c.load-s.result.inflight in
     let to : ℕ = from + c.load-s.result.held in
     sym (held_first to (sub_rows (take a.n a.subs.now)) a.seq a.rows.now (within (goal.at.returns-then-has_number c).After-load-s) (held-last from to a.seq a.rows.now (omega arith) (sym c.has_number.ensures ∙ c.if-has_number.true)))
-
-pub overflow_add-i : goal.overflow_add-i
-overflow_add-i c = omega (arith, c.loop-i-test.true, c.requires.few)
 
 pub loop-i-preserved : goal.loop-i-preserved
 loop-i-preserved c =

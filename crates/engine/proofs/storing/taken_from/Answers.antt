@@ -1,5 +1,5 @@
 use mathlib.Core.Path.{refl, sym, ◌∙◌}
-use Prim.Native.Nat.{◌+◌, ◌-◌, ◌≤◌, ◌<◌, min}
+use Prim.Native.Nat.{◌+◌, ◌≤◌, ◌<◌, min}
 use native.Mathlib.Nat.{zero-add}
 use native.Mathlib.Omega.{arith}
 use borrow.Author.Rules.{rules}
@@ -60,9 +60,6 @@ overflow_add-base-in-loop-i c = omega (arith, among (goal.at.overflow_add-base-i
 
 pub overflow_add-base-in-loop-i-2 : goal.overflow_add-base-in-loop-i-2
 overflow_add-base-in-loop-i-2 c = omega (arith, among (goal.at.overflow_add-base-in-loop-i-2 c).After-load-s)
-
-pub overflow_add-i : goal.overflow_add-i
-overflow_add-i c = omega (arith, there (goal.at.overflow_add-i c).After-load-s, (facts (goal.at.overflow_add-i c).Start).consumers)
 
 pub loop-i-preserved : goal.loop-i-preserved
 loop-i-preserved c =

@@ -9,8 +9,8 @@ pub returns-then-cut : goal.returns-then-cut
 unfolding line_in
 returns-then-cut c =
     elim c.then-cut.branch [
-      | then-cut-via-then-cut w ↦ rw w.if-cut.true
-      | then-cut-via-else-cut+then-buffer-n w ↦ rw (w.if-cut.false, lt-ltb _ _ w.if-buffer-n.true)
+      | then-cut-via-then-cut w ↦ rw (w.if-cut.true, c.bad_line.ensures)
+      | then-cut-via-else-cut+then-buffer-n w ↦ rw (w.if-cut.false, lt-ltb _ _ w.if-buffer-n.true, c.bad_line.ensures)
     ]
 
 pub slice_bounds-parsed-end : goal.slice_bounds-parsed-end

@@ -21,30 +21,29 @@ slice_bounds-number_of-end c =
     let h : word_length (drop start s) ≤ length s - start = rw length-drop at (word-within (drop start s)) in
     omega (arith, c.word_end-at.ensures)
 
-pub returns-in_default : goal.returns-in_default
-returns-in_default c =
+pub returns-in_err-v : goal.returns-in_err-v
+returns-in_err-v c =
     let s = c.args.s.now in
     let l = c.loop-at in
     let w = c.word_end-at in
-    let e = sym c.number_of.ensures ∙ c.in_default.is in
-    c.no_values.ensures ∙ sym (l.invariant.0 ∙ values-step s l.at w.result l.count l.values (search rules) w.ensures ∙ rw e)
+    let e = sym c.number_of.ensures ∙ c.in_err-v.was in
+    c.from_residual.ensures ∙ sym (l.invariant.0 ∙ values-step s l.at w.result l.count l.values (search rules) w.ensures ∙ rw e)
 
 pub returns-then-count-ge-MOST : goal.returns-then-count-ge-MOST
 returns-then-count-ge-MOST c =
     let s = c.args.s.now in
     let l = c.loop-at in
     let w = c.word_end-at in
-    let e = sym c.number_of.ensures ∙ c.in-Value.is in
-    c.no_values-then-count-ge-MOST.ensures
-    ∙ sym (l.invariant.0 ∙ values-step s l.at w.result l.count l.values (search rules) w.ensures ∙ rw (e, le-leb _ _ c.if-count-ge-MOST.true))
+    let e = sym c.number_of.ensures ∙ c.in_ok-v.was in
+    sym (l.invariant.0 ∙ values-step s l.at w.result l.count l.values (search rules) w.ensures ∙ rw (e, le-leb _ _ c.if-count-ge-MOST.true))
 
 pub loop-at-preserved : goal.loop-at-preserved
 loop-at-preserved c =
     let s = c.args.s.now in
     let l = c.loop-at in
     let w = c.word_end-at in
-    let v = c.in-Value.v in
-    let e = sym c.number_of.ensures ∙ c.in-Value.is in
+    let v = c.in_ok-v.v in
+    let e = sym c.number_of.ensures ∙ c.in_ok-v.was in
     let f : SFits w64 v = search rules in
     let u = rw (to_z-of_z w64 v f) at c.word_of.ensures in (
       l.invariant.0 ∙ values-step s l.at w.result l.count l.values (search rules) w.ensures

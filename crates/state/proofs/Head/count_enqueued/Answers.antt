@@ -4,4 +4,4 @@ use Rattle.state.specs.State.{with_counters}
 use Rattle.state.proofs.Head.count_enqueued.Goals as goal
 
 pub returns : goal.returns
-returns c = ap (λ (s : Stats). with_counters s c.args.self) c.counted_enqueued-s.ensures
+returns c = ap (λ (s : Stats). with_counters s c.args.self) c.count_enqueued.ensures

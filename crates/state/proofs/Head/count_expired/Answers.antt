@@ -4,4 +4,4 @@ use Rattle.state.specs.State.{with_counters}
 use Rattle.state.proofs.Head.count_expired.Goals as goal
 
 pub returns : goal.returns
-returns c = ap (λ (s : Stats). with_counters s c.args.self) c.counted_expired_by-s.ensures
+returns c = ap (λ (s : Stats). with_counters s c.args.self) c.count_expired_by.ensures

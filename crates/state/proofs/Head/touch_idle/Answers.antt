@@ -1,18 +1,21 @@
+use mathlib.Core.Path.{◌≡◌}
+use mathlib.Core.Bool.{false, ◌&&◌}
+use lib.Dec.{eqb}
 use borrow.Author.Tests.{eq-eqb, ne_eqb}
 use Rattle.state.specs.State.{touched}
 use Rattle.state.proofs.Head.touch_idle.Goals as goal
+use Rattle.state.proofs.Head.touch_idle.Goals.{then-self-ne0-via-then-self-ne0, then-self-ne0-via-else-self-ne0+then-self-ne0-2, then-self-ne0-via-else-self-ne0+else-self-ne0-2+then-self-ne0-3}
 
 pub returns-then-self-ne0 : goal.returns-then-self-ne0
 unfolding touched
-returns-then-self-ne0 c = rw (ne_eqb _ _ c.if-self-ne0.true) c.not_idle.ensures
-
-pub returns-then-self-ne0-2 : goal.returns-then-self-ne0-2
-unfolding touched
-returns-then-self-ne0-2 c = rw (eq-eqb _ _ c.if-self-ne0.false, ne_eqb _ _ c.if-self-ne0-2.true) c.not_idle-then-self-ne0-2.ensures
-
-pub returns-then-self-ne0-3 : goal.returns-then-self-ne0-3
-unfolding touched
-returns-then-self-ne0-3 c = rw (eq-eqb _ _ c.if-self-ne0.false, eq-eqb _ _ c.if-self-ne0-2.false, ne_eqb _ _ c.if-self-ne0-3.true) c.not_idle-then-self-ne0-3.ensures
+returns-then-self-ne0 c =
+    let d = c.args.self in
+    let some : (eqb d.waiting 0 && (eqb d.consumers 0 && eqb d.producers 0)) ≡ false = elim c.then-self-ne0.branch [
+      | then-self-ne0-via-then-self-ne0 w ↦ rw (ne_eqb _ _ w.if-self-ne0.true)
+      | then-self-ne0-via-else-self-ne0+then-self-ne0-2 w ↦ rw (eq-eqb _ _ w.if-self-ne0.false, ne_eqb _ _ w.if-self-ne0-2.true)
+      | then-self-ne0-via-else-self-ne0+else-self-ne0-2+then-self-ne0-3 w ↦ rw (eq-eqb _ _ w.if-self-ne0.false, eq-eqb _ _ w.if-self-ne0-2.false, ne_eqb _ _ w.if-self-ne0-3.true)
+    ] in
+    rw some c.not_idle.ensures
 
 pub returns-then-self : goal.returns-then-self
 unfolding touched

@@ -1,8 +1,7 @@
-use mathlib.Core.Path.{refl}
+use mathlib.Core.Path.{◌≡◌, refl}
 use mathlib.Core.List.{[], ◌∷◌}
-use Prim.Native.Nat.{◌-◌}
 use native.Mathlib.Omega.{arith}
-use lib.ListN.{get_or, set}
+use lib.ListN.{length, get_or, set}
 use Rattle.stationcalls.specs.Parts.{lent_all}
 use Rattle.stationcalls.proofs.Batched.{none_yet, last-call, last-place, no_room, still-roomy, fit-entry, one_more}
 use Rattle.stationcalls.proofs.batch.run_each.Goals as goal
@@ -98,14 +97,6 @@ overflow_add-from c =
     let m = c.call_of-c in
     omega (arith, fit-entry a.words.now (lent_all a.heads.now a.subs.now a.rows.now a.own.now) a.events.now a.outcomes.now (lent_all l.heads l.subs l.rows l.own) l.events l.outcomes l.i l.from l.invariant (get_or a.words.now l.i []) m.result m.ensures (lent_all k.new.heads k.new.subs k.new.rows k.new.own) k.new.events k.result k.ensures.station_called k.ensures.events_unchanged, c.well_formed)
 
-pub overflow_add-i : goal.overflow_add-i
-overflow_add-i c =
-    omega (arith, c.loop-i-test.true, c.well_formed)
-
-pub loop-i-smaller : goal.loop-i-smaller
-loop-i-smaller c =
-    omega (arith, c.loop-i-test.true)
-
 pub loop-i-preserved : goal.loop-i-preserved
 loop-i-preserved c =
     let a = c.args in
@@ -142,4 +133,5 @@ pub returns : goal.returns
 returns c =
     let a = c.args in
     let l = c.loop-i in
-    last-call a.words.now (lent_all a.heads.now a.subs.now a.rows.now a.own.now) a.events.now a.outcomes.now (lent_all l.heads l.subs l.rows l.own) l.events l.outcomes l.i l.from l.invariant c.loop-i-test.false
+    let e : length a.words.now ≡ l.i = omega (arith, c.loop-i-test.false) in
+    rw e (last-call a.words.now (lent_all a.heads.now a.subs.now a.rows.now a.own.now) a.events.now a.outcomes.now (lent_all l.heads l.subs l.rows l.own) l.events l.outcomes l.i l.from l.invariant c.loop-i-test.false)

@@ -1,8 +1,7 @@
 use mathlib.Core.Path.{subst⁻¹}
-use Prim.Native.Nat.{◌+◌, ◌-◌}
+use Prim.Native.Nat.{◌+◌}
 use lib.ListN.{set}
 use Rattle.definition.specs.Layout.{Row}
-use Rattle.stationcalls.specs.Run.{named}
 use native.Mathlib.Omega.{arith}
 use Rattle.stationcalls.proofs.Tell.{Telling, tell_none, named-turn, tell-all}
 use Rattle.stationcalls.proofs.letters.name_all.Goals as goal

@@ -1,5 +1,5 @@
 use mathlib.Core.Path.{refl, subst⁻¹}
-use Prim.Native.Nat.{◌+◌, ◌-◌}
+use Prim.Native.Nat.{◌+◌}
 use lib.ListN.{set}
 use Rattle.definition.specs.Layout.{Row}
 use Rattle.stationcalls.proofs.Tell.{Telling, tell_none, tell-turn, tell-all}

@@ -1,6 +1,4 @@
 use mathlib.Core.Path.{refl, sym, ◌∙◌}
-use mathlib.Core.Bool.{true}
-use Prim.Native.Nat.{◌-◌}
 use borrow.Author.Tests.{not-true, not-false}
 use Rattle.stationcalls.specs.Own.{place_ok}
 use Rattle.stationcalls.proofs.Eight.{from_next, own-stop, next-zero, next_past, next-right}

@@ -10,6 +10,3 @@ invariant-loop-i l =
     (l.i ≤ l.n) × (l.k ≤ l.initial.k + l.i) × (length l.list ≡ length l.initial.list)
     × (l.k + length (stored_to l.j (slice l.i l.n l.told)) ≡ l.initial.k + length (stored_to l.j (take l.n l.told)))
     × (sets l.list l.k (stored_to l.j (slice l.i l.n l.told)) ≡ sets l.initial.list l.initial.k (stored_to l.j (take l.n l.told)))
-
-abbrev pub decreases-loop-i : goal.decreases-loop-i
-decreases-loop-i l = l.n - l.i

@@ -7,6 +7,3 @@ use Rattle.stationreport.proofs.blocks.hold_all.Given as goal
 
 abbrev pub invariant-loop-j : goal.invariant-loop-j
 invariant-loop-j l = (l.j ≤ 8) × (length l.lists ≡ length l.initial.lists) × (length l.counts ≡ length l.initial.counts) × GatheredTo (lent_all l.heads l.subs l.rows l.own) l.j l.lists l.counts
-
-abbrev pub decreases-loop-j : goal.decreases-loop-j
-decreases-loop-j l = 8 - l.j

@@ -7,6 +7,3 @@ use Rattle.stationreport.proofs.lines.begin.Given as goal
 
 abbrev pub invariant-loop-j : goal.invariant-loop-j
 invariant-loop-j l = (length l.gone ≡ length l.initial.gone) × (l.j ≤ 8) × (each_from (anew_row l.number l.all) l.j l.gone ≡ counts_anew l.number l.all 0 l.initial.gone)
-
-abbrev pub decreases-loop-j : goal.decreases-loop-j
-decreases-loop-j l = 8 - l.j

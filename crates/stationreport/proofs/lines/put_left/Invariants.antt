@@ -13,6 +13,3 @@ abbrev pub invariant-loop-j : goal.invariant-loop-j
 invariant-loop-j l =
     let left = left_from (lent_all l.heads l.subs l.rows l.own) l.lists l.counts (take l.n l.told) l.number l.code l.words in
     (l.j ≤ 8) × (length l.gone ≡ length l.initial.gone) × Puts (places_text (λ k. blocks_text_on k (left k)) 0 l.j) l.from l.initial.out l.at l.out × (l.at ≤ l.from + 131200 * l.j) × (each_from (gone_row_by left) l.j l.gone ≡ counts_by left 0 l.initial.gone)
-
-abbrev pub decreases-loop-j : goal.decreases-loop-j
-decreases-loop-j l = 8 - l.j

@@ -9,6 +9,3 @@ use Rattle.stationreport.proofs.lines.put_others.Given as goal
 
 abbrev pub invariant-loop-j : goal.invariant-loop-j
 invariant-loop-j l = Puts (places_text (other_line l.number (take l.n l.told) (station_by (lent_all l.heads l.subs l.rows l.own) [])) 0 l.j) l.from l.initial.out l.at l.out × (l.j ≤ 8) × (l.at ≤ l.from + 128 * l.j)
-
-abbrev pub decreases-loop-j : goal.decreases-loop-j
-decreases-loop-j l = 8 - l.j

@@ -1,4 +1,0 @@
-use Rattle.stats.proofs.Stats.with_dequeued_by.Goals as goal
-
-pub returns : goal.returns
-returns c = simp c.more_by-m.ensures

@@ -1,4 +1,0 @@
-use Rattle.stats.proofs.Stats.with_enqueued.Goals as goal
-
-pub returns : goal.returns
-returns c = simp c.more_of-n.ensures
