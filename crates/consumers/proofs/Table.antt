@@ -40,6 +40,10 @@ module _ (i n : ℕ) (l : List Row) (h : i < min n (length l)) where
 
 -- and there are no more
 module _ (i n : ℕ) (l : List Row) (h : min n (length l) ≤ i) where
+  pub rows_none : sub_rows (slice i n l) ≡ 0
+  unfolding sub_rows
+  rows_none = rw (first_ended i n l h)
+
   pub tally-none : (p : Row → Bool) → tally p (slice i n l) ≡ 0
   tally-none p = rw (first_ended i n l h)
 

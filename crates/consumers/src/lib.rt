@@ -114,6 +114,13 @@ impl Sub {
     }
 }
 
+// The end of the first n of a table of this length.
+pub fn end_of(n: usize, len: usize) -> usize
+    ensures { result ≡ min n len }
+{
+    n.min(len)
+}
+
 // Not a From, nor the next: those would be public, and rows are read and written by `load` and `store` alone.
 fn sub_of(w: SubRow) -> Sub
     ensures { result ≡ row_sub w }
@@ -224,9 +231,15 @@ fn rows_of(w: SubRow) -> usize
 pub fn base_of(subs: &[SubRow], n: usize) -> usize
     ensures { result ≡ min 513 (sub_rows (take n subs.now)) }
 {
-    subs.iter()
-        .take(n)
-        .fold(0, |base, w| sum_of(base as u64, rows_of(*w) as u64))
+    let mut base = 0;
+    // A loop: it ends where there are more than 512.
+    for w in &subs[..end_of(n, subs.len())] {
+        base += rows_of(*w);
+        if ROWS < base {
+            return ROWS + 1;
+        }
+    }
+    base
 }
 
 // Takes the consumer at a place out of the first n.
@@ -251,7 +264,7 @@ pub fn hold_back(subs: &mut [SubRow], n: usize, seq: u64)
     ensures { subs.new ≡ on_first (held_back_row seq) n subs.old }
 {
     let most = seq.saturating_sub(1);
-    let end = n.min(subs.len());
+    let end = end_of(n, subs.len());
     // A loop of two lines, as in `clear`: a shared function would be no shorter.
     for w in &mut subs[..end] {
         *w = up_to(*w, most);
@@ -262,10 +275,13 @@ pub fn hold_back(subs: &mut [SubRow], n: usize, seq: u64)
 pub fn accepting(subs: &[SubRow], n: usize, e: Entry) -> usize
     ensures { result ≡ tally (takes_entry e) (take n subs.now) }
 {
-    subs.iter()
-        .take(n)
-        .filter(|w| sub_of(**w).accepts(e))
-        .count()
+    let mut count = 0;
+    for w in &subs[..end_of(n, subs.len())] {
+        if sub_of(*w).accepts(e) {
+            count += 1;
+        }
+    }
+    count
 }
 
 // What one consumer holds that is no snapshot of a queue.
@@ -306,7 +322,7 @@ fn emptied(mut w: SubRow) -> SubRow
 pub fn clear(subs: &mut [SubRow], n: usize)
     ensures { subs.new ≡ on_first cleared_row n subs.old }
 {
-    let end = subs.len().min(n);
+    let end = end_of(n, subs.len());
     for w in &mut subs[..end] {
         *w = emptied(*w);
     }

@@ -9,6 +9,8 @@ use Rattle.state.specs.declared.Head.{Head}
 use Rattle.state.specs.declared.Answered.{Answered}
 use Rattle.state.specs.State.{with_used_calls, stored_head}
 use Rattle.engine.specs.declared.Outcome.{Outcome}
+use Rattle.engine.specs.declared.Reply.{Reply}
+use Rattle.definition.specs.Base.{whether◌then◌else◌}
 use Rattle.engine.specs.Called.{outcome}
 
 unfoldable pub opened_head : List ℕ → Head
@@ -40,6 +42,10 @@ counted d = with_used_calls (more d.calls_used) d
 abbrev pub finished : Result Answered Refusal → Outcome
 finished (Ok a) = outcome 0 a.answer a.head.events
 finished (Err r) = outcome (refusal_number r) 0 0
+
+-- the same of a refusal by any number
+abbrev pub finished_by : Reply → Outcome
+finished_by a = whether eqb a.refusal 0 then outcome 0 a.answer a.head.events else outcome a.refusal 0 0
 
 -- and stores nothing
 abbrev pub stored_after : Result Answered Refusal → List ℕ → List ℕ

@@ -1,7 +1,7 @@
 // The public calls of a destination on lent buffers, total, with refusals in the paper's order.
 #![tactic(auto)]
 
-ghost use Rattle.std.specs.Prelude.{◌≡◌, true, false, ◌<◌, length};
+ghost use Rattle.std.specs.Prelude.{◌≡◌, true, false, ◌<◌, eqb, length};
 ghost use Rattle.definition.specs.Base.{whether◌then◌else◌};
 ghost use Rattle.definition.specs.Words.{share_of, open_words};
 ghost use Rattle.definition.specs.Base.{is_some};
@@ -11,7 +11,7 @@ ghost use Rattle.definition.specs.Layout.{sound_buffers, lengths_of, buffer_step
 ghost use Rattle.model.specs.Refusal.{refusal_number};
 ghost use Rattle.state.specs.State.{stored_head};
 ghost use Rattle.engine.specs.Called.{outcome, Called};
-ghost use Rattle.engine.specs.Opened.{opened_head, finished, stored_after};
+ghost use Rattle.engine.specs.Opened.{opened_head, counted, finished, finished_by, stored_after};
 
 mod acking;
 mod arrivals;
@@ -30,7 +30,7 @@ use calls::Call;
 use consumers::SubRow;
 use entry::Row;
 use model::Refusal;
-use state::{Answer, Event, Head};
+use state::{Answer, Answered, Event, Head};
 use stats::Stats;
 
 // The refusal's number (0: accepted), the answer, how many events were written: C's struct (include/destination.h).
@@ -43,15 +43,30 @@ pub struct Outcome {
 }
 
 impl Outcome {
-    pub fn refused(refusal: Refusal) -> Outcome
-        ensures { result ≡ outcome (refusal_number refusal) 0 0 }
+    // Of any number.
+    pub fn refused(refusal: u64) -> Outcome
+        ensures { result ≡ outcome refusal 0 0 }
     {
         Outcome {
-            refusal: u64::from(refusal),
+            refusal,
             answer: 0,
             events: 0,
         }
     }
+
+    pub fn refused_for(refusal: Refusal) -> Outcome
+        ensures { result ≡ outcome (refusal_number refusal) 0 0 }
+    {
+        Outcome::refused(u64::from(refusal))
+    }
+}
+
+// What a call gives, for `finish`: its refusal by any number, 0 for none.
+#[derive(Clone, Copy)]
+pub struct Reply {
+    pub refusal: u64,
+    pub answer: u64,
+    pub head: Head,
 }
 
 // The share that a word stands for: 0 for all rows.
@@ -99,7 +114,7 @@ fn open(head: &mut [u64], c: Call) -> Outcome
     ensures head_after { head.new ≡ (whether open_words c.words then stored_head (opened_head c.words) head.old else head.old) }
 {
     if !c.opens() {
-        return Outcome::refused(Refusal::Arguments);
+        return Outcome::refused_for(Refusal::Arguments);
     }
     let w = c.words;
     let d = opened(w);
@@ -112,12 +127,12 @@ fn open(head: &mut [u64], c: Call) -> Outcome
 }
 
 // Stores what a call leaves, with one call more used; a refused one stores nothing.
-pub fn finish(head: &mut [u64], a: Answer) -> Outcome
+pub fn conclude(head: &mut [u64], a: Answer) -> Outcome
     ensures value { result ≡ finished a }
     ensures head_after { head.new ≡ stored_after a head.old }
 {
     match a {
-        Err(refusal) => Outcome::refused(refusal),
+        Err(refusal) => Outcome::refused_for(refusal),
         Ok(done) => {
             let d = done.head;
             state::store(head, d.counted());
@@ -128,6 +143,23 @@ pub fn finish(head: &mut [u64], a: Answer) -> Outcome
             }
         }
     }
+}
+
+// `conclude` of a refusal by its number, also one that has no name here.
+pub fn finish(head: &mut [u64], a: Reply) -> Outcome
+    ensures value { result ≡ finished_by a }
+    ensures head_after { head.new ≡ (whether eqb a.refusal 0 then stored_head (counted a.head) head.old else head.old) }
+{
+    if a.refusal != 0 {
+        return Outcome::refused(a.refusal);
+    }
+    conclude(
+        head,
+        Ok(Answered {
+            answer: a.answer,
+            head: a.head,
+        }),
+    )
 }
 
 // A call on sound buffers, whose arguments are in range.
@@ -143,14 +175,14 @@ fn run(
 {
     let d = state::load(head, subs);
     if d.calls_used == d.call_limit {
-        return Outcome::refused(Refusal::CallsUsedUp);
+        return Outcome::refused_for(Refusal::CallsUsedUp);
     }
     if (c.code < Call::ADD_PRODUCER) | (c.code == Call::RELEASE) {
         let a = perform::perform(subs, rows, events, d, c);
-        return finish(head, a);
+        return conclude(head, a);
     }
     let a = perform::perform_head(head, d, c);
-    finish(head, a)
+    conclude(head, a)
 }
 
 // A call on sound buffers: what follows the tests of the state.
@@ -168,7 +200,7 @@ fn step(
         return open(head, c);
     }
     if !c.in_range() {
-        return Outcome::refused(Refusal::Arguments);
+        return Outcome::refused_for(Refusal::Arguments);
     }
     run(head, subs, rows, events, c)
 }
@@ -185,16 +217,16 @@ pub fn call(
     ensures { Called (buffer_step (lent head.old subs.old rows.old) (length events.old) c.code c.words) (lent head.old subs.old rows.old) (lent head.new subs.new rows.new) events.old events.new result }
 {
     if !sound::whole(head, subs, rows) {
-        return Outcome::refused(Refusal::Short);
+        return Outcome::refused_for(Refusal::Short);
     }
     if events.len() < state::EVENTS {
-        return Outcome::refused(Refusal::Short);
+        return Outcome::refused_for(Refusal::Short);
     }
     if c.code == Call::OPEN {
         return open(head, c);
     }
     if !sound::sound(head, subs, rows) {
-        return Outcome::refused(Refusal::NotSound);
+        return Outcome::refused_for(Refusal::NotSound);
     }
     step(head, subs, rows, events, c)
 }

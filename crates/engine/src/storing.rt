@@ -24,15 +24,25 @@ const PRODUCER: usize = 3;
 
 // ---- a producer connection's rows
 
+// Whether a row came from a connection.
+fn is_from(row: &Row, conn: u64) -> bool
+    ensures { result ≡ came_from conn row.now }
+{
+    conn == row[PRODUCER]
+}
+
 // How many of rows[from..to] came from a connection.
 fn count_from(rows: &[Row], from: usize, to: usize, conn: u64) -> usize
     requires { (from ≤ to) × (to ≤ length rows.now) }
     ensures { result ≡ tally (came_from conn) (slice from to rows.now) }
 {
-    rows[from..to]
-        .iter()
-        .filter(|row| conn == row[PRODUCER])
-        .count()
+    let mut count = 0;
+    for row in &rows[from..to] {
+        if is_from(row, conn) {
+            count += 1;
+        }
+    }
+    count
 }
 
 // How many of a consumer's rows, from its first on, belong to connections: copies of a queue's browsers belong to none.

@@ -50,10 +50,13 @@ fn count_snapped(rows: &[Row], from: usize, to: usize, selector: u64, by: u64) -
     requires { (from ≤ to) × (to ≤ length rows.now) × (by ≤ 2 ^ 62) }
     ensures { result ≡ tally (snapped by selector) (slice from to rows.now) }
 {
-    rows[from..to]
-        .iter()
-        .filter(|row| !is_gone(**row, by) && is_shown(**row, selector))
-        .count()
+    let mut count = 0;
+    for row in &rows[from..to] {
+        if !is_gone(*row, by) && is_shown(*row, selector) {
+            count += 1;
+        }
+    }
+    count
 }
 
 // How many rows its snapshot gets.

@@ -1,5 +1,6 @@
 -- What a program says of itself: a message begins with its name. Assumes nothing.
-use Rattle.std.specs.Prelude.{ℕ, ◌≤◌, ◌≡◌, Bool, true, List, [], ◌∷◌, ◌++◌, length}
+use Rattle.std.specs.Prelude.{ℕ, ◌≤◌, ◌≡◌, Bool, true, List, [], ◌∷◌, ◌++◌, eqb, length}
+use Rattle.words.specs.Pick.{whether◌then◌else◌}
 use Rattle.program.specs.declared.Looks.{Looks}
 use Rattle.program.specs.declared.Looks.TheVariants.{Calls, Marked, Text, Other}
 
@@ -29,3 +30,7 @@ hint_text Calls = other_hint
 hint_text Marked = marked_hint
 hint_text Text = text_hint
 hint_text Other = other_hint
+
+-- the same by a number
+unfoldable pub hint_by : ℕ → List ℕ
+hint_by kind = whether eqb kind 1 then marked_hint else whether eqb kind 2 then text_hint else other_hint

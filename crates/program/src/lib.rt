@@ -6,7 +6,7 @@ ghost use Rattle.std.specs.Prelude.{◌≡◌, true, ◌+◌, ◌≤◌, leb, le
 ghost use Rattle.reading.specs.declared.How.TheVariants.{Again};
 ghost use Rattle.reading.specs.Read.{ReadInto};
 ghost use Rattle.callfile.specs.Placed.{Puts, PutLine};
-ghost use Rattle.program.specs.Said.{headed, Written, hint_text};
+ghost use Rattle.program.specs.Said.{headed, Written, hint_text, hint_by};
 ghost use Rattle.program.specs.Asked.{word_asks, is_text_byte, are_text, part_like, looks_like, read_of, is_puzzling};
 
 use callfile::Reading;
@@ -374,13 +374,25 @@ fn hint_text(out: &mut [u8], kind: Looks) -> usize
 }
 
 // What to say of an input whose first block is no block of calls, by what it looks like. Without room for 160 bytes, nothing is put.
-pub fn put_hint(out: &mut [u8], kind: Looks) -> usize
+pub fn put_hint_for(out: &mut [u8], kind: Looks) -> usize
     ensures { PutLine 160 (hint_text kind) 0 out.old result out.new }
 {
     if out.len() < 160 {
         return 0;
     }
     hint_text(out, kind)
+}
+
+// The same by a number: 1 for a text with a mark, 2 for a text, and any other for what is neither.
+#[tactic(auto, unfolding(crate::specs::Said::hint_text, crate::specs::Said::hint_by))]
+pub fn put_hint(out: &mut [u8], kind: u64) -> usize
+    ensures { PutLine 160 (hint_by kind) 0 out.old result out.new }
+{
+    match kind {
+        1 => put_hint_for(out, Looks::Marked),
+        2 => put_hint_for(out, Looks::Text),
+        _ => put_hint_for(out, Looks::Other),
+    }
 }
 
 // How many bytes of the block were read: those of the one that was begun, or all of it.
@@ -396,7 +408,7 @@ fn read_of(block: usize, at: Reading) -> usize
 // Writes the hint of a kind to standard error.
 fn say_hint(rt: HostRuntime, name: &[u8], kind: Looks) {
     let mut said = [0u8; 160];
-    let n = put_hint(&mut said, kind);
+    let n = put_hint_for(&mut said, kind);
     if n <= 160 {
         message(rt, name, &said[0..n]);
     }

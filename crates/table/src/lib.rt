@@ -159,6 +159,32 @@ pub fn flown(mut row: Row, dseq: u64) -> Row
     row
 }
 
+// How many rows have a delivery number in the span. A loop, as in the next: `filter` with `count` takes three times as long.
+fn count_in(rows: &[Row], span: Span) -> usize
+    ensures { result ≡ tally (dseq_between span.first span.last) rows.now }
+{
+    let mut count = 0;
+    for row in rows {
+        if span.has(row[DSEQ]) {
+            count += 1;
+        }
+    }
+    count
+}
+
+// How many of these are freed.
+fn count_freed(rows: &[Row], span: Span) -> usize
+    ensures { result ≡ tally (λ w. dseq_between span.first span.last w && is_freed w) rows.now }
+{
+    let mut count = 0;
+    for row in rows {
+        if span.has(row[DSEQ]) && row[FREED] != 0 {
+            count += 1;
+        }
+    }
+    count
+}
+
 // How many of rows[from..to] have a delivery number in the span.
 pub fn count_range(rows: &[Row], from: usize, to: usize, span: Span) -> usize
     ensures { result ≡ count_rows (dseq_between span.first span.last) from to rows.now }
@@ -166,7 +192,7 @@ pub fn count_range(rows: &[Row], from: usize, to: usize, span: Span) -> usize
     let Some(part) = rows.get(from..to) else {
         return 0;
     };
-    part.iter().filter(|row| span.has(row[DSEQ])).count()
+    count_in(part, span)
 }
 
 // Marks as freed the rows of from..to with a delivery number in the span, with tx as acknowledged in a transaction,
@@ -272,10 +298,7 @@ pub fn remove_range(rows: &mut [Row], from: usize, to: usize, n: usize, span: Sp
     if !is_segment(from, to, n, rows.len()) {
         return Removed { rows: 0, freed: 0 };
     }
-    let freed = rows[from..to]
-        .iter()
-        .filter(|row| span.has(row[DSEQ]) && row[FREED] != 0)
-        .count();
+    let freed = count_freed(&rows[from..to], span);
     let gone = remove_where(rows, from, to, n, |row| span.has(row[DSEQ]));
     Removed { rows: gone, freed }
 }

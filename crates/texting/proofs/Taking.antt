@@ -1,5 +1,5 @@
 -- The lines of a text one by one, and what is done with each. Assumes nothing.
-use Rattle.std.specs.Prelude.{Option, Some, Ok, Err}
+use Rattle.std.specs.Prelude.{Option, is_some, true, false}
 use Prim.Native.Nat.{ℕ, suc, ◌+◌, ◌-◌, ◌≤◌, ◌<◌}
 use native.Mathlib.Omega.{arith}
 use mathlib.Core.Path.{◌≡◌, refl, ap, sym, ◌∙◌}
@@ -13,12 +13,11 @@ use Rattle.stats.specs.Counted.{more}
 use Rattle.textwords.specs.declared.Stop.TheVariants.{LineEnd}
 use Rattle.textwords.specs.Text.{onto, run}
 use Rattle.textwords.proofs.Words.{run-within}
-use Rattle.calls.specs.declared.Call.{Call}
 use Rattle.callblocks.specs.Packed.{sealed}
 use Rattle.calltext.specs.declared.Fault.{Fault}
 use Rattle.calltext.specs.Lines.{Parsed, line_call}
 use Rattle.texting.specs.declared.Filled.{Filled}
-use Rattle.texting.specs.Lines.{lines_of, is_bad}
+use Rattle.texting.specs.Lines.{lines_of, line_fault, is_bad}
 use Rattle.texting.specs.Parts.{after_line, Filling, filling, with_parsed, count_parsed, fill_from, begun, ended, sealing, Fills, bad_at, bad_nowhere, first_bad}
 
 -- ---- lines
@@ -121,28 +120,28 @@ module _ (n at : ℕ) where
   bad-none = refl
 
   module _ (l : List ℕ) (ls : List (List ℕ)) where
-    pub bad-here : (f : Fault) → line_call l ≡ Err f → first_bad n at (l ∷ ls) ≡ bad_at (Some f) n at l
+    pub bad-here : is_bad l ≡ true → first_bad n at (l ∷ ls) ≡ bad_at (line_fault l) n at l
     unfolding first_bad
-    bad-here f e = rw e
+    bad-here e = rw e
 
-    pub bad-later : (c : Option Call) → line_call l ≡ Ok c → first_bad n at (l ∷ ls) ≡ first_bad (more n) (after_line at l) ls
+    pub bad-later : is_bad l ≡ false → first_bad n at (l ∷ ls) ≡ first_bad (more n) (after_line at l) ls
     unfolding first_bad
-    bad-later c e = rw e
+    bad-later e = rw e
 
 module _ (n at : ℕ) (t : List ℕ) {e : ℕ} (w : Taken t at e) where
-  pub bad-found : (f : Fault) → line_call (take (e - at) (drop at t)) ≡ Err f → record { fault = Some f; line = n; from = at; to = e; at = e + 1 } ≡ first_bad n at (lines_of (drop at t))
-  bad-found f h =
+  pub bad-found : (f : Option Fault) → f ≡ line_fault (take (e - at) (drop at t)) → is_some f ≡ true → record { fault = f; line = n; from = at; to = e; at = e + 1 } ≡ first_bad n at (lines_of (drop at t))
+  bad-found f h b =
       let l = take (e - at) (drop at t) in
       let end : at + length l ≡ e = omega (arith, w.next) in
-      let g : record { fault = Some f; line = n; from = at; to = e; at = e + 1 } ≡ bad_at (Some f) n at l =
-      λ i. record { fault = Some f; line = n; from = at; to = sym end i; at = sym w.next i } in
-      rw w.lines (g ∙ sym (bad-here n at l (lines_of (drop (e + 1) t)) f h))
+      let g : record { fault = f; line = n; from = at; to = e; at = e + 1 } ≡ bad_at (line_fault l) n at l =
+      λ i. record { fault = h i; line = n; from = at; to = sym end i; at = sym w.next i } in
+      rw w.lines (g ∙ sym (bad-here n at l (lines_of (drop (e + 1) t)) (sym (ap is_some h) ∙ b)))
 
-  pub bad-passed : (c : Option Call) → line_call (take (e - at) (drop at t)) ≡ Ok c → first_bad (more n) (e + 1) (lines_of (drop (e + 1) t)) ≡ first_bad n at (lines_of (drop at t))
-  bad-passed c h =
+  pub bad-passed : (f : Option Fault) → f ≡ line_fault (take (e - at) (drop at t)) → is_some f ≡ false → first_bad (more n) (e + 1) (lines_of (drop (e + 1) t)) ≡ first_bad n at (lines_of (drop at t))
+  bad-passed f h b =
       let l = take (e - at) (drop at t) in
       let ls = lines_of (drop (e + 1) t) in
-      rw w.lines (ap (λ (m : ℕ). first_bad (more n) m ls) (sym w.next) ∙ sym (bad-later n at l ls c h))
+      rw w.lines (ap (λ (m : ℕ). first_bad (more n) m ls) (sym w.next) ∙ sym (bad-later n at l ls (sym (ap is_some h) ∙ b)))
 
 -- ---- each call takes at least a line
 

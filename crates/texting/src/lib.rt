@@ -4,7 +4,7 @@
 ghost use Rattle.std.specs.Prelude.{◌≡◌, ◌++◌, map, ◌+◌, ◌≤◌, length, take, drop, replicate};
 ghost use Rattle.callfile.specs.Placed.{Puts, PutLine};
 ghost use Rattle.calltext.specs.Faults.{fault_word};
-ghost use Rattle.texting.specs.Lines.{lines_of, said_fault, complaint, shown_byte, shown_word, marked_line, wrong_with, line_number, message, long_message};
+ghost use Rattle.texting.specs.Lines.{lines_of, line_fault, said_fault, complaint, shown_byte, shown_word, marked_line, wrong_with, line_number, message, long_message};
 ghost use Rattle.texting.specs.Parts.{with_parsed, count_parsed, fill_from, begun, ended, sealing, Fills, first_bad};
 ghost use Rattle.texting.specs.Shown.{call_texts, block_text};
 
@@ -101,6 +101,16 @@ pub fn fill(text: &[u8], from: usize, block: &mut [u8], k: usize) -> Filled
 
 // ---- bad lines
 
+// What is wrong with a line, if anything is.
+fn fault_of_line(line: &[u8]) -> Option<Fault>
+    ensures { result ≡ line_fault line.now }
+{
+    match calltext::parse(line) {
+        Err(fault) => Some(fault),
+        Ok(_) => None,
+    }
+}
+
 // The first bad line from a place of the text on, where a line of the given number begins.
 pub fn first_bad(text: &[u8], from: usize, line: u64) -> Bad
     ensures { result ≡ first_bad line from (lines_of (drop from text.now)) }
@@ -110,11 +120,11 @@ pub fn first_bad(text: &[u8], from: usize, line: u64) -> Bad
     // A while: the place moves on by a line at each turn.
     while at < text.len() {
         let e = textwords::scan(text, at, Stop::LineEnd);
-        let p = calltext::parse(&text[at..e]);
+        let wrong = fault_of_line(&text[at..e]);
         let next = e + 1;
-        if let Err(fault) = p {
+        if wrong.is_some() {
             return Bad {
-                fault: Some(fault),
+                fault: wrong,
                 line: n,
                 from: at,
                 to: e,

@@ -48,7 +48,7 @@ pub fn add_discarded(
 {
     match ready(head, subs, rows, events) {
         Ok(d) => done(head, d.count_discarded(1)),
-        Err(refusal) => Outcome::refused(refusal),
+        Err(refusal) => Outcome::refused_for(refusal),
     }
 }
 
@@ -63,7 +63,7 @@ pub fn expired_before_storing(
 {
     match ready(head, subs, rows, events) {
         Ok(d) => done(head, d.count_expired(1)),
-        Err(refusal) => Outcome::refused(refusal),
+        Err(refusal) => Outcome::refused_for(refusal),
     }
 }
 
@@ -72,5 +72,5 @@ fn done(head: &mut [u64], d: Head) -> Outcome
     ensures value { result ≡ outcome 0 0 d.events }
     ensures head_after { head.new ≡ stored_head (counted d) head.old }
 {
-    engine::finish(head, Ok(Answered { answer: 0, head: d }))
+    engine::conclude(head, Ok(Answered { answer: 0, head: d }))
 }

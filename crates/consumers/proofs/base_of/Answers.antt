@@ -1,10 +1,29 @@
-use Rattle.std.proofs.Common.{rules, arith, refl, ◌∙◌, ◌+◌, min, take}
-use Rattle.std.proofs.lemmas.Iterator.{YieldsList-from_slice, YieldsList-from_take}
-use Rattle.std.proofs.lemmas.Iterator.Consumers.{fold_from_yields_List}
-use Rattle.definition.specs.Layout.{inflight_count, held_count, sub_rows}
-use Rattle.consumers.proofs.Table.{fold-capped}
+use Rattle.std.proofs.Common.{rules, arith, ◌≡◌, ap, ◌<◌, [], ℕ, min, length, get_or, take, List}
+use lib.ListN.{length-take}
+use lib.Seq.{get_or-take}
+use Rattle.definition.specs.Layout.{Row, inflight_count, held_count}
+use Rattle.consumers.proofs.Table.{rows_next, rows_none}
 use Rattle.consumers.proofs.base_of.Goals as goal
 
+-- the row at a place of the first e, and that the place is one of the first n
+row : (e i : ℕ) (ws : List Row) → i < length (take e ws) → get_or (take e ws) i [] ≡ get_or ws i []
+row e i ws h = get_or-take e ws i [] (omega (arith, length-take e ws))
+
+pub returns-then-base-gt-ROWS : goal.returns-then-base-gt-ROWS
+returns-then-base-gt-ROWS c = let l = c.loop-w in
+    let ws = c.args.subs.now in
+    let g = row c.end_of.result l.w-index ws c.loop-w-test.true in
+    let h : l.w-index < min c.args.n (length ws) = omega (arith, length-take c.end_of.result ws) in
+    omega (arith, l.invariant.1, rows_next l.w-index c.args.n ws h, ap inflight_count g, ap held_count g)
+
+pub loop-w-preserved : goal.loop-w-preserved
+loop-w-preserved c = let l = c.loop-w in
+    let ws = c.args.subs.now in
+    let g = row c.end_of.result l.w-index ws c.loop-w-test.true in
+    let h : l.w-index < min c.args.n (length ws) = omega (arith, length-take c.end_of.result ws) in
+    (search rules, omega (arith, l.invariant.1, rows_next l.w-index c.args.n ws h, ap inflight_count g, ap held_count g))
+
 pub returns : goal.returns
-unfolding sub_rows
-returns c = fold_from_yields_List _ (λ a w. min 513 (a + min 513 (inflight_count w + held_count w))) 0 c.fold.result c.fold.ensures.ran (YieldsList-from_take c.args.n (YieldsList-from_slice c.args.subs.now cc) cc) (λ a x b q k. search rules) ∙ fold-capped (λ w. inflight_count w + held_count w) sub_rows refl (λ w ws. omega arith) (take c.args.n c.args.subs.now)
+returns c = let l = c.loop-w in
+    let ws = c.args.subs.now in
+    omega (arith, l.invariant.0, l.invariant.1, rows_none l.w-index c.args.n ws (omega (arith, length-take c.end_of.result ws)))

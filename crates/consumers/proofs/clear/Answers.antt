@@ -8,7 +8,7 @@ loop-w-init c = on_none cleared_row _
 
 pub loop-w-preserved : goal.loop-w-preserved
 loop-w-preserved c = let l = c.loop-w in
-    let x = take c.min-end.result c.args.subs.now in
+    let x = take c.end_of-end.result c.args.subs.now in
     ap (set l.w-items l.w-index) c.emptied.ensures ∙ on-turn cleared_row l.w-index x l.w-items (omega arith) l.invariant
 
 pub returns : goal.returns

@@ -17,14 +17,14 @@ returns-then-not-whole c =
     let a = c.args in
     let b = (lent a.head.now a.subs.now a.rows.now) in
     let w : state_short (lengths_of b 0) ≡ true = not-false _ (sym c.whole.ensures ∙ not-true _ c.if-not-whole.true-raw) in
-    subst⁻¹ (λ (o : Outcome). Called (buffer_step b (length a.events.now) a.c.code a.c.words) b b a.events.now a.events.now o) c.refused.ensures
+    subst⁻¹ (λ (o : Outcome). Called (buffer_step b (length a.events.now) a.c.code a.c.words) b b a.events.now a.events.now o) c.refused_for.ensures
     (refused-called 0 b a.events.now _ (step-short b (length a.events.now) a.c.code a.c.words (short-state a.head.now a.subs.now a.rows.now (length a.events.now) w)))
 
 pub returns-then-events-lt-EVENTS : goal.returns-then-events-lt-EVENTS
 returns-then-events-lt-EVENTS c =
     let a = c.args in
     let b = (lent a.head.now a.subs.now a.rows.now) in
-    subst⁻¹ (λ (o : Outcome). Called (buffer_step b (length a.events.now) a.c.code a.c.words) b b a.events.now a.events.now o) c.refused-then-events-lt-EVENTS.ensures
+    subst⁻¹ (λ (o : Outcome). Called (buffer_step b (length a.events.now) a.c.code a.c.words) b b a.events.now a.events.now o) c.refused_for-then-events-lt-EVENTS.ensures
     (refused-called 0 b a.events.now _ (step-short b (length a.events.now) a.c.code a.c.words (short-events a.head.now a.subs.now a.rows.now (length a.events.now) c.if-events-lt-EVENTS.true)))
 
 pub returns-then-c-eq-OPEN : goal.returns-then-c-eq-OPEN
@@ -43,7 +43,7 @@ returns-then-not-sound c =
     let w : state_short (lengths_of b 0) ≡ false = not-true _ (sym c.whole.ensures ∙ not-false _ c.if-not-whole.false-raw) in
     let r : short (lengths_of b (length a.events.now)) ≡ false = not_short a.head.now a.subs.now a.rows.now (length a.events.now) w (omega (arith, c.if-events-lt-EVENTS.false)) in
     let u : sound_buffers b ≡ false = both-no (state_short (lengths_of b 0)) (sound_buffers b) w (sym c.sound.ensures ∙ not-true _ c.if-not-sound.true-raw) in
-    subst⁻¹ (λ (o : Outcome). Called (buffer_step b (length a.events.now) a.c.code a.c.words) b b a.events.now a.events.now o) c.refused-then-not-sound.ensures
+    subst⁻¹ (λ (o : Outcome). Called (buffer_step b (length a.events.now) a.c.code a.c.words) b b a.events.now a.events.now o) c.refused_for-then-not-sound.ensures
     (refused-called 1 b a.events.now _ (step-unsound b (length a.events.now) a.c.code a.c.words r (ne_eqb a.c.code 0 c.if-c-eq-OPEN.false) u))
 
 pub step-requires : goal.step-requires

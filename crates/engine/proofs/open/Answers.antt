@@ -12,7 +12,7 @@ use Rattle.engine.proofs.open.Goals as goal
 pub returns-then-not-opens : goal.returns-then-not-opens
 returns-then-not-opens c =
     let a = c.args in
-    let w : open_words a.c.words ≡ false = sym c.opens.ensures ∙ not-true _ c.if-not-opens.true-raw in record { value = c.refused.ensures ∙ sym (if-false (outcome 0 0 0) (outcome 3 0 0) w); head_after = sym (if-false (stored_head (opened_head a.c.words) a.head.now) a.head.now w) }
+    let w : open_words a.c.words ≡ false = sym c.opens.ensures ∙ not-true _ c.if-not-opens.true-raw in record { value = c.refused_for.ensures ∙ sym (if-false (outcome 0 0 0) (outcome 3 0 0) w); head_after = sym (if-false (stored_head (opened_head a.c.words) a.head.now) a.head.now w) }
 
 pub returns : goal.returns
 returns c =

@@ -19,7 +19,7 @@ returns-then-not-in_range c =
     let a = c.args in
     let p = c.requires in
     let b = lent a.head.now a.subs.now a.rows.now in
-    subst⁻¹ (λ (o : Outcome). Called (buffer_step b (length a.events.now) a.c.code a.c.words) b b a.events.now a.events.now o) c.refused.ensures
+    subst⁻¹ (λ (o : Outcome). Called (buffer_step b (length a.events.now) a.c.code a.c.words) b b a.events.now a.events.now o) c.refused_for.ensures
     (undecoded-called a.head.now a.subs.now a.rows.now a.events.now a.c.code a.c.words p.0 (ne_eqb a.c.code 0 c.if-c-eq-OPEN.false) p.1 (sym c.in_range.ensures ∙ not-true _ c.if-not-in_range.true-raw))
 
 pub run-requires : goal.run-requires

@@ -14,7 +14,7 @@ use mathlib.Core.List.{[]}
 use Rattle.stationcalls.proofs.add_discarded.Goals as goal
 
 pub returns-in-Err : goal.returns-in-Err
-returns-in-Err c = as-refused (lent_all c.args.heads.now c.args.subs.now c.args.rows.now c.args.own.now) c.args.events.now c.args.number 1 [] (buffer_station_uncoded (lent_all c.args.heads.now c.args.subs.now c.args.rows.now c.args.own.now) (length c.args.events.now) c.args.number discarding) (refusal_number c.in-Err.refusal) c.refused.result c.refused.ensures (barred-left c.args.heads.now c.args.subs.now c.args.rows.now c.args.own.now c.args.events.now c.args.number discarding (refusal_number c.in-Err.refusal) (sym (ap refusal_of c.in-Err.is) ∙ c.barred.ensures) (λ z. omega (arith, z, numbered c.in-Err.refusal)))
+returns-in-Err c = as-refused (lent_all c.args.heads.now c.args.subs.now c.args.rows.now c.args.own.now) c.args.events.now c.args.number 1 [] (buffer_station_uncoded (lent_all c.args.heads.now c.args.subs.now c.args.rows.now c.args.own.now) (length c.args.events.now) c.args.number discarding) (refusal_number c.in-Err.refusal) c.refused_for.result c.refused_for.ensures (barred-left c.args.heads.now c.args.subs.now c.args.rows.now c.args.own.now c.args.events.now c.args.number discarding (refusal_number c.in-Err.refusal) (sym (ap refusal_of c.in-Err.is) ∙ c.barred.ensures) (λ z. omega (arith, z, numbered c.in-Err.refusal)))
 
 pub add_discarded-requires : goal.add_discarded-requires
 add_discarded-requires c = (asked-within c.args.heads.now c.args.subs.now c.args.rows.now c.args.own.now c.args.number 1 (length c.args.events.now) (barred-asks c.args.heads.now c.args.subs.now c.args.rows.now c.args.own.now c.args.events.now c.args.number discarding 0 (sym (ap refusal_of c.in-Ok.is) ∙ c.barred.ensures) refl)).0

@@ -15,7 +15,7 @@ pub returns-then-not-whole : goal.returns-then-not-whole
 returns-then-not-whole c =
     let a = c.args in
     let b = lent_all a.heads.now a.subs.now a.rows.now a.own.now in
-    as-refused b a.events.now a.number a.c.code a.c.words (buffer_station_step b (length a.events.now) a.number a.c.code a.c.words) 1 c.refused.result c.refused.ensures (left-short b a.events.now a.number a.c.code a.c.words (not-false _ (sym c.whole.ensures ∙ not-true _ c.if-not-whole.true-raw)))
+    as-refused b a.events.now a.number a.c.code a.c.words (buffer_station_step b (length a.events.now) a.number a.c.code a.c.words) 1 c.refused_for.result c.refused_for.ensures (left-short b a.events.now a.number a.c.code a.c.words (not-false _ (sym c.whole.ensures ∙ not-true _ c.if-not-whole.true-raw)))
 
 pub stopped-requires : goal.stopped-requires
 stopped-requires c =
@@ -29,7 +29,7 @@ returns-then-stopped c =
     let a = c.args in
     let b = lent_all a.heads.now a.subs.now a.rows.now a.own.now in
     let s = stops b a.number a.c.code (sym c.stopped.ensures ∙ c.if-stopped.true) in
-    as-refused b a.events.now a.number a.c.code a.c.words (buffer_station_step b (length a.events.now) a.number a.c.code a.c.words) 2 c.refused-then-stopped.result c.refused-then-stopped.ensures (left-unsound b a.events.now a.number a.c.code a.c.words (not-true _ (sym c.whole.ensures ∙ not-false _ c.if-not-whole.false-raw)) s.is-place s.coded s.opened s.unsound)
+    as-refused b a.events.now a.number a.c.code a.c.words (buffer_station_step b (length a.events.now) a.number a.c.code a.c.words) 2 c.refused_for-then-stopped.result c.refused_for-then-stopped.ensures (left-unsound b a.events.now a.number a.c.code a.c.words (not-true _ (sym c.whole.ensures ∙ not-false _ c.if-not-whole.false-raw)) s.is-place s.coded s.opened s.unsound)
 
 pub go-requires : goal.go-requires
 go-requires c =

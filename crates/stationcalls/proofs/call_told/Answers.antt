@@ -13,7 +13,7 @@ use Rattle.stationcalls.proofs.call_told.Goals as goal
 
 pub returns-then-not-whole : goal.returns-then-not-whole
 returns-then-not-whole c =
-    let both = refused-quiet (buffer_station_step (lent_all c.args.heads.now c.args.subs.now c.args.rows.now c.args.own.now) (length c.args.events.now) c.args.number c.args.c.code c.args.c.words) c.args.number c.args.c.code c.args.c.words (lent_all c.args.heads.now c.args.subs.now c.args.rows.now c.args.own.now) (lent_all c.args.heads.now c.args.subs.now c.args.rows.now c.args.own.now) c.args.events.now c.args.events.now (told_rows c.args.number c.args.c.code c.args.c.words (station_view (lent_all c.args.heads.now c.args.subs.now c.args.rows.now c.args.own.now))) c.args.told.now 1 c.refused.result c.quiet.result c.quiet.ensures c.refused.ensures (omega arith) (as-refused (lent_all c.args.heads.now c.args.subs.now c.args.rows.now c.args.own.now) c.args.events.now c.args.number c.args.c.code c.args.c.words (buffer_station_step (lent_all c.args.heads.now c.args.subs.now c.args.rows.now c.args.own.now) (length c.args.events.now) c.args.number c.args.c.code c.args.c.words) 1 c.refused.result c.refused.ensures (left-short (lent_all c.args.heads.now c.args.subs.now c.args.rows.now c.args.own.now) c.args.events.now c.args.number c.args.c.code c.args.c.words (not-false _ (sym c.whole.ensures ∙ not-true _ c.if-not-whole.true-raw)))) in record { station_called = both.0; station_tells = both.1 }
+    let both = refused-quiet (buffer_station_step (lent_all c.args.heads.now c.args.subs.now c.args.rows.now c.args.own.now) (length c.args.events.now) c.args.number c.args.c.code c.args.c.words) c.args.number c.args.c.code c.args.c.words (lent_all c.args.heads.now c.args.subs.now c.args.rows.now c.args.own.now) (lent_all c.args.heads.now c.args.subs.now c.args.rows.now c.args.own.now) c.args.events.now c.args.events.now (told_rows c.args.number c.args.c.code c.args.c.words (station_view (lent_all c.args.heads.now c.args.subs.now c.args.rows.now c.args.own.now))) c.args.told.now 1 c.refused_for.result c.quiet.result c.quiet.ensures c.refused_for.ensures (omega arith) (as-refused (lent_all c.args.heads.now c.args.subs.now c.args.rows.now c.args.own.now) c.args.events.now c.args.number c.args.c.code c.args.c.words (buffer_station_step (lent_all c.args.heads.now c.args.subs.now c.args.rows.now c.args.own.now) (length c.args.events.now) c.args.number c.args.c.code c.args.c.words) 1 c.refused_for.result c.refused_for.ensures (left-short (lent_all c.args.heads.now c.args.subs.now c.args.rows.now c.args.own.now) c.args.events.now c.args.number c.args.c.code c.args.c.words (not-false _ (sym c.whole.ensures ∙ not-true _ c.if-not-whole.true-raw)))) in record { station_called = both.0; station_tells = both.1 }
 
 pub stopped-requires : goal.stopped-requires
 stopped-requires c =
@@ -24,14 +24,14 @@ stopped-requires c =
 pub returns-then-stopped : goal.returns-then-stopped
 returns-then-stopped c =
     let s = stops (lent_all c.args.heads.now c.args.subs.now c.args.rows.now c.args.own.now) c.args.number c.args.c.code (sym c.stopped.ensures ∙ c.if-stopped.true) in
-    let both = refused-quiet (buffer_station_step (lent_all c.args.heads.now c.args.subs.now c.args.rows.now c.args.own.now) (length c.args.events.now) c.args.number c.args.c.code c.args.c.words) c.args.number c.args.c.code c.args.c.words (lent_all c.args.heads.now c.args.subs.now c.args.rows.now c.args.own.now) (lent_all c.args.heads.now c.args.subs.now c.args.rows.now c.args.own.now) c.args.events.now c.args.events.now (told_rows c.args.number c.args.c.code c.args.c.words (station_view (lent_all c.args.heads.now c.args.subs.now c.args.rows.now c.args.own.now))) c.args.told.now 2 c.refused-then-stopped.result c.quiet-then-stopped.result c.quiet-then-stopped.ensures c.refused-then-stopped.ensures (omega arith) (as-refused (lent_all c.args.heads.now c.args.subs.now c.args.rows.now c.args.own.now) c.args.events.now c.args.number c.args.c.code c.args.c.words (buffer_station_step (lent_all c.args.heads.now c.args.subs.now c.args.rows.now c.args.own.now) (length c.args.events.now) c.args.number c.args.c.code c.args.c.words) 2 c.refused-then-stopped.result c.refused-then-stopped.ensures (left-unsound (lent_all c.args.heads.now c.args.subs.now c.args.rows.now c.args.own.now) c.args.events.now c.args.number c.args.c.code c.args.c.words (not-true _ (sym c.whole.ensures ∙ not-false _ c.if-not-whole.false-raw)) s.is-place s.coded s.opened s.unsound)) in record { station_called = both.0; station_tells = both.1 }
+    let both = refused-quiet (buffer_station_step (lent_all c.args.heads.now c.args.subs.now c.args.rows.now c.args.own.now) (length c.args.events.now) c.args.number c.args.c.code c.args.c.words) c.args.number c.args.c.code c.args.c.words (lent_all c.args.heads.now c.args.subs.now c.args.rows.now c.args.own.now) (lent_all c.args.heads.now c.args.subs.now c.args.rows.now c.args.own.now) c.args.events.now c.args.events.now (told_rows c.args.number c.args.c.code c.args.c.words (station_view (lent_all c.args.heads.now c.args.subs.now c.args.rows.now c.args.own.now))) c.args.told.now 2 c.refused_for-then-stopped.result c.quiet-then-stopped.result c.quiet-then-stopped.ensures c.refused_for-then-stopped.ensures (omega arith) (as-refused (lent_all c.args.heads.now c.args.subs.now c.args.rows.now c.args.own.now) c.args.events.now c.args.number c.args.c.code c.args.c.words (buffer_station_step (lent_all c.args.heads.now c.args.subs.now c.args.rows.now c.args.own.now) (length c.args.events.now) c.args.number c.args.c.code c.args.c.words) 2 c.refused_for-then-stopped.result c.refused_for-then-stopped.ensures (left-unsound (lent_all c.args.heads.now c.args.subs.now c.args.rows.now c.args.own.now) c.args.events.now c.args.number c.args.c.code c.args.c.words (not-true _ (sym c.whole.ensures ∙ not-false _ c.if-not-whole.false-raw)) s.is-place s.coded s.opened s.unsound)) in record { station_called = both.0; station_tells = both.1 }
 
 pub absent-requires : goal.absent-requires
 absent-requires c = own-long (lent_all c.args.heads.now c.args.subs.now c.args.rows.now c.args.own.now) (length c.args.events.now) (not-true _ (sym c.whole.ensures ∙ not-false _ c.if-not-whole.false-raw))
 
 pub returns-then-absent : goal.returns-then-absent
 returns-then-absent c =
-    let both = refused-quiet (buffer_station_step (lent_all c.args.heads.now c.args.subs.now c.args.rows.now c.args.own.now) (length c.args.events.now) c.args.number c.args.c.code c.args.c.words) c.args.number c.args.c.code c.args.c.words (lent_all c.args.heads.now c.args.subs.now c.args.rows.now c.args.own.now) (lent_all c.args.heads.now c.args.subs.now c.args.rows.now c.args.own.now) c.args.events.now c.args.events.now (told_rows c.args.number c.args.c.code c.args.c.words (station_view (lent_all c.args.heads.now c.args.subs.now c.args.rows.now c.args.own.now))) c.args.told.now 10 c.refused-then-absent.result c.quiet-then-absent.result c.quiet-then-absent.ensures c.refused-then-absent.ensures (omega arith) (as-refused (lent_all c.args.heads.now c.args.subs.now c.args.rows.now c.args.own.now) c.args.events.now c.args.number c.args.c.code c.args.c.words (buffer_station_step (lent_all c.args.heads.now c.args.subs.now c.args.rows.now c.args.own.now) (length c.args.events.now) c.args.number c.args.c.code c.args.c.words) 10 c.refused-then-absent.result c.refused-then-absent.ensures (left-away (lent_all c.args.heads.now c.args.subs.now c.args.rows.now c.args.own.now) c.args.events.now c.args.number c.args.c.code c.args.c.words (not-true _ (sym c.whole.ensures ∙ not-false _ c.if-not-whole.false-raw)) (rejecting-coded c.args.c.code c.args.c.words (sym c.rejects.ensures ∙ c.if-rejects.true)) (sym c.absent.ensures ∙ c.if-absent.true))) in record { station_called = both.0; station_tells = both.1 }
+    let both = refused-quiet (buffer_station_step (lent_all c.args.heads.now c.args.subs.now c.args.rows.now c.args.own.now) (length c.args.events.now) c.args.number c.args.c.code c.args.c.words) c.args.number c.args.c.code c.args.c.words (lent_all c.args.heads.now c.args.subs.now c.args.rows.now c.args.own.now) (lent_all c.args.heads.now c.args.subs.now c.args.rows.now c.args.own.now) c.args.events.now c.args.events.now (told_rows c.args.number c.args.c.code c.args.c.words (station_view (lent_all c.args.heads.now c.args.subs.now c.args.rows.now c.args.own.now))) c.args.told.now 10 c.refused_for-then-absent.result c.quiet-then-absent.result c.quiet-then-absent.ensures c.refused_for-then-absent.ensures (omega arith) (as-refused (lent_all c.args.heads.now c.args.subs.now c.args.rows.now c.args.own.now) c.args.events.now c.args.number c.args.c.code c.args.c.words (buffer_station_step (lent_all c.args.heads.now c.args.subs.now c.args.rows.now c.args.own.now) (length c.args.events.now) c.args.number c.args.c.code c.args.c.words) 10 c.refused_for-then-absent.result c.refused_for-then-absent.ensures (left-away (lent_all c.args.heads.now c.args.subs.now c.args.rows.now c.args.own.now) c.args.events.now c.args.number c.args.c.code c.args.c.words (not-true _ (sym c.whole.ensures ∙ not-false _ c.if-not-whole.false-raw)) (rejecting-coded c.args.c.code c.args.c.words (sym c.rejects.ensures ∙ c.if-rejects.true)) (sym c.absent.ensures ∙ c.if-absent.true))) in record { station_called = both.0; station_tells = both.1 }
 
 pub reject-requires : goal.reject-requires
 reject-requires c =

@@ -14,7 +14,7 @@ pub returns-then-number-gt7 : goal.returns-then-number-gt7
 returns-then-number-gt7 c =
     let a = c.args in
     let b = lent_all a.heads.now a.subs.now a.rows.now a.own.now in
-    as-refused b a.events.now a.number a.c.code a.c.words (buffer_station_step b (length a.events.now) a.number a.c.code a.c.words) 10 c.refused.result c.refused.ensures (left-above b a.events.now a.number a.c.code a.c.words c.requires.long c.if-number-gt7.true)
+    as-refused b a.events.now a.number a.c.code a.c.words (buffer_station_step b (length a.events.now) a.number a.c.code a.c.words) 10 c.refused_for.result c.refused_for.ensures (left-above b a.events.now a.number a.c.code a.c.words c.requires.long c.if-number-gt7.true)
 
 pub is_open-requires : goal.is_open-requires
 is_open-requires c =
@@ -26,7 +26,7 @@ pub returns-then-not-is_open : goal.returns-then-not-is_open
 returns-then-not-is_open c =
     let a = c.args in
     let b = lent_all a.heads.now a.subs.now a.rows.now a.own.now in
-    as-refused b a.events.now a.number a.c.code a.c.words (buffer_station_step b (length a.events.now) a.number a.c.code a.c.words) 10 c.refused-then-not-is_open.result c.refused-then-not-is_open.ensures
+    as-refused b a.events.now a.number a.c.code a.c.words (buffer_station_step b (length a.events.now) a.number a.c.code a.c.words) 10 c.refused_for-then-not-is_open.result c.refused_for-then-not-is_open.ensures
     (left-closed b a.events.now a.number a.c.code a.c.words c.requires.long (omega (arith, c.if-number-gt7.false)) (ne_eqb a.c.code 0 c.if-c-eq-OPEN.false) (sym c.is_open.ensures ∙ not-true _ c.if-not-is_open.true-raw))
 
 pub step-requires : goal.step-requires

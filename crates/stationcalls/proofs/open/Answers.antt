@@ -7,7 +7,7 @@ use native.Mathlib.Omega.{arith}
 use Rattle.stationcalls.proofs.open.Goals as goal
 
 pub returns-then-name-gt-PLACES : goal.returns-then-name-gt-PLACES
-returns-then-name-gt-PLACES c = as-refused (lent_all c.args.heads.now c.args.subs.now c.args.rows.now c.args.own.now) c.args.events.now c.args.k c.args.c.code c.args.c.words (buffer_station_step (lent_all c.args.heads.now c.args.subs.now c.args.rows.now c.args.own.now) (length c.args.events.now) c.args.k c.args.c.code c.args.c.words) 3 c.refused.result c.refused.ensures (open-named c.args.heads.now c.args.subs.now c.args.rows.now c.args.own.now c.args.events.now c.args.k c.args.c.code c.args.c.words c.requires.0 c.requires.1 c.requires.2 c.if-name-gt-PLACES.true)
+returns-then-name-gt-PLACES c = as-refused (lent_all c.args.heads.now c.args.subs.now c.args.rows.now c.args.own.now) c.args.events.now c.args.k c.args.c.code c.args.c.words (buffer_station_step (lent_all c.args.heads.now c.args.subs.now c.args.rows.now c.args.own.now) (length c.args.events.now) c.args.k c.args.c.code c.args.c.words) 3 c.refused_for.result c.refused_for.ensures (open-named c.args.heads.now c.args.subs.now c.args.rows.now c.args.own.now c.args.events.now c.args.k c.args.c.code c.args.c.words c.requires.0 c.requires.1 c.requires.2 c.if-name-gt-PLACES.true)
 
 pub named_call-r-requires : goal.named_call-r-requires
 named_call-r-requires c = open-within c.args.heads.now c.args.subs.now c.args.rows.now c.args.own.now c.args.events.now c.args.k c.args.c.code c.args.c.words c.requires.0 c.requires.1 c.requires.2

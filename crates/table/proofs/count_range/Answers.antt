@@ -1,7 +1,5 @@
-use Rattle.std.proofs.Common.{rules, tests, sym, ap, ◌∙◌, length}
-use Rattle.std.proofs.lemmas.Iterator.{YieldsList-from_slice}
-use Rattle.std.proofs.lemmas.Iterator.Consumers.{YieldsList-from_filter, count_from_yields_List, YieldsList-at}
-use Rattle.definition.proofs.Chains.{slice-range, length-filter-tally}
+use Rattle.std.proofs.Common.{sym, ap, ◌∙◌, length}
+use Rattle.definition.proofs.Chains.{slice-range}
 use Rattle.table.specs.Table.{count_rows, dseq_between}
 use Rattle.definition.specs.Base.{tally}
 use Rattle.table.proofs.Chains.{no-part}
@@ -16,6 +14,6 @@ returns-in_default c = let a = c.args in
 pub returns : goal.returns
 unfolding count_rows
 returns c = let a = c.args in
-    count_from_yields_List c.filter.result _ c.count.ensures.ran (YieldsList-from_filter _ (dseq_between a.span.first a.span.last) (YieldsList-at c.filter.ensures.source (YieldsList-from_slice c.in-Some.part.now cc)) c.filter.ensures.closure (λ x b q k. search (rules, tests))) ∙ length-filter-tally (dseq_between a.span.first a.span.last) c.in-Some.part.now
+    c.count_in.ensures
     ∙ ap (tally (dseq_between a.span.first a.span.last)) (c.in-Some.ensures.lookup.0.2 ∙ sym (slice-range a.from a.to a.rows.now c.in-Some.ensures.lookup.0.0))
     ∙ sym (both_hold a.from a.to a.to (length a.rows.now) _ _ c.in-Some.ensures.lookup.0.0 c.in-Some.ensures.lookup.0.1)

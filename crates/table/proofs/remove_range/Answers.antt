@@ -1,9 +1,6 @@
 use Rattle.std.proofs.Common.{rules, tests, ◌≡◌, ◌≤◌, sym, ap, ap₂, ◌∙◌, length, false, ◌&&◌, ℕ}
-use Rattle.std.proofs.lemmas.Iterator.{YieldsList-from_slice}
-use Rattle.std.proofs.lemmas.Iterator.Consumers.{YieldsList-from_filter, count_from_yields_List, YieldsList-at}
-use Rattle.definition.proofs.Chains.{slice-range, length-filter-tally}
+use Rattle.definition.proofs.Chains.{slice-range}
 use Rattle.definition.proofs.Tests.{if-false}
-use Rattle.std.specs.List.{slice_range}
 use Rattle.definition.specs.Base.{tally}
 use Rattle.definition.specs.Layout.{Row}
 use Rattle.table.specs.declared.Removed.{Removed}
@@ -32,11 +29,9 @@ returns-clause-value c = let a = c.args in
     let k : a.to ≤ a.n = search rules in
     let b : a.n ≤ length a.rows.now = search rules in
     let p = λ (r : Row). dseq_between a.span.first a.span.last r && is_freed r in
-    let xs = slice_range a.rows.now a.from a.to in
     ap₂ removed
     (c.remove_where-gone.ensures.taken (dseq_between a.span.first a.span.last) (λ r b q. search (rules, tests))).0
-    (count_from_yields_List c.filter.result _ c.count-freed.ensures.ran (YieldsList-from_filter _ p (YieldsList-at c.filter.ensures.source (YieldsList-from_slice xs cc)) c.filter.ensures.closure (λ x b q k. search (rules, tests)))
-    ∙ length-filter-tally p xs
+    (c.count_freed-freed.ensures
     ∙ ap (tally p) (sym (slice-range a.from a.to a.rows.now h))
     ∙ sym (gone-in p a.from a.to a.n a.rows.now h k b))
 

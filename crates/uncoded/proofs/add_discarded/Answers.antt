@@ -23,4 +23,4 @@ returns-in-Err c =
     let a = c.args in
     let k = c.ready.ensures in
     let w = c.in-Err in
-    discarded-refused a.head.now a.subs.now a.rows.now a.events.now _ (sym (ap refusal_of w.is) ∙ k.refusal_value) (λ z. omega (arith, z, numbered w.refusal)) c.refused.result c.refused.ensures
+    discarded-refused a.head.now a.subs.now a.rows.now a.events.now _ (sym (ap refusal_of w.is) ∙ k.refusal_value) (λ z. omega (arith, z, numbered w.refusal)) c.refused_for.result c.refused_for.ensures

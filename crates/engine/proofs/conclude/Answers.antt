@@ -5,7 +5,7 @@ use Rattle.state.specs.declared.Answered.{Answered}
 use Rattle.state.specs.declared.Head.{Head}
 use Rattle.state.specs.State.{stored_head}
 use Rattle.engine.specs.Opened.{finished, stored_after}
-use Rattle.engine.proofs.finish.Goals as goal
+use Rattle.engine.proofs.conclude.Goals as goal
 
 pub returns-in-Ok : goal.returns-in-Ok
 returns-in-Ok c =
